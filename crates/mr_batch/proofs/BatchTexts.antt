@@ -18,7 +18,7 @@ use Rattle.mr_record.specs.declared.text_fault.TextErr.TheVariants as errors
 use Rattle.mr_record.specs.declared.version.Version.{Version}
 use Rattle.mr_record.specs.declared.version.Version.TheVariants.{One, Two}
 use Rattle.mr_record.specs.Decimal.{u64_of}
-use Rattle.mr_record.specs.Lines.{Line, lines_of, fields_of, Lacks}
+use Rattle.mr_record.specs.Lines.{Line, lines_of, fields_of, LacksByte}
 use Rattle.mr_record.specs.LineTexts.{text_by, on_line, values_after, IsFirstFaultBy}
 use Rattle.mr_record.specs.RecordText.{Unlayered, line_of, record_of_fields, layered}
 use Rattle.mr_record.specs.Results.{◌>>=◌}
@@ -31,7 +31,7 @@ use Rattle.mr_batch.specs.declared.change.Change.{Change}
 use Rattle.mr_batch.specs.declared.change.Change.TheVariants.{Add, Remove}
 use Rattle.mr_batch.specs.Changes.{Changes}
 use Rattle.mr_batch.specs.BatchText.{change_line, head_line, changes_text, batch_text, change_limit, IsChange, AreChanges, IsBatch, change_lines, head_of_fields, head_of_line, addition_of_fields, removal_of_fields, change_of_fields, change_of_line, number_of_line, batch_behind, batch_of_lines, batch_of_text}
-use Rattle.mr_batch.specs.Answer.{Answers, IsChangeFault, IsFirstFault, IsRefusal}
+use Rattle.mr_batch.specs.Answer.{AnswersBatch, IsChangeFault, IsFirstFault, IsRefusal}
 
 joined_addition : (u : Version) (r : Record) →
     join_with_byte 32 ((43 ∷ []) ∷ spelled u r) ≡ change_line u (Add r)
@@ -109,7 +109,7 @@ module _ (v : Version) where
       let w = change_fields_written (fields_of line) c e in
       (w.0, sym (join_with_byte-slice_split 32 line) ∙ ap (join_with_byte 32) w.1 ∙ joined_change c)
 
-  lacks_one : (b : ℕ) → eqb b 32 ≡ false → Lacks 32 (b ∷ [])
+  lacks_one : (b : ℕ) → eqb b 32 ≡ false → LacksByte 32 (b ∷ [])
   lacks_one b e = All-cons (λ x. eqb x 32 ≡ false) b [] e (All-nil (λ x. eqb x 32 ≡ false))
 
   signed_fields : (sign : ℕ) (rest : List ℕ) → eqb sign 32 ≡ false →
@@ -189,7 +189,7 @@ module _ (v : Version) where
   dark_sign : (sign : ℕ) (rest : List ℕ) → 32 ≤ sign → IsDark rest → IsDark (sign ∷ 32 ∷ rest)
   dark_sign sign rest low dark = All-cons (λ b. 32 ≤ b) sign (32 ∷ rest) low (dark_space rest dark)
 
-  change_lacks : (c : Change) → (IsChange v) c → Lacks 10 ((change_line v) c)
+  change_lacks : (c : Change) → (IsChange v) c → LacksByte 10 ((change_line v) c)
   unfolding change_line
   change_lacks (Add r) is = lacks_feed (43 ∷ 32 ∷ (line_of v) r)
       (dark_sign 43 ((line_of v) r) (lit≤ tt) (line_dark v r is.0))
@@ -201,7 +201,7 @@ module _ (v : Version) where
       All-weaker (λ b. leb 32 b ≡ true) (λ b. 32 ≤ b) (λ b e. leb-true 32 b e) (codes "batch ")
       (AllPass-from_list_all (leb 32) (codes "batch ") refl)
 
-  head_lacks : (n : ℕ) → n < 2 ^ 64 → Lacks 10 (head_line n)
+  head_lacks : (n : ℕ) → n < 2 ^ 64 → LacksByte 10 (head_line n)
   unfolding head_line
   head_lacks n low =
       lacks_feed (codes "batch " ++ decimal n)
@@ -281,7 +281,8 @@ module _ (v : Version) where
       let w = batch_of_lines-ok (lines_of text) b e in
       (w.0, sym (lines_text text) ∙ ap (flat_map line_text) w.1 ∙ batch_lines b)
 
-  pub answer_written : (text : List ℕ) (answer : Result Changes TextErr) → Answers answer ((batch_of_text v) text) →
+  pub answer_written : (text : List ℕ) (answer : Result Changes TextErr) → AnswersBatch answer
+      ((batch_of_text v) text) →
       IfOk answer (λ b. (IsBatch v) b × (text ≡ (batch_text v) b))
   answer_written text (Ok b) e = batch_written text b e
   answer_written text (Err rule) e = tt
@@ -400,7 +401,8 @@ module _ (v : Version) where
         | inr is ↦ inr (change_fault text fault is)
       ]
 
-  pub answer_refused : (text : List ℕ) (answer : Result Changes TextErr) → Answers answer ((batch_of_text v) text) →
+  pub answer_refused : (text : List ℕ) (answer : Result Changes TextErr) → AnswersBatch answer
+      ((batch_of_text v) text) →
       IfErr answer (λ e. (IsRefusal v) text e)
   answer_refused text (Ok b) e = tt
   answer_refused text (Err (errors.Text fault)) e = first_fault text fault e

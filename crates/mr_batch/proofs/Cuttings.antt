@@ -6,20 +6,20 @@ use Rattle.mr_record.specs.declared.text_fault.TextFault.{TextFault}
 use Rattle.mr_record.specs.declared.text_fault.TextErr.{TextErr}
 use Rattle.mr_record.specs.declared.text_fault.TextErr.TheVariants as errors
 use Rattle.mr_record.specs.Decimal.{u64_of}
-use Rattle.mr_record.specs.Lines.{Line, lines_of, fields_of, Lacks, IsCutAt}
+use Rattle.mr_record.specs.Lines.{Line, lines_of, fields_of, LacksByte, IsCutAt}
 use Rattle.mr_record.specs.declared.version.Version.{Version}
 use Rattle.mr_record.proofs.Fields.{fields_one, fields_cut, fields_filled}
 use Rattle.mr_batch.specs.declared.change.Change.{Change}
 use Rattle.mr_batch.specs.Changes.{Changes}
 use Rattle.mr_batch.specs.BatchText.{head_of_fields, head_of_line, removal_of_fields, change_of_fields, change_of_line, change_lines, batch_behind, batch_of_lines, batch_of_text}
-use Rattle.mr_record.specs.Answer.{Refuses}
+use Rattle.mr_record.specs.Answer.{RefusesText}
 use Rattle.mr_record.specs.LineTexts.{values_after}
 
 one_field : (line : List ℕ) → head_of_fields (line ∷ []) ≡ None
 unfolding head_of_fields
 one_field line = refl
 
-pub head_one : (line : List ℕ) → Lacks 32 line → head_of_line line ≡ None
+pub head_one : (line : List ℕ) → LacksByte 32 line → head_of_line line ≡ None
 head_one line lacks = ap head_of_fields (fields_one line lacks) ∙ one_field line
 
 pub head_other : (word : List ℕ) (fields : List (List ℕ)) → bytes_eq word (codes "batch") ≡ false →
@@ -57,7 +57,7 @@ one_part : (v : Version) (line : List ℕ) → change_of_fields v (line ∷ []) 
 unfolding change_of_fields removal_of_fields
 one_part v line = same_either_way (bytes_eq line (codes "+")) (bytes_eq line (codes "-")) (Err Form)
 
-pub change_one : (v : Version) (line : List ℕ) → Lacks 32 line → change_of_line v line ≡ Err Form
+pub change_one : (v : Version) (line : List ℕ) → LacksByte 32 line → change_of_line v line ≡ Err Form
 change_one v line lacks = ap (change_of_fields v) (fields_one line lacks) ∙ one_part v line
 
 pub no_head : (v : Version) (text : List ℕ) → length text ≡ 0 →
@@ -74,7 +74,7 @@ two_or_more text front back cut =
     rw (fields_cut text front back cut) (omega arith)
 
 pub behind_refused : (v : Version) (n : ℕ) (lines : List Line) (e : TextErr) (meant : Result Changes TextFault) →
-    meant ≡ batch_behind v n lines → Refuses e (values_after (change_lines v) [] lines) → Refuses e meant
+    meant ≡ batch_behind v n lines → RefusesText e (values_after (change_lines v) [] lines) → RefusesText e meant
 unfolding batch_behind
 behind_refused v n lines (errors.Text fault) meant is broken = is ∙ rw broken refl
 behind_refused v n lines errors.NoMemory meant is broken = tt

@@ -6,7 +6,7 @@ use Rattle.std.proofs.lemmas.List.Folds.{list_any_none}
 use Rattle.mr_geom.specs.Rectangle.{Rectangle}
 use Rattle.mr_record.specs.declared.record.Record.{Record}
 use Rattle.mr_record.specs.RecordText.{has_number}
-use Rattle.mr_batch.specs.Directory.{Entries, rect_at, rect_in, IsDirectoryOf}
+use Rattle.mr_batch.specs.Directory.{DirectoryEntries, rect_at, rect_in, IsDirectoryOf}
 
 pub rect_in-push : (rs : List Record) (r : Record) (n : ℕ) → has_number r.number rs ≡ false →
     rect_in (rs ++ r ∷ []) n ≡ cond (eqb r.number n) (Some r.rect) (rect_in rs n)
@@ -38,7 +38,7 @@ number_is_new rs i r apart low e =
     (ap (λ (s : Record). s.number) (get_or_default rs k r d (omega arith) ∙ sym (get_or-take i rs k d below)) ∙ same
     ∙ ap (λ (s : Record). s.number) e)))
 
-pub IsDirectoryOf-put : (old new : Entries) (rs : List Record) (i : ℕ) (r : Record) →
+pub IsDirectoryOf-put : (old new : DirectoryEntries) (rs : List Record) (i : ℕ) (r : Record) →
     AllPairs (λ a b. a.number ≢ b.number) rs → i < length rs → r ≡ get_or rs i r → IsDirectoryOf old (take i rs) →
     ((n : ℕ) → rect_at new n ≡ cond (eqb r.number n) (Some r.rect) (rect_at old n)) →
     length new ≡ length old + cond (is_some (rect_at old r.number)) 0 1 → IsDirectoryOf new (take (i + 1) rs)

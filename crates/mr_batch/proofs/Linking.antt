@@ -8,7 +8,7 @@ use Rattle.mr_batch.specs.declared.change.Change.{Change}
 use Rattle.mr_batch.specs.Changes.{named, numbers}
 use Rattle.mr_batch.specs.Earlier.{IsLastAt, IsLastBelow}
 use Rattle.mr_batch.proofs.Numbered.{same_test}
-use Rattle.mr_batch.specs.Presence.{adds, after, after_all}
+use Rattle.mr_batch.specs.private.Presence.{adds, after, after_all}
 
 -- ---- one place more
 

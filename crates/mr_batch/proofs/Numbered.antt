@@ -19,7 +19,7 @@ use Rattle.std.proofs.lemmas.Map.Made.{is_some-lookup, length-from_same_keys}
 use Rattle.mr_geom.specs.Rectangle.{Rectangle}
 use Rattle.mr_record.specs.declared.record.Record.{Record}
 use Rattle.mr_record.specs.RecordText.{has_number}
-use Rattle.mr_batch.specs.Directory.{Entries, rect_at, HaveNumbers, AreRising}
+use Rattle.mr_batch.specs.Directory.{DirectoryEntries, rect_at, HaveNumbers, AreRising}
 
 -- ---- the order of numbers tells whether they are equal
 
@@ -73,16 +73,16 @@ distinct_numbers [] apart = tt
 distinct_numbers (r ∷ rs) apart =
     (none_equal r.number rs (apart_head r rs apart), distinct_numbers rs (apart_tail r rs apart))
 
-distinct_keys : (entries : Entries) → AreRising entries → IsDistinct eqb (keys_of entries)
+distinct_keys : (entries : DirectoryEntries) → AreRising entries → IsDistinct eqb (keys_of entries)
 distinct_keys entries rising =
     subst (λ (e : ℕ → ℕ → Bool). IsDistinct e (keys_of entries)) same_eq
     (IsDistinct-from_sorted nat_cmp (keys_of entries) rising)
 
-found : (entries : Entries) (n : ℕ) → is_some (rect_at entries n) ≡ is_member eqb (keys_of entries) n
+found : (entries : DirectoryEntries) (n : ℕ) → is_some (rect_at entries n) ≡ is_member eqb (keys_of entries) n
 found entries n =
     is_some-lookup (is_at (nat_cmp n)) entries ∙ ap (λ (t : ℕ → Bool). list_any t (keys_of entries)) (same_query n)
 
-pub as_many : (entries : Entries) (rs : List Record) → AreRising entries → HaveNumbers entries rs →
+pub as_many : (entries : DirectoryEntries) (rs : List Record) → AreRising entries → HaveNumbers entries rs →
     length entries ≡ length rs
 as_many entries rs rising have =
     sym (length-keys_of entries)
@@ -96,18 +96,19 @@ as_many entries rs rising have =
 abbrev record_at : (ℕ × Rectangle) → Record
 record_at e = record { number = e.0; rect = e.1; layer = 0; payload = [] }
 
-member_entry : (n : ℕ) (entries : Entries) → is_member eqb (keys_of entries) n ≡ has_number n (map record_at entries)
+member_entry : (n : ℕ) (entries : DirectoryEntries) → is_member eqb (keys_of entries) n ≡ has_number n
+    (map record_at entries)
 member_entry n [] = refl
 member_entry n (e ∷ entries) = (λ j. turned n e.0 j || member_entry n entries j)
 
-numbers_differ : (n : ℕ) (entries : Entries) → AllByRecursion (λ y. eqb n y ≡ false) (keys_of entries) →
+numbers_differ : (n : ℕ) (entries : DirectoryEntries) → AllByRecursion (λ y. eqb n y ≡ false) (keys_of entries) →
     All (λ (r : Record). n ≢ r.number) (map record_at entries)
 numbers_differ n [] none = All-nil (λ (r : Record). n ≢ r.number)
 numbers_differ n (e ∷ entries) none =
     All-cons (λ (r : Record). n ≢ r.number) (record_at e) (map record_at entries) (eqb-false n e.0 none.0)
     (numbers_differ n entries none.1)
 
-apart_entries : (entries : Entries) → IsDistinct eqb (keys_of entries) → Apart (map record_at entries)
+apart_entries : (entries : DirectoryEntries) → IsDistinct eqb (keys_of entries) → Apart (map record_at entries)
 apart_entries [] distinct = λ i j d above low. absurd (omega arith)
 apart_entries (e ∷ entries) distinct =
     let others : Apart (map record_at entries) = apart_entries entries
@@ -116,7 +117,7 @@ apart_entries (e ∷ entries) distinct =
     AllPairs-cons (λ a b. a.number ≢ b.number) (record_at e) (map record_at entries)
     (numbers_differ e.0 entries (IsDistinct-head eqb e.0 (keys_of entries) distinct)) others
 
-pub some_records : (entries : Entries) → AreRising entries → (rs : List Record) × HaveNumbers entries rs
+pub some_records : (entries : DirectoryEntries) → AreRising entries → (rs : List Record) × HaveNumbers entries rs
 some_records entries rising = (
   map record_at entries,
   record {

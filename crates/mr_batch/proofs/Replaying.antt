@@ -15,8 +15,8 @@ use Rattle.mr_batch.specs.Changes.{Changes}
 use Rattle.mr_batch.specs.Applied.{may_make, made, applied, IsAdmissible}
 use Rattle.mr_batch.specs.Admissible.{batch_fault}
 use Rattle.mr_batch.specs.declared.admission.BatchFault.{BatchFault}
-use Rattle.mr_batch.specs.Directory.{Entries, rect_in, IsDirectoryOf, HaveNumbers}
-use Rattle.mr_batch.specs.Replay.{changed, replayed, IsLeft}
+use Rattle.mr_batch.specs.Directory.{DirectoryEntries, rect_in, IsDirectoryOf, HaveNumbers}
+use Rattle.mr_batch.specs.Replay.{changed, replayed, LeavesRecords}
 use Rattle.mr_batch.proofs.Numbered.{Apart}
 use Rattle.mr_batch.proofs.Permuted.{removal_leaves, made_then, applied_permuted, some_same}
 use Rattle.mr_batch.proofs.Walking.{rest_of, drop_all}
@@ -36,7 +36,8 @@ is_there (r ∷ rs) n =
     ⊎_elim (λ (t : eqb r.number n ≡ true). rw t refl) (λ (f : eqb r.number n ≡ false). rw f (is_there rs n))
     (cases_Bool (eqb r.number n))
 
-pub numbers_of : (entries : Entries) (rs : List Record) → Apart rs → IsDirectoryOf entries rs → HaveNumbers entries rs
+pub numbers_of : (entries : DirectoryEntries) (rs : List Record) → Apart rs → IsDirectoryOf entries rs → HaveNumbers
+    entries rs
 numbers_of entries rs apart is =
     record { same = λ n. ap is_some (is.rects n) ∙ is_there rs n; apart = apart }
 
@@ -121,7 +122,7 @@ tree_at_end before t cs i all way =
     sym (replayed_none t) ∙ ap (replayed t) (sym (drop_all cs i all)) ∙ way.leads
 
 pub records_at_end : (before t : Tree) (cs : List Change) (i : ℕ) → length cs ≤ i → IsOnTheWay before cs i t →
-    IsLeft (records before) cs (records t)
+    LeavesRecords (records before) cs (records t)
 records_at_end before t cs i all way =
     let none : applied (records t) [] ≡ Some way.rest = ap (applied (records t)) (sym (drop_all cs i all))
     ∙ way.applies in
@@ -134,19 +135,20 @@ records_at_end before t cs i all way =
 
 -- ---- the fault by a directory of the records
 
-numbers_alike : (entries : Entries) (rs tree_rs : List Record) → Apart tree_rs → rs ≡ tree_rs
+numbers_alike : (entries : DirectoryEntries) (rs tree_rs : List Record) → Apart tree_rs → rs ≡ tree_rs
     → IsDirectoryOf entries rs →
     HaveNumbers entries tree_rs
 numbers_alike entries rs tree_rs apart same is =
     numbers_of entries tree_rs apart (subst (IsDirectoryOf entries) same is)
 
-pub none_is_meant : (entries : Entries) (rs tree_rs : List Record) (held : ℕ) (b : Changes) → Apart tree_rs →
+pub none_is_meant : (entries : DirectoryEntries) (rs tree_rs : List Record) (held : ℕ) (b : Changes) → Apart tree_rs →
     rs ≡ tree_rs → IsDirectoryOf entries rs →
     ((rs : List Record) → HaveNumbers entries rs → batch_fault rs held b ≡ None) → None ≡ batch_fault tree_rs held b
 none_is_meant entries rs tree_rs held b apart same is meant =
     sym (meant tree_rs (numbers_alike entries rs tree_rs apart same is))
 
-pub some_is_meant : (entries : Entries) (rs tree_rs : List Record) (held : ℕ) (b : Changes) (fault : BatchFault) →
+pub some_is_meant : (entries : DirectoryEntries) (rs tree_rs : List Record) (held : ℕ) (b : Changes)
+    (fault : BatchFault) →
     Apart tree_rs → rs ≡ tree_rs → IsDirectoryOf entries rs →
     ((rs : List Record) → HaveNumbers entries rs → batch_fault rs held b ≡ Some fault) →
     Some fault ≡ batch_fault tree_rs held b

@@ -16,8 +16,8 @@ use Rattle.mr_batch.specs.declared.admission.BatchFault.TheVariants.{OutOfOrder,
 use Rattle.mr_batch.specs.Changes.{Changes, named, numbers}
 use Rattle.mr_batch.specs.Applied.{without, may_make, made, applied, IsAdmissible}
 use Rattle.mr_batch.specs.Admissible.{or_else, hindrance, first_hindrance, batch_fault}
-use Rattle.mr_batch.specs.Directory.{Entries, HaveNumbers}
-use Rattle.mr_batch.specs.Presence.{after, after_all, count_after, hindered, first_hindered, fault_by, knows}
+use Rattle.mr_batch.specs.Directory.{DirectoryEntries, HaveNumbers}
+use Rattle.mr_batch.specs.private.Presence.{after, after_all, count_after, hindered, first_hindered, fault_by, knows}
 use Rattle.mr_batch.proofs.Numbered.{Apart, apart_head, apart_tail}
 use Rattle.mr_batch.proofs.Linking.{after_all-more, number_at}
 
@@ -234,7 +234,8 @@ fault_same : (b : Changes) (held : ℕ) (x y : Option BatchFault) → x ≡ y �
     (Some (OutOfOrder held b.number))
 fault_same b held x y e = ap (λ o. cond (eqb b.number (held + 1)) o (Some (OutOfOrder held b.number))) e
 
-pub same_fault_by : (entries : Entries) (rs : List Record) (count : ℕ) → HaveNumbers entries rs → count ≡ length rs →
+pub same_fault_by : (entries : DirectoryEntries) (rs : List Record) (count : ℕ) → HaveNumbers entries rs → count ≡
+    length rs →
     (held : ℕ) (b : Changes) → fault_by (knows entries) count held b ≡ batch_fault rs held b
 same_fault_by entries rs count have many held b =
     fault_same b held (first_hindered (knows entries) count 2 b.list) (first_hindrance rs 2 b.list)

@@ -6,15 +6,15 @@ use Rattle.mr_record.specs.declared.text_fault.TextErr.{TextErr}
 use Rattle.mr_record.specs.declared.text_fault.TextErr.TheVariants.{Text, NoMemory}
 use Rattle.mr_record.specs.Lines.{Line, lines_of}
 use Rattle.mr_record.specs.LineTexts.{IsFirstFaultBy}
-use Rattle.mr_record.specs.Answer.{Refuses}
+use Rattle.mr_record.specs.Answer.{RefusesText}
 use Rattle.mr_record.specs.declared.version.Version.{Version}
 use Rattle.mr_batch.specs.Changes.{Changes}
 use Rattle.mr_batch.specs.BatchText.{head_line, number_of_line, AreChanges, change_lines}
 
 -- the answer is the one that is meant, unless memory ran out
-abbrev pub Answers : Result Changes TextErr → Result Changes TextFault → Type 0
-Answers (Ok b) meant = meant ≡ Ok b
-Answers (Err e) meant = Refuses e meant
+abbrev pub AnswersBatch : Result Changes TextErr → Result Changes TextFault → Type 0
+AnswersBatch (Ok b) meant = meant ≡ Ok b
+AnswersBatch (Err e) meant = RefusesText e meant
 
 -- the text has no first line, or one that breaks the fault's rule first
 pub record IsHeadFault (text : List ℕ) (fault : TextFault) : Type 0 where

@@ -11,4 +11,4 @@ pub mod Peak
 pub mod Refusing
 pub mod Workload
 -- what only private functions and proofs use
-pub mod Presence
+pub mod private

@@ -26,7 +26,7 @@ replay t [] = t
 replay t (b ∷ batches) = replay (replayed t b.list) batches
 
 -- the changes may be made to the records, and these are what they leave, in some order
-pub record IsLeft (before : List Record) (changes : List Change) (after : List Record)
+pub record LeavesRecords (before : List Record) (changes : List Change) (after : List Record)
     : Type 0 where
   pub list : List Record
   pub makes : applied before changes ≡ Some list

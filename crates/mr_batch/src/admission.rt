@@ -6,7 +6,7 @@ ghost use Rattle.mr_batch.specs.Changes.{numbers};
 ghost use Rattle.mr_batch.specs.Applied.{IsAdmissible};
 ghost use Rattle.mr_batch.specs.Admissible.{batch_fault};
 ghost use Rattle.mr_batch.specs.Directory.{HaveNumbers};
-ghost use Rattle.mr_batch.specs.Presence.{after_all, count_after, hindered, first_hindered, fault_by, knows};
+ghost use Rattle.mr_batch.specs.private.Presence.{after_all, count_after, hindered, first_hindered, fault_by, knows};
 
 use crate::{Batch, Change, Directory};
 use mr_tree::COUNT_LIMIT;

@@ -2,7 +2,7 @@
 
 ghost use Rattle.std.specs.Prelude.{◌≡◌};
 ghost use Rattle.mr_batch.specs.Changes.{named};
-ghost use Rattle.mr_batch.specs.Presence.{adds};
+ghost use Rattle.mr_batch.specs.private.Presence.{adds};
 
 use mr_record::Record;
 

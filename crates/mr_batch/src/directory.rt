@@ -18,9 +18,9 @@ pub struct Directory {
 }
 
 impl Model for Directory {
-    ghost use Rattle.mr_batch.specs.Directory.{Entries};
+    ghost use Rattle.mr_batch.specs.Directory.{DirectoryEntries};
 
-    ghost Value = { Entries };
+    ghost Value = { DirectoryEntries };
 
     ghost view = { λ d. d.rects.entries };
 }

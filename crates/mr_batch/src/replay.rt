@@ -7,7 +7,7 @@ ghost use Rattle.mr_tree.specs.WellFormed.{WellFormed};
 ghost use Rattle.mr_batch.specs.Changes.{IsLayered};
 ghost use Rattle.mr_batch.specs.Applied.{may_make, made, IsAdmissible};
 ghost use Rattle.mr_batch.specs.Admissible.{batch_fault};
-ghost use Rattle.mr_batch.specs.Replay.{changed as tree_after, replayed as tree_after_all, replay, IsLeft};
+ghost use Rattle.mr_batch.specs.Replay.{changed as tree_after, replayed as tree_after_all, replay, LeavesRecords};
 ghost use Rattle.mr_batch.specs.Refusing.{IsApplyCause};
 
 use crate::{Batch, BatchFault, Change, Directory, admit};
@@ -75,7 +75,7 @@ fn replayed(alloc: Global, mut tree: Tree, held: u64, batch: &Batch) -> Result<T
     ensures exact { IfOk result (λ t. t ≡ tree_after_all tree batch.now.list) }
     ensures well_formed { IfOk result WellFormed }
     ensures records { IfOk result
-        (λ t. IsLeft (records_in tree) batch.now.list (records_in t)) }
+        (λ t. LeavesRecords (records_in tree) batch.now.list (records_in t)) }
 {
     for i in 0..batch.len() {
         tree = changed(alloc, tree, batch.change(i))?;
@@ -92,7 +92,7 @@ pub fn apply_plain(alloc: Global, tree: Tree, held: u64, batch: &Batch) -> Resul
     ensures exact { IfOk result (λ t. t ≡ replay tree (batch.now ∷ [])) }
     ensures well_formed { IfOk result WellFormed }
     ensures records { IfOk result
-        (λ t. IsLeft (records_in tree) batch.now.list (records_in t)) }
+        (λ t. LeavesRecords (records_in tree) batch.now.list (records_in t)) }
     ensures admissible { OnOk result (IsAdmissible (records_in tree) held batch.now) }
     ensures refused { IfErr result (λ e. IsApplyCause e tree held batch.now) }
 {

@@ -5,8 +5,8 @@ ghost use Rattle.mr_record.specs.Lines.{lines_of};
 ghost use Rattle.mr_record.specs.declared.version.Version.TheVariants.{One, Two};
 ghost use Rattle.mr_batch.specs.Changes.{Changes};
 ghost use Rattle.mr_batch.specs.BatchText.{IsBatch, batch_text, number_of_line, batch_behind, batch_of_lines, batch_of_text};
-ghost use Rattle.mr_record.specs.Answer.{Refuses};
-ghost use Rattle.mr_batch.specs.Answer.{Answers, IsRefusal};
+ghost use Rattle.mr_record.specs.Answer.{RefusesText};
+ghost use Rattle.mr_batch.specs.Answer.{AnswersBatch, IsRefusal};
 
 use crate::line::{read_change, read_head};
 use crate::links::links;
@@ -33,7 +33,7 @@ fn read_number(line: &[u8], ended: bool) -> Result<u64, TextRule>
 fn take_head(_version: Version, text: &[u8]) -> Result<(u64, &[u8]), TextErr>
     ensures goes_on { IfOk result (λ head. batch_of_text _version text.now
         ≡ batch_behind _version head.0 (lines_of head.1.now)) }
-    ensures refused { IfErr result (λ e. Refuses e (batch_of_text _version text.now)) }
+    ensures refused { IfErr result (λ e. RefusesText e (batch_of_text _version text.now)) }
 {
     if text.is_empty() {
         return Err(TextErr::Text(TextFault {
@@ -82,7 +82,7 @@ impl LineReader for ReadsChanges {
 
 #[tactic(auto, using(crate::proofs::Cuttings::behind_head))]
 fn read_all(alloc: Global, version: Version, text: &[u8]) -> Result<Batch, TextErr>
-    ensures { Answers result (batch_of_text version text.now) }
+    ensures { AnswersBatch result (batch_of_text version text.now) }
 {
     let (number, rest) = take_head(version, text)?;
     let changes = read_values(alloc, &ReadsChanges { version }, (), rest)?;
@@ -93,11 +93,11 @@ fn read_all(alloc: Global, version: Version, text: &[u8]) -> Result<Batch, TextE
 /// Reads a batch text of a version: the line `batch N`, then at most 2^20 lines, each `+ ` and a
 /// record line or `- ` and a record number, each line with a line feed.
 pub fn read_batch_of(alloc: Global, version: Version, text: &[u8]) -> Result<Batch, TextErr>
-    ensures exact { Answers result (batch_of_text version text.now) }
+    ensures exact { AnswersBatch result (batch_of_text version text.now) }
     ensures written { IfOk result
         (λ b. IsBatch version b × (text.now ≡ batch_text version b)) }
     ensures read { (b : Changes) → IsBatch version b → text.now ≡ batch_text version b
-        → Answers result (Ok b) }
+        → AnswersBatch result (Ok b) }
     ensures refused { IfErr result (λ e. IsRefusal version text.now e) }
 {
     read_all(alloc, version, text)
@@ -105,10 +105,10 @@ pub fn read_batch_of(alloc: Global, version: Version, text: &[u8]) -> Result<Bat
 
 /// The same of version 1.
 pub fn read_batch(alloc: Global, text: &[u8]) -> Result<Batch, TextErr>
-    ensures exact { Answers result (batch_of_text One text.now) }
+    ensures exact { AnswersBatch result (batch_of_text One text.now) }
     ensures written { IfOk result (λ b. IsBatch One b × (text.now ≡ batch_text One b)) }
     ensures read { (b : Changes) → IsBatch One b → text.now ≡ batch_text One b
-        → Answers result (Ok b) }
+        → AnswersBatch result (Ok b) }
     ensures refused { IfErr result (λ e. IsRefusal One text.now e) }
 {
     read_batch_of(alloc, Version::One, text)
@@ -116,10 +116,10 @@ pub fn read_batch(alloc: Global, text: &[u8]) -> Result<Batch, TextErr>
 
 /// The same of version 2.
 pub fn read_batch2(alloc: Global, text: &[u8]) -> Result<Batch, TextErr>
-    ensures exact { Answers result (batch_of_text Two text.now) }
+    ensures exact { AnswersBatch result (batch_of_text Two text.now) }
     ensures written { IfOk result (λ b. IsBatch Two b × (text.now ≡ batch_text Two b)) }
     ensures read { (b : Changes) → IsBatch Two b → text.now ≡ batch_text Two b
-        → Answers result (Ok b) }
+        → AnswersBatch result (Ok b) }
     ensures refused { IfErr result (λ e. IsRefusal Two text.now e) }
 {
     read_batch_of(alloc, Version::Two, text)

@@ -12,7 +12,7 @@ use Rattle.mr_tree.specs.Digest.{Scheme}
 use Rattle.mr_tree.specs.declared.tree.Tree.{Tree}
 use Rattle.mr_query.specs.declared.query.Query.{Query}
 use Rattle.mr_proof.specs.Honest.{proof}
-use Rattle.mr_bundle.specs.Bundle.{AreRead, Cutting, IsBundleOf, IsFrontOf, IsShort, bundle_of, bytes_of, end_at, go_on, held_in, part_at, part_bytes, parts, parts_from, size_at, stopped_at}
+use Rattle.mr_bundle.specs.Bundle.{AreRead, Cutting, IsBundleOf, IsFrontOf, IsShort, bundle_of, bytes_of, end_at, go_on, bytes_of_parts, part_at, part_bytes, parts, parts_from, size_at, stopped_at}
 use Rattle.mr_bundle.specs.Proofs.{bundle, proofs}
 use Rattle.mr_bundle.specs.declared.reading.Part.{Part}
 use Rattle.mr_bundle.specs.declared.reading.Parts.{Parts}
@@ -125,8 +125,8 @@ part_is bytes at part fits found =
 step : (bytes : List ℕ) (queries at : ℕ) → IsBytes bytes → (o : Option Part) → part_at bytes at ≡ o
     → (go_on at o (parts_from bytes queries)).broken ≡ None
     → ((next : ℕ) → next ≤ length bytes → (parts_from bytes queries next).broken ≡ None
-    → Leaves bytes queries next (held_in bytes (parts_from bytes queries next).list))
-    → Leaves bytes (suc queries) at (held_in bytes (go_on at o (parts_from bytes queries)).list)
+    → Leaves bytes queries next (bytes_of_parts bytes (parts_from bytes queries next).list))
+    → Leaves bytes (suc queries) at (bytes_of_parts bytes (go_on at o (parts_from bytes queries)).list)
 unfolding bundle_of
 step bytes queries at fits None found whole rest = absurd cc
 step bytes queries at fits (Some part) found whole rest =
@@ -134,14 +134,14 @@ step bytes queries at fits (Some part) found whole rest =
     let others = rest part.end one.place whole in
     record {
       count = ap suc others.count;
-      short = All-cons IsShort (bytes_of bytes part) (held_in bytes (parts_from bytes queries part.end).list)
+      short = All-cons IsShort (bytes_of bytes part) (bytes_of_parts bytes (parts_from bytes queries part.end).list)
           one.short others.short;
       spelled = one.spelled ∙ ap (λ r. part_bytes (bytes_of bytes part) ++ r) others.spelled;
     }
 
 leaves : (bytes : List ℕ) (queries at : ℕ) → IsBytes bytes → at ≤ length bytes
     → (parts_from bytes queries at).broken ≡ None
-    → Leaves bytes queries at (held_in bytes (parts_from bytes queries at).list)
+    → Leaves bytes queries at (bytes_of_parts bytes (parts_from bytes queries at).list)
 unfolding parts_from bundle_of
 leaves bytes zero at fits low whole = record {
   count = refl;
@@ -160,8 +160,8 @@ leaves bytes (suc queries) at fits low whole =
 -- what is left from a place on begins with the bundle of these parts, up to where reading stopped
 record Runs (bytes : List ℕ) (at : ℕ) (x : Cutting) : Type 0 where
   within : stopped_at bytes x.broken ≤ length bytes
-  short : All IsShort (held_in bytes x.list)
-  spelled : drop at bytes ≡ bundle_of (held_in bytes x.list) ++ drop (stopped_at bytes x.broken) bytes
+  short : All IsShort (bytes_of_parts bytes x.list)
+  spelled : drop at bytes ≡ bundle_of (bytes_of_parts bytes x.list) ++ drop (stopped_at bytes x.broken) bytes
 
 -- no part more
 runs_out : (bytes : List ℕ) (at : ℕ) (broken : Option ℕ) → stopped_at bytes broken ≤ length bytes
@@ -178,7 +178,7 @@ runs_step bytes queries at fits low None found rest = runs_out bytes at (Some at
 runs_step bytes queries at fits low (Some part) found rest =
     let one = part_is bytes at part fits found in
     let others = rest part.end one.place in
-    let held = held_in bytes (parts_from bytes queries part.end).list in
+    let held = bytes_of_parts bytes (parts_from bytes queries part.end).list in
     let end = stopped_at bytes (parts_from bytes queries part.end).broken in
     record {
       within = others.within;
@@ -203,7 +203,7 @@ runs bytes (suc queries) at fits low =
 front_is : (bytes : List ℕ) (x : Cutting) → Runs bytes 0 x → IsFrontOf bytes x.list x.broken
 front_is bytes x is =
     let end = stopped_at bytes x.broken in
-    let held = bundle_of (held_in bytes x.list) in
+    let held = bundle_of (bytes_of_parts bytes x.list) in
     let all : bytes ≡ held ++ drop end bytes = is.spelled in
     let size : length bytes ≡ length (held ++ drop end bytes) = ap length all in
     let low : end ≤ length bytes = is.within in
@@ -230,10 +230,10 @@ answer_front bytes queries (Err e) fits list broken = tt
 pub answer_written : {E : Type 0} (bytes : List ℕ) (queries : ℕ) (answer : Result Parts E) → IsBytes bytes
     → IfOk answer (λ p. p.list ≡ (parts bytes queries).list)
     → IfOk answer (λ p. p.broken ≡ (parts bytes queries).broken)
-    → IfOk answer (λ p. p.broken ≡ None → IsBundleOf bytes queries (held_in bytes p.list))
+    → IfOk answer (λ p. p.broken ≡ None → IsBundleOf bytes queries (bytes_of_parts bytes p.list))
 answer_written bytes queries (Ok p) fits list broken = λ whole.
     let all = leaves bytes queries 0 fits (omega arith) (sym broken ∙ whole) in
-    subst (λ l. IsBundleOf bytes queries (held_in bytes l)) (sym list)
+    subst (λ l. IsBundleOf bytes queries (bytes_of_parts bytes l)) (sym list)
     (record { count = all.count; short = all.short; spelled = all.spelled })
 answer_written bytes queries (Err e) fits list broken = tt
 
@@ -250,7 +250,7 @@ pub answer_read : {E : Type 0} (bytes : List ℕ) (queries : ℕ) (answer : Resu
     → IfOk answer (λ p. AreRead bytes p.list p.broken proofs)
 answer_read bytes queries (Ok p) list broken proofs is =
     let all = read_again bytes queries proofs is in
-    record { whole = broken ∙ all.whole; held = ap (held_in bytes) list ∙ all.held }
+    record { whole = broken ∙ all.whole; held = ap (bytes_of_parts bytes) list ∙ all.held }
 answer_read bytes queries (Err e) list broken proofs is = tt
 
 -- the bundle of the honest proofs for some queries is read as these proofs

@@ -6,7 +6,7 @@ use Rattle.std.proofs.lemmas.List.{take_all, take_more, length-map, get_or-map, 
 use Rattle.std.proofs.lemmas.Slice.Zip.{length-zip, get_or-zip}
 use Rattle.mr_query.specs.declared.query.Query.{Query}
 use Rattle.mr_bundle.specs.Bundle.{bytes_of}
-use Rattle.mr_bundle.specs.Verdicts.{asked, judged, seen, verdicts}
+use Rattle.mr_bundle.specs.Verdicts.{asked, judged, asked_values, verdicts}
 use Rattle.mr_bundle.specs.declared.checking.Asked.{Asked}
 use Rattle.mr_bundle.specs.declared.reading.Part.{Part}
 use Rattle.mr_bundle.specs.declared.verdict.Verdict.{Verdict}
@@ -32,11 +32,11 @@ module _ (queries : List Query) (bundle : List ℕ) (parts : List Part) (few : l
       ∙ ap (λ b. (get_or queries i q, b)) (get_or-map (bytes_of bundle) parts i p (bytes_of bundle p) here))
 
   pub one_more : (i : ℕ) (q : Query) (p : Part) (all more : List Asked) (one : Asked) → i < length parts
-      → map seen all ≡ take i (asked queries bundle parts) → more ≡ all ++ one ∷ []
-      → seen one ≡ (get_or queries i q, bytes_of bundle (get_or parts i p))
-      → map seen more ≡ take (i + 1) (asked queries bundle parts)
+      → map asked_values all ≡ take i (asked queries bundle parts) → more ≡ all ++ one ∷ []
+      → asked_values one ≡ (get_or queries i q, bytes_of bundle (get_or parts i p))
+      → map asked_values more ≡ take (i + 1) (asked queries bundle parts)
   one_more i q p all more one here so_far put is =
-      ap (map seen) put ∙ map-append seen all (one ∷ []) ∙ (λ j. so_far j ++ is j ∷ [])
+      ap (map asked_values) put ∙ map-append asked_values all (one ∷ []) ∙ (λ j. so_far j ++ is j ∷ [])
       ∙ sym (asked_more i q p here)
 
   pub all_asked : (i : ℕ) → length parts ≤ i → take i (asked queries bundle parts) ≡ asked queries bundle parts
@@ -46,15 +46,15 @@ module _ (queries : List Query) (bundle : List ℕ) (parts : List Part) (few : l
 pub judged_all : {E : Type 0} (hash : List ℕ → List ℕ) (root : List ℕ) (queries : List Query) (bundle : List ℕ)
     (parts : List Part)
     (all lent : List Asked) (result : Result (Vec Verdict) E) → lent ≡ all
-    → map seen all ≡ asked queries bundle parts
-    → IfOk result (λ v. v.items ≡ map (λ (one : Asked). judged hash root (seen one)) lent)
+    → map asked_values all ≡ asked queries bundle parts
+    → IfOk result (λ v. v.items ≡ map (λ (one : Asked). judged hash root (asked_values one)) lent)
     → IfOk result (λ v. v.items ≡ verdicts hash root queries bundle parts)
 judged_all hash root queries bundle parts all lent (Ok v) same are is =
-    is ∙ ap (map (λ (one : Asked). judged hash root (seen one))) same
+    is ∙ ap (map (λ (one : Asked). judged hash root (asked_values one))) same
     ∙ twice all ∙ ap (map (judged hash root)) are
   where
     twice : (xs : List Asked)
-        → map (λ (one : Asked). judged hash root (seen one)) xs ≡ map (judged hash root) (map seen xs)
+        → map (λ (one : Asked). judged hash root (asked_values one)) xs ≡ map (judged hash root) (map asked_values xs)
     twice [] = refl
-    twice (x ∷ xs) = ap (λ vs. judged hash root (seen x) ∷ vs) (twice xs)
+    twice (x ∷ xs) = ap (λ vs. judged hash root (asked_values x) ∷ vs) (twice xs)
 judged_all hash root queries bundle parts all lent (Err e) same are is = tt

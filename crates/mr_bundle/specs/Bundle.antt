@@ -67,8 +67,8 @@ abbrev pub bytes_of : List ℕ → Part → List ℕ
 bytes_of bundle part = slice_range bundle part.start part.end
 
 -- what some parts hold
-abbrev pub held_in : List ℕ → List Part → List (List ℕ)
-held_in bundle parts = map (bytes_of bundle) parts
+abbrev pub bytes_of_parts : List ℕ → List Part → List (List ℕ)
+bytes_of_parts bundle parts = map (bytes_of bundle) parts
 
 -- ---- both ways
 
@@ -86,12 +86,12 @@ stopped_at bytes (Some at) = at
 -- The bytes before that are the bundle of what the parts hold: all of them where nothing is broken,
 -- and else those of the parts that are whole, so that the place is the length of their bundle.
 pub record IsFrontOf (bytes : List ℕ) (list : List Part) (broken : Option ℕ) : Type 0 where
-  pub short : All IsShort (held_in bytes list)
-  pub front : take (stopped_at bytes broken) bytes ≡ bundle_of (held_in bytes list)
-  pub place : stopped_at bytes broken ≡ length (bundle_of (held_in bytes list))
+  pub short : All IsShort (bytes_of_parts bytes list)
+  pub front : take (stopped_at bytes broken) bytes ≡ bundle_of (bytes_of_parts bytes list)
+  pub place : stopped_at bytes broken ≡ length (bundle_of (bytes_of_parts bytes list))
 
 -- nothing is broken, and these proofs are what the parts hold
 pub record AreRead (bytes : List ℕ) (list : List Part) (broken : Option ℕ)
     (proofs : List (List ℕ)) : Type 0 where
   pub whole : broken ≡ None
-  pub held : held_in bytes list ≡ proofs
+  pub held : bytes_of_parts bytes list ≡ proofs

@@ -33,5 +33,5 @@ number_in (Accepted answer) = length answer
 number_in (Refused fault) = fault.at
 
 -- what a piece of the work is. This serves private functions.
-abbrev pub seen : Asked → Query × List ℕ
-seen one = (one.query.now, one.proof.now)
+abbrev pub asked_values : Asked → Query × List ℕ
+asked_values one = (one.query.now, one.proof.now)

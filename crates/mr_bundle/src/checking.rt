@@ -3,11 +3,11 @@
 ghost use Rattle.std.specs.Prelude.{◌≡◌, ◌≤◌, [], length, map, All, IfOk, OnOk};
 ghost use Rattle.mr_query.specs.Word.{IsAskable};
 ghost use Rattle.mr_bundle.specs.Bundle.{LiesIn};
-ghost use Rattle.mr_bundle.specs.Verdicts.{asked, judged, number_in, seen, verdicts};
+ghost use Rattle.mr_bundle.specs.Verdicts.{asked, judged, number_in, asked_values, verdicts};
 
 use crate::{Part, Verdict};
 use mr_check::{CheckErr, check};
-use mr_halves::{Work, in_halves};
+use mr_fork_join::{Work, in_halves};
 use mr_outside::{Gate, Items};
 use mr_query::Query;
 use mr_tree::{Hash32, Hashes};
@@ -55,7 +55,7 @@ impl<'a, H: Hash32> Work for Checking<'a, H> {
 
     ghost may = { λ w one. IsAskable one.query.now };
 
-    ghost gives = { λ w one. judged H.of w.root.now (seen one) };
+    ghost gives = { λ w one. judged H.of w.root.now (asked_values one) };
 
     ghost number_of = { λ found. number_in found };
 
@@ -84,7 +84,7 @@ fn pair<'a>(
     requires askable { All IsAskable queries.now }
     requires within { All (LiesIn (length bundle.now)) parts.now }
     requires few { length parts.now ≤ length queries.now }
-    ensures each { OnOk result (map seen all.new.items
+    ensures each { OnOk result (map asked_values all.new.items
         ≡ asked queries.now bundle.now parts.now) }
     ensures askable { OnOk result (All (λ one. IsAskable one.query.now) all.new.items) }
 {

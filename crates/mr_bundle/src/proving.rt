@@ -10,7 +10,7 @@ ghost use Rattle.mr_bundle.specs.Bundle.{IsShort};
 ghost use Rattle.mr_bundle.specs.Proofs.{proof_in, as_given, IsLastRefusal};
 
 use crate::Text;
-use mr_halves::{Work, in_halves};
+use mr_fork_join::{Work, in_halves};
 use mr_outside::{Gate, Items};
 use mr_proof::honest_is_accepted;
 use mr_prove::{ProveErr, prove};

@@ -1,7 +1,7 @@
 //! The parts of a bundle.
 
 ghost use Rattle.std.specs.Prelude.{◌≡◌, ◌≤◌, List, ℕ, length, All, IfOk, IfSome, None};
-ghost use Rattle.mr_bundle.specs.Bundle.{AreRead, IsBundleOf, IsFrontOf, LiesIn, held_in, part_at as whole_at, parts};
+ghost use Rattle.mr_bundle.specs.Bundle.{AreRead, IsBundleOf, IsFrontOf, LiesIn, bytes_of_parts, part_at as whole_at, parts};
 
 use mr_outside::Items;
 use mr_record::u32_of_bytes;
@@ -50,7 +50,7 @@ fn cut_parts(alloc: Global, bytes: &[u8], queries: usize) -> Result<Parts, Alloc
     ensures list { IfOk result (λ p. p.list ≡ (parts bytes.now queries).list) }
     ensures broken { IfOk result (λ p. p.broken ≡ (parts bytes.now queries).broken) }
     ensures lie { IfOk result (λ p. All (LiesIn (length bytes.now)) p.list) }
-    ensures few { IfOk result (λ p. length p.list ≤ queries) }
+    ensures length_at_most { IfOk result (λ p. length p.list ≤ queries) }
 {
     let mut list = Vec::new(alloc);
     let mut left = queries;
@@ -82,9 +82,9 @@ pub fn read_bundle(alloc: Global, bytes: &[u8], queries: usize) -> Result<Parts,
     ensures list { IfOk result (λ p. p.list ≡ (parts bytes.now queries).list) }
     ensures broken { IfOk result (λ p. p.broken ≡ (parts bytes.now queries).broken) }
     ensures lie { IfOk result (λ p. All (LiesIn (length bytes.now)) p.list) }
-    ensures few { IfOk result (λ p. length p.list ≤ queries) }
+    ensures length_at_most { IfOk result (λ p. length p.list ≤ queries) }
     ensures written { IfOk result (λ p. p.broken ≡ None
-        → IsBundleOf bytes.now queries (held_in bytes.now p.list)) }
+        → IsBundleOf bytes.now queries (bytes_of_parts bytes.now p.list)) }
     ensures read { (proofs : List (List ℕ)) → IsBundleOf bytes.now queries proofs
         → IfOk result (λ p. AreRead bytes.now p.list p.broken proofs) }
     // Broken or not.

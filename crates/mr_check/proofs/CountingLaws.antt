@@ -7,7 +7,7 @@ use Rattle.mr_query.specs.Nearest.{nearer_than, not_farther_than}
 use Rattle.mr_proof.specs.declared.question.Around.{Around}
 use Rattle.mr_proof.specs.Refused.{has_other_radius}
 use Rattle.mr_check.specs.declared.radius_counts.RadiusCounts.{RadiusCounts}
-use Rattle.mr_check.specs.Counting.{Counts}
+use Rattle.mr_check.specs.private.Counting.{CountsRecords}
 
 abbrev pub near : Point → ℕ → Around
 near p k = record { center = p; k = k }
@@ -25,7 +25,7 @@ second_of_two : (a b : Bool) → a ≡ false → (a || b) ≡ b
 second_of_two a b e = rw e refl
 
 pub enough_nearer : (p : Point) (k n : ℕ) (rs : List Record) (t : RadiusCounts) → k < 2 ^ 16
-    → Counts (Some (near p k)) (Some n) rs t → k ≤ t.nearer
+    → CountsRecords (Some (near p k)) (Some n) rs t → k ≤ t.nearer
     → leb k t.nearer ≡ has_other_radius (Some (near p k)) (Some n) rs
 enough_nearer p k n rs t few c more =
     let one : k ≤ nearer_than p n rs = omega (arith, c.nearer) in
@@ -34,7 +34,7 @@ enough_nearer p k n rs t few c more =
     (le-leb k (nearer_than p n rs) one))
 
 pub few_nearer : (p : Point) (k n : ℕ) (rs : List Record) (t : RadiusCounts) → k < 2 ^ 16
-    → Counts (Some (near p k)) (Some n) rs t → t.nearer < k
+    → CountsRecords (Some (near p k)) (Some n) rs t → t.nearer < k
     → ltb t.within k ≡ has_other_radius (Some (near p k)) (Some n) rs
 few_nearer p k n rs t few c less =
     let one : nearer_than p n rs < k = omega (arith, c.nearer) in

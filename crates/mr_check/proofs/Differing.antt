@@ -17,7 +17,7 @@ use Rattle.mr_record.specs.declared.record.Record.{Record}
 use Rattle.mr_record.proofs.Sorting.{same_sorted, sorted_rises, sorted_keeps}
 use Rattle.mr_query.specs.Scan.{by_number, scan}
 use Rattle.mr_query.specs.declared.query.Query.TheVariants.{Window}
-use Rattle.mr_check.specs.Differing.{rise, rise_after, numbers_of, EachOnce}
+use Rattle.mr_check.specs.private.Differing.{rise, rise_after, numbers_of, EachOnce}
 
 first_of_both : (a b : Bool) → (a && b) ≡ true → a ≡ true
 first_of_both true b e = refl

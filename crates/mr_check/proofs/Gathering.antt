@@ -14,7 +14,7 @@ use Rattle.mr_record.proofs.Encodings.{IsBytes}
 use Rattle.mr_query.specs.Word.{IsQuery}
 use Rattle.std.specs.Global.{Vec}
 use Rattle.mr_proof.specs.Handed.{handed_out}
-use Rattle.mr_proof.specs.Feeding.{Completes, IsFinal, IsUnsettled}
+use Rattle.mr_proof.specs.Feeding.{CompletesRecord, IsFinal, IsUnsettled}
 use Rattle.mr_tree.specs.declared.hash.Hashes.{Ghosts}
 use Rattle.mr_check.specs.declared.error.CheckErr.{CheckErr}
 use Rattle.mr_check.specs.declared.error.CheckErr.TheVariants as errors
@@ -22,7 +22,7 @@ use Rattle.mr_check.specs.declared.outline.Outline.{Outline}
 use Rattle.mr_check.specs.declared.outline.Collected.{Collected}
 use Rattle.mr_check.specs.declared.verifier.Verifier.{Verifier}
 use Rattle.mr_check.specs.Judged.{WasFed, Took, IsStopped, TookSoFar, EndsAs, AnswersCollected}
-use Rattle.mr_check.specs.Answers.{Checks}
+use Rattle.mr_check.specs.Answers.{AnswersVerdict}
 use Rattle.mr_check.proofs.Pieces.{take_both}
 use Rattle.mr_check.proofs.Judging.{none_out, refused}
 
@@ -50,7 +50,7 @@ module _ {H : Type 0} {G : Ghosts H} (hash : List ℕ → List ℕ) (holds : H �
       → TookSoFar hash holds q first now piece at old kept
       → ((root : List ℕ) (s : List ℕ) → WasFed hash holds root q now s
       → WasFed hash holds root q after (s ++ take n rest))
-      → ((root : List ℕ) (s : List ℕ) → WasFed hash holds root q now s → Completes q s rest n x)
+      → ((root : List ℕ) (s : List ℕ) → WasFed hash holds root q now s → CompletesRecord q s rest n x)
       → TookSoFar hash holds q first after piece (at + n) old (kept ++ x ∷ [])
   gather_on first now after piece rest at n old kept x is within so stands completes = record {
     within = within;
@@ -121,7 +121,7 @@ stopped hash root q bytes errors.NoMemory stops = tt
 -- ---- queries
 
 pub unanswered : (hash : List ℕ → List ℕ) (root : List ℕ) (q : Query) (bytes : List ℕ) (e : CheckErr)
-    → AnswersCollected hash root (question q) bytes (Err e) → Checks (Err e) (verdict hash root q bytes)
+    → AnswersCollected hash root (question q) bytes (Err e) → AnswersVerdict (Err e) (verdict hash root q bytes)
 unanswered hash root q bytes (errors.Fault f) g = refused hash root q bytes f g
 unanswered hash root q bytes errors.NoMemory g = tt
 

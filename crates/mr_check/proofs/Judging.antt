@@ -13,11 +13,11 @@ use Rattle.mr_proof.specs.declared.rule.Fault.{Fault}
 use Rattle.mr_proof.specs.declared.want.Want.{Want}
 use Rattle.mr_proof.specs.declared.want.Want.TheVariants as want
 use Rattle.mr_proof.specs.Cut.{Cut}
-use Rattle.mr_proof.specs.Spelling.{Said, said, opened_records}
+use Rattle.mr_proof.specs.Spelling.{Parsed, said, opened_records}
 use Rattle.mr_proof.specs.Tight.{Question, IsLawful, around_of, question}
 use Rattle.mr_proof.specs.Accepted.{root_found}
 use Rattle.mr_proof.specs.Grammar.{Grammar, whole}
-use Rattle.mr_proof.specs.Layout.{fault, Stand, field_at}
+use Rattle.mr_proof.specs.Layout.{fault, Cursor, field_at}
 use Rattle.mr_proof.specs.Refused.{has_other_radius}
 use Rattle.mr_proof.specs.Reading.{ending, checked, verdict}
 use Rattle.mr_proof.specs.Halves.{IsSettled}
@@ -36,15 +36,15 @@ use Rattle.mr_check.specs.declared.reader.Reader.{Reader}
 use Rattle.mr_check.specs.declared.fed.Fed.{Fed}
 use Rattle.mr_check.specs.declared.fed.Fed.TheVariants as fed
 use Rattle.mr_proof.specs.Handed.{handed_out}
-use Rattle.mr_check.specs.Stops.{Stop, waits, fails, stop_of}
-use Rattle.mr_proof.specs.Feeding.{IsUnsettled, IsFinal, HandsOut, Ends}
+use Rattle.mr_check.specs.private.Stops.{Stop, waits, fails, stop_of}
+use Rattle.mr_proof.specs.Feeding.{IsUnsettled, IsFinal, HandsOut, EndsFeeding}
 use Rattle.mr_check.specs.declared.outline.Outline.{Outline}
 use Rattle.mr_check.specs.Judged.{EndsAs}
-use Rattle.mr_check.specs.Answers.{taken_of, Feeds}
-use Rattle.mr_check.specs.Stages.{head_want, want_at, room_in}
-use Rattle.mr_check.specs.Counting.{no_counts}
-use Rattle.mr_check.specs.Standing.{is_handed_out, IsOpen, AtEnd}
-use Rattle.mr_check.specs.Reads.{want_of, StandsAt, StandsBy, FedBy, FaultFed, found_at, EndsAt}
+use Rattle.mr_check.specs.Answers.{taken_of, FeedsPiece}
+use Rattle.mr_check.specs.private.Stages.{head_want, want_at, room_in}
+use Rattle.mr_check.specs.private.Counting.{no_counts}
+use Rattle.mr_check.specs.Machine.{is_handed_out, IsOpen, AtEnd}
+use Rattle.mr_check.specs.private.Reads.{want_of, StandsAt, StandsBy, FedBy, FaultFed, found_at, EndsAt}
 use Rattle.mr_check.proofs.Stopping.{ends_at, checked_stop, fault_settled}
 use Rattle.mr_check.proofs.Turning.{stays, stands_in}
 
@@ -59,7 +59,7 @@ same_fault f g e = cc
 pub checked_fails : (hash : List ℕ → List ℕ) (root : List ℕ) (q : Question) (bytes : List ℕ) (f : Fault)
     → stop_of q bytes ≡ fails f → checked hash root q bytes ≡ Err f
 checked_fails hash root q bytes f e =
-    (checked_stop hash root q bytes ∙ ap (λ (z : Stop Said). ends_at (ending hash root q) z) e)
+    (checked_stop hash root q bytes ∙ ap (λ (z : Stop Parsed). ends_at (ending hash root q) z) e)
 
 pub final : (hash : List ℕ → List ℕ) (root : List ℕ) (q : Question) (s piece : List ℕ) (f : Fault)
     → stop_of q (s ++ piece) ≡ fails f → handed_out q (s ++ piece) ≡ handed_out q s
@@ -73,7 +73,7 @@ final hash root q s piece f e quiet = record {
 -- ---- no fault so far
 
 -- the ending of bytes that reach the last field and end there
-ends_unsettled : (c d : Bool) (w r f : Fault) (x : Said) → (IsSettled w.rule → ⊥) → (IsSettled r.rule → ⊥)
+ends_unsettled : (c d : Bool) (w r f : Fault) (x : Parsed) → (IsSettled w.rule → ⊥) → (IsSettled r.rule → ⊥)
     → cond (not c) (Err w) (cond d (Err r) (Ok x)) ≡ Err f → IsSettled f.rule → ⊥
 ends_unsettled true true w r f x no_w no_r e settled =
     no_r (subst (λ (h : Fault). IsSettled h.rule) (sym (same_fault r f e)) settled)
@@ -81,7 +81,7 @@ ends_unsettled true false w r f x no_w no_r e settled = absurd cc
 ends_unsettled false d w r f x no_w no_r e settled =
     no_w (subst (λ (h : Fault). IsSettled h.rule) (sym (same_fault w f e)) settled)
 
-ending_unsettled : (hash : List ℕ → List ℕ) (root : List ℕ) (q : Question) (x : Said) (s : Stand) (f : Fault)
+ending_unsettled : (hash : List ℕ → List ℕ) (root : List ℕ) (q : Question) (x : Parsed) (s : Cursor) (f : Fault)
     → length s.rest ≡ 0 → ending hash root q x s ≡ Err f → IsSettled f.rule → ⊥
 unfolding ending
 ending_unsettled hash root q x s f none e settled =
@@ -91,10 +91,11 @@ ending_unsettled hash root q x s f none e settled =
     (fault (rule.WrongRoot (root_found hash x.head x.part)) (s.at + length s.rest))
     (fault rule.WrongRadius (s.at + length s.rest)) f x (λ h. h) (λ h. h) (rw nothing at e) settled
 
-checked_waits : (hash : List ℕ → List ℕ) (root : List ℕ) (q : Question) (bytes : List ℕ) (g : Grammar Said) (t : Stand)
+checked_waits : (hash : List ℕ → List ℕ) (root : List ℕ) (q : Question) (bytes : List ℕ) (g : Grammar Parsed)
+    (t : Cursor)
     → stop_of q bytes ≡ waits g t → checked hash root q bytes ≡ ends_at (ending hash root q) (waits g t)
 checked_waits hash root q bytes g t e =
-    checked_stop hash root q bytes ∙ ap (λ (z : Stop Said). ends_at (ending hash root q) z) e
+    checked_stop hash root q bytes ∙ ap (λ (z : Stop Parsed). ends_at (ending hash root q) z) e
 
 unsettled_by : {H : Type 0} (hash : List ℕ → List ℕ) (holds : H → List ℕ → Type 0) (root : List ℕ) (q : Question)
     (r : Reader H) (bytes : List ℕ) (w : Option Want) → want_of r ≡ w → length r.held < room_in w
@@ -105,7 +106,7 @@ unsettled_by hash holds root q r bytes None ends short at = λ f e settled.
     (omega arith) (sym (checked_waits hash root q bytes _ _ i.stops) ∙ e) settled
 unsettled_by hash holds root q r bytes (Some w) wants short at = λ f e settled.
     let i = stands_in hash holds q r bytes (Some w) wants at in
-    let same : fault rule.Short r.at ≡ f = same_fault {A = Said} (fault rule.Short r.at) f
+    let same : fault rule.Short r.at ≡ f = same_fault {A = Parsed} (fault rule.Short r.at) f
     (sym (checked_waits hash root q bytes _ _ i.stops) ∙ e) in
     subst (λ (h : Fault). IsSettled h.rule) (sym same) settled
 
@@ -118,7 +119,7 @@ unsettled hash holds root q r bytes short at = unsettled_by hash holds root q r 
 
 pub fed_feeds : {H : Type 0} (hash : List ℕ → List ℕ) (holds : H → List ℕ → Type 0) (root : List ℕ) (q : Question)
     (r : Reader H) (s piece : List ℕ) (result : Fed) → length r.held < room_in (want_of r)
-    → FedBy hash holds q s piece r result → Feeds hash root q s piece result
+    → FedBy hash holds q s piece r result → FeedsPiece hash root q s piece result
 fed_feeds hash holds root q r s piece fed.More short b = (unsettled hash holds root q r (s ++ piece) short b.0, b.1)
 fed_feeds hash holds root q r s piece (fed.Found n x) short b =
     (unsettled hash holds root q r (s ++ take n piece) short b.0, b.1)
@@ -206,7 +207,7 @@ end_short hash holds root q r bytes w wants at =
 record Ended {H : Type 0} (hash : List ℕ → List ℕ) (root : List ℕ) (q : Question) (r : Reader H) (node : Entry)
     (bytes : List ℕ) : Type 0 where
   part : Option Cut
-  stand : Stand
+  stand : Cursor
   empty : length stand.rest ≡ 0
   place : stand.at + length stand.rest ≡ r.at
   there : checked hash root q bytes ≡ ending hash root q (said r.machine.head part) stand
@@ -236,7 +237,7 @@ not_same xs ys ne = elim (cases_Bool (bytes_eq xs ys)) [
   | inr f ↦ f
 ]
 
-ends_wrong_root : (hash : List ℕ → List ℕ) (root : List ℕ) (q : Question) (x : Said) (s : Stand)
+ends_wrong_root : (hash : List ℕ → List ℕ) (root : List ℕ) (q : Question) (x : Parsed) (s : Cursor)
     → length s.rest ≡ 0 → root_found hash x.head x.part ≢ root
     → ending hash root q x s ≡ Err (fault (rule.WrongRoot (root_found hash x.head x.part)) (s.at + length s.rest))
 unfolding ending
@@ -246,7 +247,7 @@ ends_wrong_root hash root q x s none ne =
     in
     rw (nothing, other) refl
 
-ends_wrong_radius : (hash : List ℕ → List ℕ) (root : List ℕ) (q : Question) (x : Said) (s : Stand)
+ends_wrong_radius : (hash : List ℕ → List ℕ) (root : List ℕ) (q : Question) (x : Parsed) (s : Cursor)
     → length s.rest ≡ 0 → root_found hash x.head x.part ≡ root
     → has_other_radius q.around x.head.radius (opened_records x.part) ≡ true
     → ending hash root q x s ≡ Err (fault rule.WrongRadius (s.at + length s.rest))
@@ -257,7 +258,7 @@ ends_wrong_radius hash root q x s none same wrong =
     same in
     rw (nothing, right, wrong) refl
 
-ends_well : (hash : List ℕ → List ℕ) (root : List ℕ) (q : Question) (x : Said) (s : Stand)
+ends_well : (hash : List ℕ → List ℕ) (root : List ℕ) (q : Question) (x : Parsed) (s : Cursor)
     → length s.rest ≡ 0 → root_found hash x.head x.part ≡ root
     → has_other_radius q.around x.head.radius (opened_records x.part) ≡ false → ending hash root q x s ≡ Ok x
 unfolding ending
@@ -324,7 +325,7 @@ end_fault hash holds root q r bytes z f is b =
 -- ---- queries
 
 -- what it asks accepted, the query is answered
-pub accepted : (hash : List ℕ → List ℕ) (root : List ℕ) (q : Query) (bytes : List ℕ) (x : Said)
+pub accepted : (hash : List ℕ → List ℕ) (root : List ℕ) (q : Query) (bytes : List ℕ) (x : Parsed)
     → checked hash root (question q) bytes ≡ Ok x → verdict hash root q bytes ≡ Ok (scan (opened_records x.part) q)
 unfolding verdict
 accepted hash root q bytes x e = rw e refl
@@ -336,14 +337,14 @@ unfolding verdict
 refused hash root q bytes f e = rw e refl
 
 -- the radius of accepted bytes is right
-right_of : (hash : List ℕ → List ℕ) (root : List ℕ) (q : Query) (bytes : List ℕ) (x : Said) → IsQuery q
+right_of : (hash : List ℕ → List ℕ) (root : List ℕ) (q : Query) (bytes : List ℕ) (x : Parsed) → IsQuery q
     → IsBytes bytes → checked hash root (question q) bytes ≡ Ok x
     → has_other_radius (around_of q) x.head.radius (opened_records x.part) ≡ false
 right_of hash root q bytes x is fits e =
     radius_stands (question q) x.head.radius (opened_records x.part) (is_lawful q is)
     (shows_from hash root (question q) bytes x (is_lawful q is) fits e).tight.radius
 
-pub handed_scan : (hash : List ℕ → List ℕ) (root : List ℕ) (q : Query) (bytes : List ℕ) (x : Said)
+pub handed_scan : (hash : List ℕ → List ℕ) (root : List ℕ) (q : Query) (bytes : List ℕ) (x : Parsed)
     → IsQuery q → IsBytes bytes → HandsOut hash root (question q) bytes x
     → verdict hash root q bytes ≡ Ok (scan (handed_out (question q) bytes) q)
 handed_scan hash root q bytes x is fits h =
@@ -353,7 +354,7 @@ handed_scan hash root q bytes x is fits h =
 
 pub query_ends : (hash : List ℕ → List ℕ) (root : List ℕ) (q : Query) (bytes : List ℕ)
     (result : Result Outline Fault) → IsQuery q → IsBytes bytes → EndsAs hash root (question q) bytes result
-    → Ends hash root q bytes result
+    → EndsFeeding hash root q bytes result
 query_ends hash root q bytes (Ok o) is fits c = record {
   said = c.said;
   hands = c.hands;

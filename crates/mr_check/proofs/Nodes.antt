@@ -11,8 +11,8 @@ use Rattle.mr_proof.specs.declared.rule.Rule.{Rule}
 use Rattle.mr_proof.specs.declared.rule.Rule.TheVariants as rule
 use Rattle.mr_proof.specs.declared.want.Want.TheVariants as want
 use Rattle.mr_proof.specs.Cut.{Cut, rect, digest}
-use Rattle.mr_proof.specs.Spelling.{Said, said, version_of}
-use Rattle.mr_proof.specs.Tight.{seen_at, seen, opens_seen, Question}
+use Rattle.mr_proof.specs.Spelling.{Parsed, said, version_of}
+use Rattle.mr_proof.specs.Tight.{key_at, key_of, opens_seen, Question}
 use Rattle.mr_proof.specs.Grammar.{Grammar, done, reads, tag_in}
 use Rattle.mr_proof.proofs.Preimages.{entry-rect}
 use Rattle.mr_check.specs.declared.frame.Frame.{Frame}
@@ -20,14 +20,14 @@ use Rattle.mr_check.specs.declared.frame.Stack.{Stack}
 use Rattle.mr_check.specs.declared.stage.Stage.TheVariants as stage
 use Rattle.mr_check.specs.declared.radius_counts.RadiusCounts.{RadiusCounts}
 use Rattle.mr_check.specs.declared.machine.Machine.{Machine}
-use Rattle.mr_check.specs.Stops.{past_notes}
-use Rattle.mr_check.specs.Standing.{Open, after, node_next, ways_at, is_handed_out, scheme, AreFrames, IsRead, WaitsPast, Closes}
+use Rattle.mr_check.specs.private.Stops.{past_notes}
+use Rattle.mr_check.specs.Machine.{Open, after, node_next, ways_at, is_handed_out, scheme, AreFrames, HasReadCut, WaitsPast, ClosesNode}
 use Rattle.mr_check.proofs.Opening.{Adds, IsClosing, grown, one_on, stays_open, closed, said_closed, rect_closed, records_closed, records_on, item_waits, after_more, after_last, past_met, past_missed}
 
 -- the root node
 pub closed_root : {H : Type 0} (hash : List ℕ → List ℕ) (holds : H → List ℕ → Type 0) (q : Question) (m : Machine H)
     (s : Stack (Frame H)) (node : Entry) (given : List Record) (os : List Open) (P : Cut)
-    → IsRead hash holds q m.head [] m.tally node given os P
+    → HasReadCut hash holds q m.head [] m.tally node given os P
     → WaitsPast hash holds q (record m { frames = s; stage = stage.End node }) given
     (after (ways_at q m.head) m.head node.level os P)
 closed_root hash holds q m s node given [] P r =
@@ -59,7 +59,7 @@ pub closed_child : {H : Type 0} (hash : List ℕ → List ℕ) (holds : H → Li
     (s : Stack (Frame H)) (f : Frame H) (n : OpenNode H) (fs : List (Frame H)) (node : Entry) (given : List Record)
     (os : List Open) (P : Cut) → Adds holds f.node n node → 0 < f.left
     → reverse s.list.items ≡ record { node = n; left = f.left - 1 } ∷ fs
-    → IsRead hash holds q m.head (f ∷ fs) m.tally node given os P
+    → HasReadCut hash holds q m.head (f ∷ fs) m.tally node given os P
     → WaitsPast hash holds q (record m { frames = s; stage = stage.Tag node.level }) given
     (after (ways_at q m.head) m.head node.level os P)
 closed_child hash holds q m s f n fs node given [] P adds some there r = absurd r.frames
@@ -97,8 +97,8 @@ pub missed_parent : {H : Type 0} (hash : List ℕ → List ℕ) (holds : H → L
     (t : RadiusCounts) (f : Frame H) (n : OpenNode H) (fs : List (Frame H)) (node x : Entry) (given : List Record)
     (os : List Open) (P : Cut) → Adds holds f.node n node → f.left ≡ 0
     → IsClosing (scheme hash h) holds n (node.level + 1) x
-    → opens_seen (ways_at q h) (option_map seen_at x.rect) ≡ false
-    → IsRead hash holds q h (f ∷ fs) t node given os P
+    → opens_seen (ways_at q h) (option_map key_at x.rect) ≡ false
+    → HasReadCut hash holds q h (f ∷ fs) t node given os P
     → past_notes (after (ways_at q h) h node.level os P) ≡ Err rule.Needless
 missed_parent hash holds q h t f n fs node x given [] P adds none c missed r = absurd r.frames
 missed_parent hash holds q h t f n fs node x given (o ∷ os) P adds none c missed r =
@@ -106,15 +106,15 @@ missed_parent hash holds q h t f n fs node x given (o ∷ os) P adds none c miss
     let v = node.level in
     let more = grown (scheme hash h) holds f n o P node refl r.frames.0 r.says adds in
     let whole : o.left ≡ 0 = sym r.frames.0.left ∙ none in
-    let here : opens_seen way (seen (closed o P)) ≡ false = ap
-    (λ (z : Option Rectangle). opens_seen way (option_map seen_at z)) (sym
+    let here : opens_seen way (key_of (closed o P)) ≡ false = ap
+    (λ (z : Option Rectangle). opens_seen way (option_map key_at z)) (sym
     (rect_closed (scheme hash h) holds n o P v x more c)) ∙ missed in
     ap past_notes (after_last way h v o os P whole) ∙ past_missed way (closed o P) (after way h (v + 1) os)
     here
 
 closes_as : {H : Type 0} (hash : List ℕ → List ℕ) (holds : H → List ℕ → Type 0) (q : Question) (m : Machine H)
-    (given : List Record) (g k : Grammar Said) (result : Option Rule) → past_notes g ≡ past_notes k
-    → Closes hash holds q m given k result → Closes hash holds q m given g result
+    (given : List Record) (g k : Grammar Parsed) (result : Option Rule) → past_notes g ≡ past_notes k
+    → ClosesNode hash holds q m given k result → ClosesNode hash holds q m given g result
 closes_as hash holds q m given g k None e w = record { next = w.next; past = e ∙ w.past; waits = w.waits }
 closes_as hash holds q m given g k (Some d) e w = e ∙ w
 
@@ -123,19 +123,19 @@ pub closed_parent : {H : Type 0} (hash : List ℕ → List ℕ) (holds : H → L
     (t : RadiusCounts) (m : Machine H) (f : Frame H) (n : OpenNode H) (fs : List (Frame H)) (node x : Entry)
     (given : List Record) (result : Option Rule) (os : List Open) (P : Cut) → Adds holds f.node n node → f.left ≡ 0
     → IsClosing (scheme hash h) holds n (node.level + 1) x
-    → opens_seen (ways_at q h) (option_map seen_at x.rect) ≡ true
-    → ((os : List Open) (P : Cut) → IsRead hash holds q h fs t x given os P
-    → Closes hash holds q m given (after (ways_at q h) h x.level os P) result)
-    → IsRead hash holds q h (f ∷ fs) t node given os P
-    → Closes hash holds q m given (after (ways_at q h) h node.level os P) result
+    → opens_seen (ways_at q h) (option_map key_at x.rect) ≡ true
+    → ((os : List Open) (P : Cut) → HasReadCut hash holds q h fs t x given os P
+    → ClosesNode hash holds q m given (after (ways_at q h) h x.level os P) result)
+    → HasReadCut hash holds q h (f ∷ fs) t node given os P
+    → ClosesNode hash holds q m given (after (ways_at q h) h node.level os P) result
 closed_parent hash holds q h t m f n fs node x given result [] P adds none c met behind_it r = absurd r.frames
 closed_parent hash holds q h t m f n fs node x given result (o ∷ os) P adds none c met behind_it r =
     let way = ways_at q h in
     let v = node.level in
     let more = grown (scheme hash h) holds f n o P node refl r.frames.0 r.says adds in
     let whole : o.left ≡ 0 = sym r.frames.0.left ∙ none in
-    let here : opens_seen way (seen (closed o P)) ≡ true = ap
-    (λ (z : Option Rectangle). opens_seen way (option_map seen_at z)) (sym
+    let here : opens_seen way (key_of (closed o P)) ≡ true = ap
+    (λ (z : Option Rectangle). opens_seen way (option_map key_at z)) (sym
     (rect_closed (scheme hash h) holds n o P v x more c)) ∙ met in
     closes_as hash holds q m given (after way h v (o ∷ os) P) (after way h x.level os (closed o P)) result
     (ap past_notes (after_last way h v o os P whole)

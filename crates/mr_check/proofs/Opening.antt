@@ -8,25 +8,25 @@ use Rattle.mr_geom.specs.Rectangle.{union_of}
 use Rattle.mr_record.specs.declared.record.Record.{Record}
 use Rattle.mr_tree.specs.Tree.{first_level}
 use Rattle.mr_tree.specs.Digest.{Scheme, entry_step, level_over, inner_tag}
-use Rattle.mr_tree.specs.Gathers.{Gathers, Piece, of_entry}
+use Rattle.mr_tree.specs.HasHashed.{HasHashed, Piece, of_entry}
 use Rattle.mr_tree.specs.declared.entry.Entry.{Entry}
 use Rattle.mr_proof.specs.Fields.{version}
 use Rattle.mr_check.specs.declared.open_node.OpenNode.{OpenNode}
-use Rattle.mr_check.specs.OpenNodes.{Gathered}
+use Rattle.mr_check.specs.private.OpenNodes.{Gathered}
 use Rattle.mr_tree.specs.declared.tree.Tree.TheOpen as node
 use Rattle.mr_tree.proofs.Gathered.{inner_gathered}
 use Rattle.mr_proof.specs.declared.head.Head.{Head}
 use Rattle.mr_proof.specs.declared.rule.Rule.TheVariants as rule
 use Rattle.mr_proof.specs.declared.want.Want.TheVariants as want
 use Rattle.mr_proof.specs.Cut.{Cut, Cuts, Inner, no_more, first, cuts_of, rect, entry, entries, records, all_records}
-use Rattle.mr_proof.specs.Spelling.{Said}
+use Rattle.mr_proof.specs.Spelling.{Parsed}
 use Rattle.mr_proof.specs.declared.way.Way.{Way}
-use Rattle.mr_proof.specs.Tight.{Seen, seen, opens_seen}
+use Rattle.mr_proof.specs.Tight.{Key, key_of, opens_seen}
 use Rattle.mr_proof.specs.Grammar.{Grammar, reads, opened, some_items, item, tag_in}
 use Rattle.mr_proof.proofs.Preimages.{entries-rects}
 use Rattle.mr_check.specs.declared.frame.Frame.{Frame}
-use Rattle.mr_check.specs.Stops.{past_notes, noted}
-use Rattle.mr_check.specs.Standing.{Open, with_front, after, node_next, said_of, levels_of, parts_of, IsFrame, so_far}
+use Rattle.mr_check.specs.private.Stops.{past_notes, noted}
+use Rattle.mr_check.specs.Machine.{Open, with_front, after, node_next, said_of, levels_of, pieces_of_cuts, IsFrame, so_far}
 
 -- ---- cuts of children
 
@@ -63,7 +63,7 @@ length-said s w (P ∷ front) = ap suc (length-said s w front)
 pub record Grown {H : Type 0} (s : Scheme) (holds : H → List ℕ → Type 0) (n : OpenNode H) (o : Open) (P : Cut)
     (w : ℕ) : Type 0 where
   pub gathers : Gathered holds n (inner_tag ∷ (w + 1) ∷ (length o.front + (o.left + 1)) ∷ [])
-      (parts_of s w (o.front ++ P ∷ []))
+      (pieces_of_cuts s w (o.front ++ P ∷ []))
   pub level : first_level (levels_of (said_of s w (o.front ++ P ∷ []))) ≡ w
 
 -- one more entry was added
@@ -81,8 +81,8 @@ grown s holds f n o P x one is says adds =
     let es = said_of s w o.front in
     let new : said_of s w (o.front ++ P ∷ []) ≡ es ++ x ∷ [] = map-append (entry s w) o.front (P ∷ [])
     ∙ ap (λ (e : Entry). es ++ e ∷ []) says in
-    let parts : parts_of s w o.front ++ of_entry version x ∷ [] ≡ parts_of s w (o.front ++ P ∷ []) =
-    (λ i. parts_of s w o.front ++ of_entry (sym one i) (sym says i) ∷ [])
+    let parts : pieces_of_cuts s w o.front ++ of_entry version x ∷ [] ≡ pieces_of_cuts s w (o.front ++ P ∷ []) =
+    (λ i. pieces_of_cuts s w o.front ++ of_entry (sym one i) (sym says i) ∷ [])
     ∙ sym (map-append (λ (P : Cut). of_entry s.version (entry s w P)) o.front (P ∷ [])) in
     record {
       gathers = subst (Gathered holds n (inner_tag ∷ (w + 1) ∷ (length o.front + (o.left + 1)) ∷ []))
@@ -104,12 +104,12 @@ stays_open s holds f n o P w is left some =
     record {
       left = ap (λ (n : ℕ). n - 1) left;
       gathers = subst (λ (k : ℕ). Gathered holds n (inner_tag ∷ (w + 1) ∷ k ∷ [])
-          (parts_of s w (o.front ++ P ∷ []))) count is.gathers;
+          (pieces_of_cuts s w (o.front ++ P ∷ []))) count is.gathers;
       level = λ _. is.level;
     }
 
 rect_of_all : (s : Scheme) (w : ℕ) (front : List Cut)
-    → union_of (map (λ (p : Piece). p.rect) (parts_of s w front)) ≡ rect (Inner (cuts_of front))
+    → union_of (map (λ (p : Piece). p.rect) (pieces_of_cuts s w front)) ≡ rect (Inner (cuts_of front))
 rect_of_all s w front =
     ap union_of (map-map (λ (p : Piece). p.rect) (λ (P : Cut). of_entry s.version (entry s w P)) front
     ∙ sym (map-map (λ (e : Entry). e.rect) (entry s w) front))
@@ -139,10 +139,10 @@ said_closed s holds n o P w x is none c =
     let children : entries s (x.level - 1) (cuts_of all) ≡ said_of s w all =
     ap (λ (k : ℕ). entries s k (cuts_of all)) below ∙ entries-cuts_of s w all in
     let level_is : w + 1 ≡ level_over (said_of s w all) = ap (λ (n : ℕ). n + 1) (sym is.level) in
-    let gathers : Gathers (holds n.hasher) x.rect x.mask x.count (inner_tag ∷ (w + 1) ∷ length all ∷ [])
-    (parts_of s w all) = record {
+    let gathers : HasHashed (holds n.hasher) x.rect x.mask x.count (inner_tag ∷ (w + 1) ∷ length all ∷ [])
+    (pieces_of_cuts s w all) = record {
       fed = subst (λ (k : ℕ). holds n.hasher ((inner_tag ∷ (w + 1) ∷ k ∷ [])
-          ++ flat_map (λ (p : Piece). p.bytes) (parts_of s w all))) long is.gathers.fed;
+          ++ flat_map (λ (p : Piece). p.bytes) (pieces_of_cuts s w all))) long is.gathers.fed;
       round = c.rect ∙ is.gathers.round;
       layers = c.mask ∙ is.gathers.layers;
       tally = c.count ∙ is.gathers.tally;
@@ -172,19 +172,19 @@ records_on os o P =
 
 -- ---- what follows a node
 
-pub item_waits : (way : Seen → Way) (v : ℕ) (next : Cut → Grammar Said)
+pub item_waits : (way : Key → Way) (v : ℕ) (next : Cut → Grammar Parsed)
     → item way v next ≡ reads (want.Tag v) (λ t. node_next way v next (tag_in t))
 item_waits way zero next = refl
 item_waits way (suc v) next = refl
 
-items_more : (way : Seen → Way) (w n : ℕ) (front : List Cut) (P : Cut) (X : Cuts → Grammar Said)
+items_more : (way : Key → Way) (w n : ℕ) (front : List Cut) (P : Cut) (X : Cuts → Grammar Parsed)
     → some_items (item way w) (suc n) (λ Ps. X (with_front front (first P Ps)))
     ≡ item way w (λ Q. some_items (item way w) n (λ Ps. X (with_front (front ++ P ∷ []) (first Q Ps))))
 items_more way w n front P X =
     λ j. item way w (λ Q. some_items (item way w) n (λ Ps. X (with_front-append front P (first Q Ps) j)))
 
 -- where more children follow, the next one's item does
-pub after_more : (way : Seen → Way) (h : Head) (w : ℕ) (o : Open) (os : List Open) (P : Cut) → 0 < o.left
+pub after_more : (way : Key → Way) (h : Head) (w : ℕ) (o : Open) (os : List Open) (P : Cut) → 0 < o.left
     → after way h w (o ∷ os) P ≡ item way w (after way h w (one_on o P ∷ os))
 after_more way h w o os P some =
     let e : o.left ≡ suc (o.left - 1) = omega arith in
@@ -193,21 +193,21 @@ after_more way h w o os P some =
     ∙ items_more way w (o.left - 1) o.front P X
 
 -- where none does, the node is whole
-pub after_last : (way : Seen → Way) (h : Head) (w : ℕ) (o : Open) (os : List Open) (P : Cut) → o.left ≡ 0
+pub after_last : (way : Key → Way) (h : Head) (w : ℕ) (o : Open) (os : List Open) (P : Cut) → o.left ≡ 0
     → after way h w (o ∷ os) P ≡ opened way (closed o P) (after way h (w + 1) os)
 after_last way h w o os P none =
     let X = λ (Ps : Cuts). opened way (Inner Ps) (after way h (w + 1) os) in
     ap (λ (n : ℕ). some_items (item way w) n (λ Ps. X (with_front o.front (first P Ps)))) none
     ∙ ap X (with_front-append o.front P no_more ∙ with_front-none (o.front ++ P ∷ []))
 
-items_quiet : (way : Seen → Way) (w n : ℕ) (X : Cuts → Grammar Said) → ((Ps : Cuts) → noted (X Ps) ≡ [])
+items_quiet : (way : Key → Way) (w n : ℕ) (X : Cuts → Grammar Parsed) → ((Ps : Cuts) → noted (X Ps) ≡ [])
     → noted (some_items (item way w) n X) ≡ []
 items_quiet way w zero X quiet = quiet no_more
 items_quiet way w (suc n) X quiet =
     ap noted (item_waits way w (λ P. some_items (item way w) n (λ Ps. X (first P Ps))))
 
 -- no record is noted behind a node
-pub after_quiet : (way : Seen → Way) (h : Head) (w : ℕ) (os : List Open) (P : Cut)
+pub after_quiet : (way : Key → Way) (h : Head) (w : ℕ) (os : List Open) (P : Cut)
     → noted (after way h w os P) ≡ []
 after_quiet way h w [] P = refl
 after_quiet way h w (o ∷ os) P =
@@ -216,10 +216,10 @@ after_quiet way h w (o ∷ os) P =
     (λ Ps. after_quiet way h (w + 1) os (Inner (with_front o.front (first P Ps))))
 
 -- past an opened node that the region meets, or misses
-pub past_met : (way : Seen → Way) (P : Cut) (next : Cut → Grammar Said) → opens_seen way (seen P) ≡ true
+pub past_met : (way : Key → Way) (P : Cut) (next : Cut → Grammar Parsed) → opens_seen way (key_of P) ≡ true
     → past_notes (opened way P next) ≡ past_notes (next P)
 past_met way P next met = rw met refl
 
-pub past_missed : (way : Seen → Way) (P : Cut) (next : Cut → Grammar Said) → opens_seen way (seen P) ≡ false
+pub past_missed : (way : Key → Way) (P : Cut) (next : Cut → Grammar Parsed) → opens_seen way (key_of P) ≡ false
     → past_notes (opened way P next) ≡ Err rule.Needless
 past_missed way P next missed = rw missed refl

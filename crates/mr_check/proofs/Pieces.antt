@@ -1,15 +1,15 @@
--- Pieces of a proof, turn by turn.
+-- Pieces of a proof, field by field.
 use Rattle.std.proofs.Common.{◌≡◌, ℕ, ◌-◌, ◌+◌, ◌≤◌, List, [], ◌∷◌, ◌++◌, length, take, drop, None, sym, ap, subst, ◌∙◌, append_assoc, arith}
 use Rattle.std.proofs.lemmas.List.{append-nil, take-append-drop, take-take, drop-take}
 use Rattle.mr_record.specs.declared.record.Record.{Record}
 use Rattle.mr_proof.specs.declared.rule.Fault.{Fault}
 use Rattle.mr_check.specs.declared.reader.Reader.{Reader}
-use Rattle.mr_check.specs.declared.reader.Turn.TheVariants as turns
+use Rattle.mr_check.specs.declared.reader.Progress.TheVariants as turns
 use Rattle.mr_check.specs.declared.fed.Fed.TheVariants as fed
 use Rattle.mr_proof.specs.Handed.{handed_out}
-use Rattle.mr_check.specs.Stops.{stop_of}
+use Rattle.mr_check.specs.private.Stops.{stop_of}
 use Rattle.mr_proof.specs.Tight.{Question}
-use Rattle.mr_check.specs.Reads.{FitsReader, StandsAt, Turns, FedBy, SoFar}
+use Rattle.mr_check.specs.private.Reads.{FitsReader, StandsAt, MakesProgress, FedBy, SoFar}
 
 -- the front of a list, and then the front of what is left
 pub take_both : {X : Type 0} (at n : ℕ) (xs : List X) → take at xs ++ take n (drop at xs) ≡ take (at + n) xs
@@ -39,7 +39,7 @@ whole s piece at =
 pub took : {H : Type 0} (hash : List ℕ → List ℕ) (holds : H → List ℕ → Type 0) (q : Question) (old r new : Reader H)
     (piece rest : List ℕ) (at n : ℕ) → rest ≡ drop at piece → SoFar hash holds q old r piece at → FitsReader new
     → new.fault ≡ None → at + n ≤ length piece
-    → ((s : List ℕ) → StandsAt hash holds q r s → Turns hash holds q s rest new (turns.Took n))
+    → ((s : List ℕ) → StandsAt hash holds q r s → MakesProgress hash holds q s rest new (turns.Took n))
     → SoFar hash holds q old new piece (at + n)
 took hash holds q old r new piece rest at n is so fits none within turn = record {
   within = within;
@@ -58,7 +58,7 @@ took hash holds q old r new piece rest at n is so fits none within turn = record
 pub all_taken : {H : Type 0} (hash : List ℕ → List ℕ) (holds : H → List ℕ → Type 0) (q : Question)
     (old r new : Reader H)
     (piece rest : List ℕ) (at : ℕ) → rest ≡ drop at piece → SoFar hash holds q old r piece at
-    → ((s : List ℕ) → StandsAt hash holds q r s → Turns hash holds q s rest new turns.More)
+    → ((s : List ℕ) → StandsAt hash holds q r s → MakesProgress hash holds q s rest new turns.More)
     → (s : List ℕ) → StandsAt hash holds q old s → FedBy hash holds q s piece new fed.More
 all_taken hash holds q old r new piece rest at is so turn s here =
     let t = turn (s ++ take at piece) (so.stands s here) in
@@ -69,7 +69,7 @@ all_taken hash holds q old r new piece rest at is so turn s here =
 
 pub found : {H : Type 0} (hash : List ℕ → List ℕ) (holds : H → List ℕ → Type 0) (q : Question) (old r new : Reader H)
     (piece rest : List ℕ) (at n : ℕ) → rest ≡ drop at piece → 1 ≤ n → SoFar hash holds q old r piece at
-    → ((s : List ℕ) → StandsAt hash holds q r s → Turns hash holds q s rest new (turns.Found n))
+    → ((s : List ℕ) → StandsAt hash holds q r s → MakesProgress hash holds q s rest new (turns.Found n))
     → (s : List ℕ) → StandsAt hash holds q old s → FedBy hash holds q s piece new
     (fed.Found (at + n) new.machine.latest)
 found hash holds q old r new piece rest at n is some so turn s here =
@@ -88,7 +88,7 @@ found hash holds q old r new piece rest at n is some so turn s here =
 
 pub broken : {H : Type 0} (hash : List ℕ → List ℕ) (holds : H → List ℕ → Type 0) (q : Question) (old r new : Reader H)
     (piece rest : List ℕ) (at : ℕ) (f : Fault) → rest ≡ drop at piece → SoFar hash holds q old r piece at
-    → ((s : List ℕ) → StandsAt hash holds q r s → Turns hash holds q s rest new (turns.Broken f))
+    → ((s : List ℕ) → StandsAt hash holds q r s → MakesProgress hash holds q s rest new (turns.Broken f))
     → (s : List ℕ) → StandsAt hash holds q old s → FedBy hash holds q s piece new (fed.Fault f)
 broken hash holds q old r new piece rest at f is so turn s here =
     let t = turn (s ++ take at piece) (so.stands s here) in

@@ -7,8 +7,8 @@ use Rattle.std.proofs.lemmas.List.{append-nil, map-append}
 use Rattle.std.proofs.lemmas.List.Sums.{fold-append, sum_by-append}
 use Rattle.mr_geom.specs.Rectangle.{Rectangle, join, union_of}
 use Rattle.mr_tree.specs.Tree.{mask_of}
-use Rattle.mr_tree.specs.Gathers.{Gathers, Piece}
-use Rattle.mr_check.specs.OpenNodes.{IsSilent}
+use Rattle.mr_tree.specs.HasHashed.{HasHashed, Piece}
+use Rattle.mr_check.specs.private.OpenNodes.{IsSilent}
 
 abbrev bytes_of : Piece → List ℕ
 bytes_of p = p.bytes
@@ -26,7 +26,7 @@ tally_of p = p.count
 pub silent_more : (before after : List ℕ → Type 0) (old new : Option Rectangle) (head bytes : List ℕ)
     (rect : Option Rectangle) (pieces : List Piece) (p : Piece) → IsSilent p bytes rect
     → ((fed : List ℕ) → before fed → after (fed ++ bytes)) → new ≡ join old rect
-    → Gathers before old 0 0 head pieces → Gathers after new 0 0 head (pieces ++ p ∷ [])
+    → HasHashed before old 0 0 head pieces → HasHashed after new 0 0 head (pieces ++ p ∷ [])
 silent_more before after old new head bytes rect pieces p silent feeds joins is =
     let fed = flat_map bytes_of pieces in
     let more : flat_map bytes_of (pieces ++ p ∷ []) ≡ fed ++ bytes =

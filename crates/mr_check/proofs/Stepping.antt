@@ -7,10 +7,10 @@ use Rattle.std.proofs.lemmas.List.Elements.{filter-append}
 use Rattle.mr_geom.specs.Rectangle.{Rectangle}
 use Rattle.mr_record.specs.declared.record.Record.{Record}
 use Rattle.mr_tree.specs.Digest.{leaf_tag, inner_tag, no_entry}
-use Rattle.mr_tree.specs.Gathers.{Piece, of_record}
+use Rattle.mr_tree.specs.HasHashed.{Piece, of_record}
 use Rattle.mr_tree.specs.declared.entry.Entry.{Entry}
 use Rattle.mr_check.specs.declared.open_node.OpenNode.{OpenNode}
-use Rattle.mr_check.specs.OpenNodes.{Gathered}
+use Rattle.mr_check.specs.private.OpenNodes.{Gathered}
 use Rattle.mr_tree.proofs.Gathered.{leaf_gathered}
 use Rattle.mr_proof.specs.declared.head.Head.{Head}
 use Rattle.mr_proof.specs.declared.rule.Rule.{Rule}
@@ -19,10 +19,10 @@ use Rattle.mr_proof.specs.declared.want.Want.TheVariants as want
 use Rattle.mr_proof.specs.declared.field.Field.{Field}
 use Rattle.mr_proof.specs.Fields.{version, pruned_tag}
 use Rattle.mr_proof.specs.Cut.{Cut, Cuts, Pruned, Leaf, Inner, entry_shown, rect}
-use Rattle.mr_proof.specs.declared.shown.Shown.{Shown}
-use Rattle.mr_proof.specs.Spelling.{Said, said}
+use Rattle.mr_proof.specs.declared.pruned_entry.PrunedEntry.{PrunedEntry}
+use Rattle.mr_proof.specs.Spelling.{Parsed, said}
 use Rattle.mr_proof.specs.declared.way.Way.{Way}
-use Rattle.mr_proof.specs.Tight.{Seen, seen_at, seen, opens_seen, Question, opens_at, keeps_at}
+use Rattle.mr_proof.specs.Tight.{Key, key_at, key_of, opens_seen, Question, opens_at, keeps_at}
 use Rattle.mr_proof.specs.Grammar.{Grammar, done, reads, notes, opens, number_in, tag_in, bytes_in, some_records, opened, some_items, item, part}
 use Rattle.mr_check.specs.declared.frame.Frame.{Frame}
 use Rattle.mr_check.specs.declared.frame.Stack.{Stack}
@@ -31,25 +31,25 @@ use Rattle.mr_check.specs.declared.stage.Stage.{Stage}
 use Rattle.mr_check.specs.declared.stage.Stage.TheVariants as stage
 use Rattle.mr_check.specs.declared.radius_counts.RadiusCounts.{RadiusCounts}
 use Rattle.mr_check.specs.declared.machine.Machine.{Machine}
-use Rattle.mr_check.specs.declared.machine.Stepped.TheVariants as stepped
-use Rattle.mr_check.specs.Stops.{past_notes, noted}
-use Rattle.mr_check.specs.Counting.{Counts}
-use Rattle.mr_check.specs.Heads.{head_left}
-use Rattle.mr_check.specs.Standing.{Open, Above, after, after_record, node_next, shown_next, stage_of, stage_behind, opened_item, behind_number, behind_sides, behind_length, head_next, ways_at, is_handed_out, frames_of, AreFrames, IsLeaf, so_far, scheme, InTree, InHead, IsRead, LeafRead, Waits, WaitsPast, Steps, Closes, stepped_by, found_by, plus}
+use Rattle.mr_check.specs.declared.machine.StepResult.TheVariants as stepped
+use Rattle.mr_check.specs.private.Stops.{past_notes, noted}
+use Rattle.mr_check.specs.private.Counting.{CountsRecords}
+use Rattle.mr_check.specs.private.Heads.{head_left}
+use Rattle.mr_check.specs.Machine.{Open, Above, after, after_record, node_next, shown_next, stage_of, stage_behind, opened_item, behind_number, behind_sides, behind_length, head_next, ways_at, is_handed_out, frames_of, AreFrames, IsLeaf, so_far, scheme, InTree, InHead, HasReadCut, LeafRead, WaitsForField, WaitsPast, StepsPastField, ClosesNode, stepped_by, found_by, plus}
 use Rattle.mr_check.proofs.Opening.{IsClosing, item_waits, after_quiet, past_met, past_missed}
 
 -- ---- a step from what it waits for
 
 waits_on : {H : Type 0} (hash : List ℕ → List ℕ) (holds : H → List ℕ → Type 0) (q : Question) (m : Machine H)
-    (given : List Record) (g next : Grammar Said) → noted g ≡ [] → past_notes g ≡ Ok next
-    → Waits hash holds q m given next → Steps hash holds q m given g stepped.On
+    (given : List Record) (g next : Grammar Parsed) → noted g ≡ [] → past_notes g ≡ Ok next
+    → WaitsForField hash holds q m given next → StepsPastField hash holds q m given g stepped.On
 waits_on hash holds q m given g next quiet past waits =
     (quiet, record { next = next; past = past; waits = waits })
 
 -- a close gives a step
 pub close_steps : {H : Type 0} (hash : List ℕ → List ℕ) (holds : H → List ℕ → Type 0) (q : Question) (m : Machine H)
-    (given : List Record) (g : Grammar Said) (broken : Option Rule) → noted g ≡ []
-    → Closes hash holds q m given g broken → Steps hash holds q m given g (stepped_by broken)
+    (given : List Record) (g : Grammar Parsed) (broken : Option Rule) → noted g ≡ []
+    → ClosesNode hash holds q m given g broken → StepsPastField hash holds q m given g (stepped_by broken)
 close_steps hash holds q m given g None quiet w = (quiet, w)
 close_steps hash holds q m given g (Some d) quiet w = w
 
@@ -58,13 +58,14 @@ close_steps hash holds q m given g (Some d) quiet w = w
 behind_head : {H : Type 0} (hash : List ℕ → List ℕ) (holds : H → List ℕ → Type 0) (q : Question) (m : Machine H)
     (given : List Record) (h : Head) → h.kind ≡ m.head.kind
     → InHead q m.head (frames_of m) m.tally given
-    → Steps hash holds q (record m { head = h; stage = stage_behind h None }) given (part q.way h) stepped.On
+    → StepsPastField hash holds q (record m { head = h; stage = stage_behind h None }) given (part q.way h) stepped.On
 behind_head hash holds q m given h kind is = elim (cases_Bool (eqb h.count 0)) [
   | inl t ↦
       let none : h.count ≡ 0 = eqb-true h.count 0 t in
       let here : stage_behind h None ≡ stage.End no_entry = rw t refl in
       let there : part q.way h ≡ done (said h None) = rw t refl in
-      let steps : Steps hash holds q (record m { head = h; stage = stage.End no_entry }) given (done (said h None))
+      let steps : StepsPastField hash holds q (record m { head = h; stage = stage.End no_entry }) given
+      (done (said h None))
       stepped.On =
       waits_on hash holds q (record m { head = h; stage = stage.End no_entry }) given (done (said h None))
       (done (said h None)) refl refl (record {
@@ -87,7 +88,7 @@ behind_head hash holds q m given h kind is = elim (cases_Bool (eqb h.count 0)) [
       let there : part q.way h ≡ reads (want.Tag h.level) (λ t. node_next way h.level next (tag_in t)) =
       (rw f refl) ∙ item_waits way h.level next in
       let g = reads (want.Tag h.level) (λ t. node_next way h.level next (tag_in t)) in
-      let steps : Steps hash holds q (record m { head = h; stage = stage.Tag h.level }) given g stepped.On =
+      let steps : StepsPastField hash holds q (record m { head = h; stage = stage.Tag h.level }) given g stepped.On =
       waits_on hash holds q (record m { head = h; stage = stage.Tag h.level }) given g g refl refl (record {
         above = record { nodes = []; records = [] };
         whole = None;
@@ -108,7 +109,7 @@ behind_head hash holds q m given h kind is = elim (cases_Bool (eqb h.count 0)) [
 behind_left : {H : Type 0} (hash : List ℕ → List ℕ) (holds : H → List ℕ → Type 0) (q : Question) (m : Machine H)
     (given : List Record) (h : Head) (next : Option HeadField) → h.kind ≡ m.head.kind
     → InHead q m.head (frames_of m) m.tally given
-    → Steps hash holds q (record m { head = h; stage = stage_behind h next }) given
+    → StepsPastField hash holds q (record m { head = h; stage = stage_behind h next }) given
     (head_left q.way h next) stepped.On
 behind_left hash holds q m given h None kind is = behind_head hash holds q m given h kind is
 behind_left hash holds q m given h (Some f) kind is =
@@ -122,12 +123,13 @@ behind_left hash holds q m given h (Some f) kind is =
 
 pub headed : {H : Type 0} (hash : List ℕ → List ℕ) (holds : H → List ℕ → Type 0) (q : Question) (m : Machine H)
     (given : List Record) (h : Head) (next : Option HeadField) (at : HeadField) (v : Field) → h.kind ≡ m.head.kind
-    → ((way : Option ℕ → Seen → Way) → head_next way m.head at v ≡ head_left way h next)
+    → ((way : Option ℕ → Key → Way) → head_next way m.head at v ≡ head_left way h next)
     → InHead q m.head (frames_of m) m.tally given
-    → Steps hash holds q (record m { head = h; stage = stage_behind h next }) given
+    → StepsPastField hash holds q (record m { head = h; stage = stage_behind h next }) given
     (head_next q.way m.head at v) stepped.On
 headed hash holds q m given h next at v kind goes is =
-    subst (λ (g : Grammar Said). Steps hash holds q (record m { head = h; stage = stage_behind h next }) given g
+    subst (λ (g : Grammar Parsed). StepsPastField hash holds q (record m { head = h; stage = stage_behind h next })
+    given g
     stepped.On) (sym (goes q.way)) (behind_left hash holds q m given h next kind is)
 
 -- ---- items
@@ -135,7 +137,7 @@ headed hash holds q m given h next at v kind goes is =
 opened_steps : {H : Type 0} (hash : List ℕ → List ℕ) (holds : H → List ℕ → Type 0) (q : Question) (m : Machine H)
     (v : ℕ) (given : List Record) (a : Above) → a.records ≡ []
     → InTree hash holds q m.head (frames_of m) m.tally v given a
-    → Steps hash holds q (record m { stage = (if v == 0 then stage.Records else stage.Entries (v - 1)) }) given
+    → StepsPastField hash holds q (record m { stage = (if v == 0 then stage.Records else stage.Entries (v - 1)) }) given
     (opened_item (ways_at q m.head) v (after (ways_at q m.head) m.head v a.nodes)) stepped.On
 opened_steps hash holds q m zero given a none is =
     let g = opened_item (ways_at q m.head) 0 (after (ways_at q m.head) m.head 0 a.nodes) in
@@ -149,7 +151,7 @@ opened_steps hash holds q m (suc w) given a none is =
     let g = opened_item way (suc w) (after way m.head (suc w) a.nodes) in
     let k = opened_item way (suc w) (after way m.head (w + 1) a.nodes) in
     let same : k ≡ g = ap (λ (n : ℕ). opened_item way (suc w) (after way m.head n a.nodes)) (sym up) in
-    let steps : Steps hash holds q (record m { stage = stage.Entries w }) given k stepped.On =
+    let steps : StepsPastField hash holds q (record m { stage = stage.Entries w }) given k stepped.On =
     waits_on hash holds q (record m { stage = stage.Entries w }) given k k refl refl (record {
       above = a;
       whole = None;
@@ -158,14 +160,15 @@ opened_steps hash holds q m (suc w) given a none is =
     }) in
     let here : stage.Entries w ≡ (if suc w == 0 then stage.Records else stage.Entries (suc w - 1)) =
     rw (not_leaf, below) refl in
-    subst (λ (s : Stage). Steps hash holds q (record m { stage = s }) given g stepped.On) here
-    (subst (λ (x : Grammar Said). Steps hash holds q (record m { stage = stage.Entries w }) given x stepped.On) same
+    subst (λ (s : Stage). StepsPastField hash holds q (record m { stage = s }) given g stepped.On) here
+    (subst (λ (x : Grammar Parsed). StepsPastField hash holds q (record m { stage = stage.Entries w }) given x
+    stepped.On) same
     steps)
 
 pub tagged : {H : Type 0} (hash : List ℕ → List ℕ) (holds : H → List ℕ → Type 0) (q : Question) (m : Machine H)
     (v t : ℕ) (given : List Record) (a : Above) → a.records ≡ []
     → InTree hash holds q m.head (frames_of m) m.tally v given a
-    → Steps hash holds q (record m { stage = stage_of v t }) given
+    → StepsPastField hash holds q (record m { stage = stage_of v t }) given
     (node_next (ways_at q m.head) v (after (ways_at q m.head) m.head v a.nodes) t) stepped.On
 tagged hash holds q m v t given a none is = elim (cases_Bool (eqb t pruned_tag)) [
   | inl p ↦ rw p
@@ -176,14 +179,14 @@ tagged hash holds q m v t given a none is = elim (cases_Bool (eqb t pruned_tag))
   | inr o ↦ rw o (opened_steps hash holds q m v given a none is)
 ]
 
-pub shown_met : (way : Seen → Way) (r : Rectangle) (next : Cut → Grammar Said) → opens_at way r ≡ true
+pub shown_met : (way : Key → Way) (r : Rectangle) (next : Cut → Grammar Parsed) → opens_at way r ≡ true
     → past_notes (shown_next way next r) ≡ Err rule.Hidden
 shown_met way r next handed_on = rw handed_on refl
 
 pub shown_missed : {H : Type 0} (hash : List ℕ → List ℕ) (holds : H → List ℕ → Type 0) (q : Question) (m : Machine H)
     (v : ℕ) (r : Rectangle) (given : List Record) (a : Above) → opens_at (ways_at q m.head) r ≡ false
     → a.records ≡ [] → InTree hash holds q m.head (frames_of m) m.tally v given a
-    → Steps hash holds q (record m { stage = stage.Digest v r }) given
+    → StepsPastField hash holds q (record m { stage = stage.Digest v r }) given
     (shown_next (ways_at q m.head) (after (ways_at q m.head) m.head v a.nodes) r) stepped.On
 shown_missed hash holds q m v r given a missed none is =
     let next = after (ways_at q m.head) m.head v a.nodes in
@@ -193,9 +196,9 @@ shown_missed hash holds q m v r given a missed none is =
     past (record { above = a; whole = None; waits = refl; is_open = (none, is) })
 
 pub pruned_read : {H : Type 0} (hash : List ℕ → List ℕ) (holds : H → List ℕ → Type 0) (q : Question) (h : Head)
-    (fs : List (Frame H)) (t : RadiusCounts) (v : ℕ) (part : Shown) (x : Entry) (given : List Record) (a : Above)
+    (fs : List (Frame H)) (t : RadiusCounts) (v : ℕ) (part : PrunedEntry) (x : Entry) (given : List Record) (a : Above)
     → x ≡ entry_shown v part → a.records ≡ [] → InTree hash holds q h fs t v given a
-    → IsRead hash holds q h fs t x given a.nodes (Pruned part)
+    → HasReadCut hash holds q h fs t x given a.nodes (Pruned part)
 pruned_read hash holds q h fs t v part x given a says none is =
     let low : x.level ≡ v = ap (λ (y : Entry). y.level) says in
     record {
@@ -208,18 +211,18 @@ pruned_read hash holds q h fs t v part x given a says none is =
 
 -- what a node of this level that was read whole leads to, where it is said of by its own level
 pub closed_at : {H : Type 0} (hash : List ℕ → List ℕ) (holds : H → List ℕ → Type 0) (q : Question) (m : Machine H)
-    (h : Head) (given : List Record) (way : Seen → Way) (v w : ℕ) (os : List Open) (P : Cut) (broken : Option Rule)
-    → w ≡ v → Closes hash holds q m given (after way h w os P) broken
-    → Closes hash holds q m given (after way h v os P) broken
+    (h : Head) (given : List Record) (way : Key → Way) (v w : ℕ) (os : List Open) (P : Cut) (broken : Option Rule)
+    → w ≡ v → ClosesNode hash holds q m given (after way h w os P) broken
+    → ClosesNode hash holds q m given (after way h v os P) broken
 closed_at hash holds q m h given way v w os P broken e c =
-    subst (λ (k : ℕ). Closes hash holds q m given (after way h k os P) broken) e c
+    subst (λ (k : ℕ). ClosesNode hash holds q m given (after way h k os P) broken) e c
 
 pub inner_opened : {H : Type 0} (hash : List ℕ → List ℕ) (holds : H → List ℕ → Type 0) (q : Question) (m : Machine H)
     (s : Stack (Frame H)) (x : OpenNode H) (w n : ℕ) (given : List Record) (a : Above) → 1 ≤ n
     → Gathered holds x (inner_tag ∷ (w + 1) ∷ n ∷ []) []
     → reverse s.list.items ≡ record { node = x; left = n - 1 } ∷ frames_of m
     → a.records ≡ [] → InTree hash holds q m.head (frames_of m) m.tally (w + 1) given a
-    → Steps hash holds q (record m { frames = s; stage = stage.Tag w }) given
+    → StepsPastField hash holds q (record m { frames = s; stage = stage.Tag w }) given
     (some_items (item (ways_at q m.head) w) n (λ Ps. opened (ways_at q m.head) (Inner Ps)
     (after (ways_at q m.head) m.head (w + 1) a.nodes))) stepped.On
 inner_opened hash holds q m s x w n given a some gathers there none is =
@@ -261,7 +264,7 @@ inner_opened hash holds q m s x w n given a some gathers there none is =
 
 -- ---- records
 
-record_waits : (way : Seen → Way) (h : Head) (n : ℕ) (os : List Open) (rs : List Record) (r : Record)
+record_waits : (way : Key → Way) (h : Head) (n : ℕ) (os : List Open) (rs : List Record) (r : Record)
     → some_records way (suc n) (λ ts. opened way (Leaf (rs ++ r ∷ ts)) (after way h 0 os))
     ≡ reads want.Number (λ v. behind_number (after_record way h n os (rs ++ r ∷ [])) (number_in v))
 record_waits way h n os rs r =
@@ -269,7 +272,7 @@ record_waits way h n os rs r =
     (some_records way n (λ ts. opened way (Leaf (sym (append_assoc rs (r ∷ []) (x ∷ ts)) j))
     (after way h 0 os)))) (number_in v))
 
-first_waits : (way : Seen → Way) (h : Head) (n : ℕ) (os : List Open)
+first_waits : (way : Key → Way) (h : Head) (n : ℕ) (os : List Open)
     → some_records way (suc n) (λ ts. opened way (Leaf ts) (after way h 0 os))
     ≡ reads want.Number (λ v. behind_number (after_record way h n os []) (number_in v))
 first_waits way h n os = refl
@@ -278,7 +281,7 @@ pub leaf_opened : {H : Type 0} (hash : List ℕ → List ℕ) (holds : H → Lis
     (x : OpenNode H) (n : ℕ) (given : List Record) (a : Above) → 1 ≤ n
     → Gathered holds x (leaf_tag ∷ n ∷ []) []
     → a.records ≡ [] → InTree hash holds q m.head (frames_of m) m.tally 0 given a
-    → Steps hash holds q (record m { leaf = record { node = x; left = n - 1 }; stage = stage.Number })
+    → StepsPastField hash holds q (record m { leaf = record { node = x; left = n - 1 }; stage = stage.Number })
     given (some_records (ways_at q m.head) n (λ rs. opened (ways_at q m.head) (Leaf rs)
     (after (ways_at q m.head) m.head 0 a.nodes))) stepped.On
 leaf_opened hash holds q m x n given a some gathers none is =
@@ -322,15 +325,15 @@ kept_more q h false given rs r handed_on kept =
 
 -- a step that hands out the record where it is met
 found_steps : {H : Type 0} (hash : List ℕ → List ℕ) (holds : H → List ℕ → Type 0) (q : Question) (m : Machine H)
-    (given : List Record) (handed_on : Bool) (r : Record) (g : Grammar Said) → m.latest ≡ r → noted g ≡ []
+    (given : List Record) (handed_on : Bool) (r : Record) (g : Grammar Parsed) → m.latest ≡ r → noted g ≡ []
     → WaitsPast hash holds q m (plus handed_on given r) g
-    → Steps hash holds q m given (notes (opens r handed_on) g) (found_by None handed_on)
+    → StepsPastField hash holds q m given (notes (opens r handed_on) g) (found_by None handed_on)
 found_steps hash holds q m given true r g is quiet w = (
   (λ i. sym is i ∷ quiet i),
   record {
     next = w.next;
     past = w.past;
-    waits = subst (λ (x : Record). Waits hash holds q m (given ++ x ∷ []) w.next) (sym is) w.waits;
+    waits = subst (λ (x : Record). WaitsForField hash holds q m (given ++ x ∷ []) w.next) (sym is) w.waits;
   },
 )
 found_steps hash holds q m given false r g is quiet w =
@@ -354,9 +357,9 @@ added holds m n r rs k j e adds is =
 pub record_on : {H : Type 0} (hash : List ℕ → List ℕ) (holds : H → List ℕ → Type 0) (q : Question) (m : Machine H)
     (n : OpenNode H) (t : RadiusCounts) (handed_on : Bool) (given : List Record) (a : Above)
     → AddsRecord holds m.leaf.node n m.latest → 0 < m.leaf.left → handed_on ≡ is_handed_out q m.head m.latest
-    → Counts q.around m.head.radius (plus handed_on given m.latest) t
+    → CountsRecords q.around m.head.radius (plus handed_on given m.latest) t
     → IsLeaf holds m.leaf a.records → InTree hash holds q m.head (frames_of m) m.tally 0 given a
-    → Steps hash holds q (record m {
+    → StepsPastField hash holds q (record m {
       leaf = record { node = n; left = m.leaf.left - 1 };
       tally = t;
       stage = stage.Number;
@@ -395,7 +398,7 @@ record_on hash holds q m n t handed_on given a adds some is_met counts leaf is =
         );
       };
     } in
-    subst (λ (b : Bool). Steps hash holds q after_it given (notes (opens r b) (some_records way left X))
+    subst (λ (b : Bool). StepsPastField hash holds q after_it given (notes (opens r b) (some_records way left X))
     (found_by None handed_on)) is_met
     (found_steps hash holds q after_it given handed_on r (some_records way left X) refl (ap noted reads_on) w)
 
@@ -403,7 +406,7 @@ record_on hash holds q m n t handed_on given a adds some is_met counts leaf is =
 pub leaf_read : {H : Type 0} (hash : List ℕ → List ℕ) (holds : H → List ℕ → Type 0) (q : Question) (h : Head)
     (fs : List (Frame H)) (old new : RadiusCounts) (f : Frame H) (n : OpenNode H) (handed_on : Bool) (r : Record)
     (given : List Record) (a : Above) → AddsRecord holds f.node n r → f.left ≡ 0 → handed_on ≡ is_handed_out q h r
-    → Counts q.around h.radius (plus handed_on given r) new
+    → CountsRecords q.around h.radius (plus handed_on given r) new
     → IsLeaf holds f a.records → InTree hash holds q h fs old 0 given a
     → LeafRead hash holds q h fs new (record { node = n; left = f.left }) (plus handed_on given r) a r
 leaf_read hash holds q h fs old new f n handed_on r given a adds none is_met counts leaf is =
@@ -423,7 +426,7 @@ pub leaf_said : {H : Type 0} (hash : List ℕ → List ℕ) (holds : H → List 
     (fs : List (Frame H)) (t : RadiusCounts) (f : Frame H) (x : Entry) (given : List Record) (a : Above) (r : Record)
     → IsClosing (scheme hash h) holds f.node 0 x
     → LeafRead hash holds q h fs t f given a r
-    → IsRead hash holds q h fs t x given a.nodes (Leaf (a.records ++ r ∷ []))
+    → HasReadCut hash holds q h fs t x given a.nodes (Leaf (a.records ++ r ∷ []))
 leaf_said hash holds q h fs t f x given a r c is =
     let all = a.records ++ r ∷ [] in
     record {
@@ -443,18 +446,18 @@ leaf_rect : {H : Type 0} (hash : List ℕ → List ℕ) (holds : H → List ℕ 
     (fs : List (Frame H)) (t : RadiusCounts) (f : Frame H) (x : Entry) (given : List Record) (a : Above) (r : Record)
     (b : Bool)
     → IsClosing (scheme hash h) holds f.node 0 x
-    → opens_seen (ways_at q h) (option_map seen_at x.rect) ≡ b
+    → opens_seen (ways_at q h) (option_map key_at x.rect) ≡ b
     → LeafRead hash holds q h fs t f given a r
-    → opens_seen (ways_at q h) (seen (Leaf (a.records ++ r ∷ []))) ≡ b
+    → opens_seen (ways_at q h) (key_of (Leaf (a.records ++ r ∷ []))) ≡ b
 leaf_rect hash holds q h fs t f x given a r b c handed_on is =
     let place : x.rect ≡ rect (Leaf (a.records ++ r ∷ [])) =
     sym (ap (λ (y : Entry). y.rect) (leaf_said hash holds q h fs t f x given a r c is).says) in
-    ap (λ (z : Option Rectangle). opens_seen (ways_at q h) (option_map seen_at z)) (sym place) ∙ handed_on
+    ap (λ (z : Option Rectangle). opens_seen (ways_at q h) (option_map key_at z)) (sym place) ∙ handed_on
 
 pub leaf_missed : {H : Type 0} (hash : List ℕ → List ℕ) (holds : H → List ℕ → Type 0) (q : Question) (h : Head)
     (fs : List (Frame H)) (t : RadiusCounts) (f : Frame H) (x : Entry) (given : List Record) (a : Above) (r : Record)
     → IsClosing (scheme hash h) holds f.node 0 x
-    → opens_seen (ways_at q h) (option_map seen_at x.rect) ≡ false
+    → opens_seen (ways_at q h) (option_map key_at x.rect) ≡ false
     → LeafRead hash holds q h fs t f given a r
     → past_notes (after_record (ways_at q h) h 0 a.nodes a.records r) ≡ Err rule.Needless
 leaf_missed hash holds q h fs t f x given a r c missed is =
@@ -462,10 +465,10 @@ leaf_missed hash holds q h fs t f x given a r c missed is =
     (leaf_rect hash holds q h fs t f x given a r false c missed is)
 
 leaf_found : {H : Type 0} (hash : List ℕ → List ℕ) (holds : H → List ℕ → Type 0) (q : Question) (m : Machine H)
-    (given : List Record) (handed_on : Bool) (r : Record) (g k : Grammar Said) (broken : Option Rule) → m.latest ≡ r
+    (given : List Record) (handed_on : Bool) (r : Record) (g k : Grammar Parsed) (broken : Option Rule) → m.latest ≡ r
     → noted g ≡ [] → past_notes g ≡ past_notes k
-    → Closes hash holds q m (plus handed_on given r) k broken
-    → Steps hash holds q m given (notes (opens r handed_on) g) (found_by broken handed_on)
+    → ClosesNode hash holds q m (plus handed_on given r) k broken
+    → StepsPastField hash holds q m given (notes (opens r handed_on) g) (found_by broken handed_on)
 leaf_found hash holds q m given handed_on r g k None same quiet e w =
     found_steps hash holds q m given handed_on r g same quiet (record {
       next = w.next;
@@ -479,16 +482,18 @@ pub leaf_closed : {H : Type 0} (hash : List ℕ → List ℕ) (holds : H → Lis
     (fs : List (Frame H)) (t : RadiusCounts) (m : Machine H) (f : Frame H) (x : Entry) (handed_on : Bool)
     (given : List Record)
     (a : Above) (r : Record) (broken : Option Rule) → m.latest ≡ r → IsClosing (scheme hash h) holds f.node 0 x
-    → opens_seen (ways_at q h) (option_map seen_at x.rect) ≡ true → handed_on ≡ is_handed_out q h r
-    → ((os : List Open) (P : Cut) → IsRead hash holds q h fs t x (plus handed_on given r) os P
-    → Closes hash holds q m (plus handed_on given r) (after (ways_at q h) h x.level os P) broken)
+    → opens_seen (ways_at q h) (option_map key_at x.rect) ≡ true → handed_on ≡ is_handed_out q h r
+    → ((os : List Open) (P : Cut) → HasReadCut hash holds q h fs t x (plus handed_on given r) os P
+    → ClosesNode hash holds q m (plus handed_on given r) (after (ways_at q h) h x.level os P) broken)
     → LeafRead hash holds q h fs t f (plus handed_on given r) a r
-    → Steps hash holds q m given (after_record (ways_at q h) h 0 a.nodes a.records r) (found_by broken handed_on)
+    → StepsPastField hash holds q m given (after_record (ways_at q h) h 0 a.nodes a.records r)
+    (found_by broken handed_on)
 leaf_closed hash holds q h fs t m f x handed_on given a r broken same c meets is_met behind_it is =
     let way = ways_at q h in
     let all = a.records ++ r ∷ [] in
     let behind = opened way (Leaf all) (after way h 0 a.nodes) in
-    subst (λ (b : Bool). Steps hash holds q m given (notes (opens r b) behind) (found_by broken handed_on)) is_met
+    subst (λ (b : Bool). StepsPastField hash holds q m given (notes (opens r b) behind) (found_by broken handed_on))
+    is_met
     (leaf_found hash holds q m given handed_on r behind (after way h 0 a.nodes (Leaf all)) broken same
     (after_quiet way h 0 a.nodes (Leaf all))
     (past_met way (Leaf all) (after way h 0 a.nodes)
@@ -500,7 +505,7 @@ leaf_closed hash holds q h fs t m f x handed_on given a r broken same c meets is
 pub sides_on : {H : Type 0} (hash : List ℕ → List ℕ) (holds : H → List ℕ → Type 0) (q : Question) (m : Machine H)
     (n : ℕ) (given : List Record) (a : Above) → IsLeaf holds m.leaf a.records
     → InTree hash holds q m.head (frames_of m) m.tally 0 given a
-    → Steps hash holds q (record m { stage = stage.Sides n }) given
+    → StepsPastField hash holds q (record m { stage = stage.Sides n }) given
     (behind_number (after_record (ways_at q m.head) m.head m.leaf.left a.nodes a.records) n) stepped.On
 sides_on hash holds q m n given a leaf is =
     let g = behind_number (after_record (ways_at q m.head) m.head m.leaf.left a.nodes a.records) n in
@@ -510,7 +515,7 @@ sides_on hash holds q m n given a leaf is =
 pub length_on : {H : Type 0} (hash : List ℕ → List ℕ) (holds : H → List ℕ → Type 0) (q : Question) (m : Machine H)
     (n : ℕ) (r : Rectangle) (given : List Record) (a : Above) → IsLeaf holds m.leaf a.records
     → InTree hash holds q m.head (frames_of m) m.tally 0 given a
-    → Steps hash holds q (record m { stage = stage.Length n r }) given
+    → StepsPastField hash holds q (record m { stage = stage.Length n r }) given
     (behind_sides (after_record (ways_at q m.head) m.head m.leaf.left a.nodes a.records) n r) stepped.On
 length_on hash holds q m n r given a leaf is =
     let g = behind_sides (after_record (ways_at q m.head) m.head m.leaf.left a.nodes a.records) n r in
@@ -520,7 +525,7 @@ length_on hash holds q m n r given a leaf is =
 pub payload_on : {H : Type 0} (hash : List ℕ → List ℕ) (holds : H → List ℕ → Type 0) (q : Question) (m : Machine H)
     (n : ℕ) (r : Rectangle) (l : ℕ) (given : List Record) (a : Above) → 0 < l → IsLeaf holds m.leaf a.records
     → InTree hash holds q m.head (frames_of m) m.tally 0 given a
-    → Steps hash holds q (record m { stage = stage.Payload n r l }) given
+    → StepsPastField hash holds q (record m { stage = stage.Payload n r l }) given
     (behind_length (after_record (ways_at q m.head) m.head m.leaf.left a.nodes a.records) n r l) stepped.On
 payload_on hash holds q m n r l given a some leaf is =
     let next = after_record (ways_at q m.head) m.head m.leaf.left a.nodes a.records in

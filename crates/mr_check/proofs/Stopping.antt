@@ -14,13 +14,13 @@ use Rattle.mr_proof.specs.Limits.{place_limit}
 use Rattle.mr_proof.specs.Fields.{size_of, field_of, only_if}
 use Rattle.mr_proof.specs.Tight.{Question}
 use Rattle.mr_proof.specs.Grammar.{Grammar, must, opens, done, reads, notes, whole}
-use Rattle.mr_proof.specs.Layout.{fault, Stand, start, behind, field_or_fault, field_at}
+use Rattle.mr_proof.specs.Layout.{fault, Cursor, start, behind, field_or_fault, field_at}
 use Rattle.mr_proof.specs.Refused.{rank}
 use Rattle.mr_proof.specs.Reading.{◌>>=◌, walk, ending, checked}
 use Rattle.mr_proof.specs.Halves.{IsSettled}
 use Rattle.mr_proof.proofs.FirstFault.{IsJudged, Sized, sized_whole}
 use Rattle.mr_proof.specs.Handed.{is_fixed, if_read, if_handed, handed}
-use Rattle.mr_check.specs.Stops.{Stop, waits, fails, with_value, stop, longer, resume, stop_of}
+use Rattle.mr_check.specs.private.Stops.{Stop, waits, fails, with_value, stop, longer, resume, stop_of}
 
 abbrev failed : {A : Type 0} → Fault → Stop A
 failed f = fails f
@@ -30,7 +30,7 @@ same_stop f g e = cc
 
 -- ---- more bytes
 
-value_more : {A : Type 0} (more : List ℕ) (w : Want) (s : Stand) (next : Field → Grammar A)
+value_more : {A : Type 0} (more : List ℕ) (w : Want) (s : Cursor) (next : Field → Grammar A)
     → drop (size_of w) (s.rest ++ more) ≡ drop (size_of w) s.rest ++ more
     → ((v : Field) → stop (next v) (longer more (behind w s)) ≡ resume (stop (next v) (behind w s)) more)
     → (r : Result Field Rule)
@@ -41,7 +41,7 @@ value_more more w s next back rest (Ok v) =
 value_more more w s next back rest (Err d) = refl
 
 -- reading goes on from where it stopped
-pub stop_more : {A : Type 0} (more : List ℕ) (g : Grammar A) (s : Stand)
+pub stop_more : {A : Type 0} (more : List ℕ) (g : Grammar A) (s : Cursor)
     → stop g (longer more s) ≡ resume (stop g s) more
 stop_more more (done x) s = elim (cases_Bool (ltb 0 (length s.rest))) [
   | inl t ↦
@@ -83,7 +83,7 @@ abbrev pub handed_on : {A : Type 0} → Stop A → List ℕ → List Record
 handed_on (waits g s) more = handed g (longer more s)
 handed_on (fails f) more = []
 
-value_handed : {A : Type 0} (more : List ℕ) (w : Want) (s : Stand) (next : Field → Grammar A)
+value_handed : {A : Type 0} (more : List ℕ) (w : Want) (s : Cursor) (next : Field → Grammar A)
     → drop (size_of w) (s.rest ++ more) ≡ drop (size_of w) s.rest ++ more
     → ((v : Field) → handed (next v) (longer more (behind w s))
     ≡ handed (next v) (behind w s) ++ handed_on (stop (next v) (behind w s)) more)
@@ -101,7 +101,7 @@ put_more true r xs ys zs e = ap (λ (rs : List Record). r ∷ rs) e
 put_more false r xs ys zs e = e
 
 -- more bytes take nothing back of what was handed out
-pub handed_more : {A : Type 0} (more : List ℕ) (g : Grammar A) (s : Stand)
+pub handed_more : {A : Type 0} (more : List ℕ) (g : Grammar A) (s : Cursor)
     → handed g (longer more s) ≡ handed g s ++ handed_on (stop g s) more
 unfolding field_at
 handed_more more (done x) s = elim (cases_Bool (ltb 0 (length s.rest))) [
@@ -137,17 +137,17 @@ handed_more more (notes (opens r met) next) s =
 -- ---- the verdict of the bytes so far
 
 -- what reading the whole gives, by where it stops
-abbrev pub ends_at : {A B : Type 0} → (A → Stand → Result B Fault) → Stop A → Result B Fault
+abbrev pub ends_at : {A B : Type 0} → (A → Cursor → Result B Fault) → Stop A → Result B Fault
 ends_at e (waits (done x) s) = e x s
 ends_at e (waits (reads w next) s) = Err (fault rule.Short s.at)
 ends_at e (waits (notes n next) s) = Err (fault rule.Short s.at)
 ends_at e (fails f) = Err f
 
 -- an ending that refuses bytes behind the last field
-abbrev Trails : {A B : Type 0} → (A → Stand → Result B Fault) → Type 0
-Trails {A} e = (x : A) (s : Stand) → 0 < length s.rest → e x s ≡ Err (fault rule.Trailing s.at)
+abbrev Trails : {A B : Type 0} → (A → Cursor → Result B Fault) → Type 0
+Trails {A} e = (x : A) (s : Cursor) → 0 < length s.rest → e x s ≡ Err (fault rule.Trailing s.at)
 
-value_ends : {A B : Type 0} (e : A → Stand → Result B Fault) (w : Want) (s : Stand) (next : Field → Grammar A)
+value_ends : {A B : Type 0} (e : A → Cursor → Result B Fault) (w : Want) (s : Cursor) (next : Field → Grammar A)
     → ((v : Field) → walk true e (next v) (behind w s) ≡ ends_at e (stop (next v) (behind w s)))
     → (r : Result Field Rule)
     → (field_or_fault w s r >>= λ x. walk true e (next x.0) x.1)
@@ -155,7 +155,7 @@ value_ends : {A B : Type 0} (e : A → Stand → Result B Fault) (w : Want) (s :
 value_ends e w s next rest (Ok v) = rest v
 value_ends e w s next rest (Err d) = refl
 
-pub walk_stop : {A B : Type 0} (e : A → Stand → Result B Fault) → Trails e → (g : Grammar A) (s : Stand)
+pub walk_stop : {A B : Type 0} (e : A → Cursor → Result B Fault) → Trails e → (g : Grammar A) (s : Cursor)
     → walk true e g s ≡ ends_at e (stop g s)
 unfolding field_at
 walk_stop e trails (done x) s = elim (cases_Bool (ltb 0 (length s.rest))) [
@@ -219,14 +219,14 @@ judged_settled r (inr e) = settles rule.Needless r (sym e) tt
 stop_fault : {A : Type 0} (f g : Fault) → failed {A = A} f ≡ failed g → IsSettled f.rule → IsSettled g.rule
 stop_fault {A} f g e h = subst (λ (x : Fault). IsSettled x.rule) (same_stop {A = A} f g e) h
 
-value_settled : {A : Type 0} (w : Want) (s : Stand) (next : Field → Grammar A) (f : Fault) (raw : List ℕ)
+value_settled : {A : Type 0} (w : Want) (s : Cursor) (next : Field → Grammar A) (f : Fault) (raw : List ℕ)
     (r : Result Field Rule) → field_of w raw ≡ r
     → ((v : Field) → stop (next v) (behind w s) ≡ fails f → IsSettled f.rule)
     → with_value r s.at (λ v. stop (next v) (behind w s)) ≡ fails f → IsSettled f.rule
 value_settled w s next f raw (Ok v) is rest e = rest v e
 value_settled {A} w s next f raw (Err d) is rest e = stop_fault {A = A} (fault d s.at) f e (field_settled w raw d is)
 
-pub stop_settled : {A : Type 0} (n : ℕ) (g : Grammar A) → Sized n g → (s : Stand) (f : Fault) → stop g s ≡ fails f
+pub stop_settled : {A : Type 0} (n : ℕ) (g : Grammar A) → Sized n g → (s : Cursor) (f : Fault) → stop g s ≡ fails f
     → IsSettled f.rule
 stop_settled {A} n (done x) sized s f e = elim (cases_Bool (ltb 0 (length s.rest))) [
   | inl t ↦ stop_fault {A = A} (fault rule.Trailing s.at) f (rw t at e) tt

@@ -1,4 +1,4 @@
--- Turns of a reader of bytes, from field to field.
+-- The progress of a reader of bytes, from field to field.
 use Rattle.std.proofs.Common.{◌≡◌, ℕ, ◌-◌, ◌+◌, ◌<◌, ◌≤◌, Bool, true, false, ltb, List, [], ◌∷◌, ◌++◌, length, take, drop, Ok, Err, Option, Some, None, refl, sym, ap, subst, ◌∙◌, append_assoc, arith}
 use Rattle.std.proofs.lemmas.Bool.{ltb-true, ltb-false}
 use Rattle.std.proofs.lemmas.List.{append-nil, length-append, take-append-drop, take-append-le, take_all, take-take, length-take-le}
@@ -14,52 +14,52 @@ use Rattle.mr_proof.specs.declared.head.Head.{Head}
 use Rattle.mr_proof.specs.Limits.{place_limit}
 use Rattle.mr_proof.specs.Fields.{version, size_of, field_of}
 use Rattle.mr_proof.specs.Cut.{Cut}
-use Rattle.mr_proof.specs.Spelling.{Said, said}
+use Rattle.mr_proof.specs.Spelling.{Parsed, said}
 use Rattle.mr_proof.specs.declared.way.Way.{Way}
-use Rattle.mr_proof.specs.Tight.{Seen, Question}
+use Rattle.mr_proof.specs.Tight.{Key, Question}
 use Rattle.mr_proof.specs.Grammar.{Grammar, done, reads, number_in, whole}
-use Rattle.mr_proof.specs.Layout.{fault, Stand, start}
+use Rattle.mr_proof.specs.Layout.{fault, Cursor, start}
 use Rattle.mr_check.specs.declared.stage.Stage.{Stage}
 use Rattle.mr_check.specs.declared.stage.Stage.TheVariants as stage
 use Rattle.mr_check.specs.declared.reader.Reader.{Reader}
-use Rattle.mr_check.specs.declared.reader.Turn.{Turn}
-use Rattle.mr_check.specs.declared.reader.Turn.TheVariants as turns
+use Rattle.mr_check.specs.declared.reader.Progress.{Progress}
+use Rattle.mr_check.specs.declared.reader.Progress.TheVariants as turns
 use Rattle.mr_proof.specs.Handed.{is_fixed, handed, handed_out}
-use Rattle.mr_check.specs.Stops.{Stop, waits, fails, stop, longer, at_place, resume, noted, stop_of}
-use Rattle.mr_check.specs.Stages.{want_at, size_in, room_in}
-use Rattle.mr_check.specs.Standing.{Above, IsOpen, Waits, WaitsPast, after_record, behind_number, next_at, left_at, ways_at}
-use Rattle.mr_check.specs.Reads.{want_of, last_field, IsWhole, StandsAt, WaitsBehind, Behind, Turns, TakesSome, TakesJust}
+use Rattle.mr_check.specs.private.Stops.{Stop, waits, fails, stop, longer, cursor_at, resume, noted, stop_of}
+use Rattle.mr_check.specs.private.Stages.{want_at, size_in, room_in}
+use Rattle.mr_check.specs.Machine.{Above, IsOpen, WaitsForField, WaitsPast, after_record, behind_number, next_at, left_at, ways_at}
+use Rattle.mr_check.specs.private.Reads.{want_of, last_field, IsWhole, StandsAt, WaitsBehind, Behind, MakesProgress, TakesSome, TakesJust}
 use Rattle.mr_check.proofs.Whole.{record_on, quiet_on}
 use Rattle.mr_check.proofs.Stopping.{stop_more, handed_on, handed_more}
 use Rattle.mr_check.proofs.Noting.{read_stop, read_handed, broken_stop, broken_handed, short_stop, short_handed, long_stop, long_fixed, short_fixed, end_stop, trailing_stop, past_stop, unless, past_handed}
 
 -- ---- in front of the field under way
 
-left_stop : (way : Option ℕ → Seen → Way) (h : Head) (left : ℕ) (a : Above) (p : Option Cut) (w : Option Want)
+left_stop : (way : Option ℕ → Key → Way) (h : Head) (left : ℕ) (a : Above) (p : Option Cut) (w : Option Want)
     (s : Stage) (at last : ℕ) → 1 ≤ room_in w → at + size_in w ≤ place_limit
-    → stop (left_at way h left a p w s) (at_place at last) ≡ waits (left_at way h left a p w s) (at_place at last)
-left_stop way h left a p None s at last some within = end_stop (said h p) (at_place at last) refl
+    → stop (left_at way h left a p w s) (cursor_at at last) ≡ waits (left_at way h left a p w s) (cursor_at at last)
+left_stop way h left a p None s at last some within = end_stop (said h p) (cursor_at at last) refl
 left_stop way h left a p (Some w) s at last some within =
-    short_stop w (next_at way h left a s) (at_place at last) within some
+    short_stop w (next_at way h left a s) (cursor_at at last) within some
 
-left_fixed : (way : Option ℕ → Seen → Way) (h : Head) (left : ℕ) (a : Above) (p : Option Cut) (w : Option Want)
+left_fixed : (way : Option ℕ → Key → Way) (h : Head) (left : ℕ) (a : Above) (p : Option Cut) (w : Option Want)
     (s : Stage) (at : ℕ) → at + size_in w ≤ place_limit → is_fixed (left_at way h left a p w s) at ≡ false
 left_fixed way h left a p None s at within = refl
 left_fixed way h left a p (Some w) s at within = short_fixed w (next_at way h left a s) at within
 
-left_handed : (way : Option ℕ → Seen → Way) (h : Head) (left : ℕ) (a : Above) (p : Option Cut) (w : Option Want)
-    (s : Stage) (at last : ℕ) → 1 ≤ room_in w → handed (left_at way h left a p w s) (at_place at last) ≡ []
+left_handed : (way : Option ℕ → Key → Way) (h : Head) (left : ℕ) (a : Above) (p : Option Cut) (w : Option Want)
+    (s : Stage) (at last : ℕ) → 1 ≤ room_in w → handed (left_at way h left a p w s) (cursor_at at last) ≡ []
 left_handed way h left a p None s at last some = refl
 left_handed way h left a p (Some w) s at last some =
-    short_handed w (next_at way h left a s) (at_place at last) some
+    short_handed w (next_at way h left a s) (cursor_at at last) some
 
-left_long : (way : Option ℕ → Seen → Way) (h : Head) (left : ℕ) (a : Above) (p : Option Cut) (w : Option Want)
+left_long : (way : Option ℕ → Key → Way) (h : Head) (left : ℕ) (a : Above) (p : Option Cut) (w : Option Want)
     (s : Stage) (at last : ℕ) → at ≤ place_limit → place_limit < at + size_in w
-    → (stop (left_at way h left a p w s) (at_place at last) ≡ fails (fault rule.Long at))
+    → (stop (left_at way h left a p w s) (cursor_at at last) ≡ fails (fault rule.Long at))
     × (is_fixed (left_at way h left a p w s) at ≡ true)
 left_long way h left a p None s at last low past = absurd (omega arith)
 left_long way h left a p (Some w) s at last low past = (
-  long_stop w (next_at way h left a s) (at_place at last) past,
+  long_stop w (next_at way h left a s) (cursor_at at last) past,
   long_fixed w (next_at way h left a s) at past,
 )
 
@@ -67,9 +67,9 @@ left_long way h left a p (Some w) s at last low past = (
 
 -- the next field ends past the limit
 pub behind_long : {H : Type 0} (hash : List ℕ → List ℕ) (holds : H → List ℕ → Type 0) (q : Question) (r : Reader H)
-    (given : List Record) (g : Grammar Said) (last : ℕ) → 1 ≤ room_in (want_of r) → r.at ≤ place_limit
+    (given : List Record) (g : Grammar Parsed) (last : ℕ) → 1 ≤ room_in (want_of r) → r.at ≤ place_limit
     → ltb place_limit (r.at + size_in (want_of r)) ≡ true → WaitsPast hash holds q r.machine given g
-    → (handed g (at_place r.at last) ≡ []) × (stop g (at_place r.at last) ≡ fails (fault rule.Long r.at))
+    → (handed g (cursor_at r.at last) ≡ []) × (stop g (cursor_at r.at last) ≡ fails (fault rule.Long r.at))
 behind_long hash holds q r given g last some low long w =
     let way = q.way in
     let m = r.machine in
@@ -77,75 +77,75 @@ behind_long hash holds q r given g last some low long w =
     let p = w.waits.whole in
     let past = ltb-true place_limit (r.at + size_in (want_of r)) long in
     let both = left_long way m.head m.leaf.left a p (want_of r) m.stage r.at last low past in
-    let none : handed w.next (at_place r.at last) ≡ [] = ap (λ (k : Grammar Said). handed k (at_place r.at last))
+    let none : handed w.next (cursor_at r.at last) ≡ [] = ap (λ (k : Grammar Parsed). handed k (cursor_at r.at last))
     w.waits.waits ∙ left_handed way m.head m.leaf.left a p (want_of r) m.stage r.at last some in
-    let fixed : is_fixed w.next r.at ≡ true = ap (λ (k : Grammar Said). is_fixed k r.at) w.waits.waits ∙ both.1 in (
-      past_handed g w.next (at_place r.at last) w.past none
+    let fixed : is_fixed w.next r.at ≡ true = ap (λ (k : Grammar Parsed). is_fixed k r.at) w.waits.waits ∙ both.1 in (
+      past_handed g w.next (cursor_at r.at last) w.past none
           ∙ ap (λ (b : Bool). unless b (noted g)) fixed,
-      past_stop g w.next (at_place r.at last) w.past
-          ∙ ap (λ (k : Grammar Said). stop k (at_place r.at last)) w.waits.waits ∙ both.0,
+      past_stop g w.next (cursor_at r.at last) w.past
+          ∙ ap (λ (k : Grammar Parsed). stop k (cursor_at r.at last)) w.waits.waits ∙ both.0,
     )
 
 -- it does not
 pub behind_short : {H : Type 0} (hash : List ℕ → List ℕ) (holds : H → List ℕ → Type 0) (q : Question) (r : Reader H)
-    (given : List Record) (g : Grammar Said) (last : ℕ) → 1 ≤ room_in (want_of r)
+    (given : List Record) (g : Grammar Parsed) (last : ℕ) → 1 ≤ room_in (want_of r)
     → ltb place_limit (r.at + size_in (want_of r)) ≡ false → r.held ≡ []
     → WaitsPast hash holds q r.machine given g
-    → (handed g (at_place r.at last) ≡ noted g) × WaitsBehind hash holds q given r.at last r g
+    → (handed g (cursor_at r.at last) ≡ noted g) × WaitsBehind hash holds q given r.at last r g
 behind_short hash holds q r given g last some short empty w =
     let way = q.way in
     let m = r.machine in
     let a = w.waits.above in
     let p = w.waits.whole in
     let within = ltb-false place_limit (r.at + size_in (want_of r)) short in
-    let none : handed w.next (at_place r.at last) ≡ [] = ap (λ (k : Grammar Said). handed k (at_place r.at last))
+    let none : handed w.next (cursor_at r.at last) ≡ [] = ap (λ (k : Grammar Parsed). handed k (cursor_at r.at last))
     w.waits.waits ∙ left_handed way m.head m.leaf.left a p (want_of r) m.stage r.at last some in
-    let open_here : is_fixed w.next r.at ≡ false = ap (λ (k : Grammar Said). is_fixed k r.at) w.waits.waits
+    let open_here : is_fixed w.next r.at ≡ false = ap (λ (k : Grammar Parsed). is_fixed k r.at) w.waits.waits
     ∙ left_fixed way m.head m.leaf.left a p (want_of r) m.stage r.at within in
-    let next_stop : stop w.next (at_place r.at last) ≡ waits w.next (at_place r.at last) =
-    subst (λ (k : Grammar Said). stop k (at_place r.at last) ≡ waits k (at_place r.at last)) (sym w.waits.waits)
+    let next_stop : stop w.next (cursor_at r.at last) ≡ waits w.next (cursor_at r.at last) =
+    subst (λ (k : Grammar Parsed). stop k (cursor_at r.at last) ≡ waits k (cursor_at r.at last)) (sym w.waits.waits)
     (left_stop way m.head m.leaf.left a p (want_of r) m.stage r.at last some within) in (
-      past_handed g w.next (at_place r.at last) w.past none
+      past_handed g w.next (cursor_at r.at last) w.past none
           ∙ ap (λ (b : Bool). unless b (noted g)) open_here,
       record {
         next = w.next;
-        stops = past_stop g w.next (at_place r.at last) w.past ∙ next_stop;
+        stops = past_stop g w.next (cursor_at r.at last) w.past ∙ next_stop;
         waits = w.waits;
         at_field = refl;
         empty = empty;
       },
     )
 
--- ---- turns
+-- ---- progress
 
 -- reading goes on where it waited
-goes_on : (q : Question) (s more : List ℕ) (g : Grammar Said) (t : Stand) → stop_of q s ≡ waits g t
+goes_on : (q : Question) (s more : List ℕ) (g : Grammar Parsed) (t : Cursor) → stop_of q s ≡ waits g t
     → stop_of q (s ++ more) ≡ stop g (longer more t)
 unfolding stop_of
 goes_on q s more g t e =
-    stop_more more (whole q.kind q.way) (start s) ∙ ap (λ (z : Stop Said). resume z more) e
+    stop_more more (whole q.kind q.way) (start s) ∙ ap (λ (z : Stop Parsed). resume z more) e
 
-hands_on : (q : Question) (s more : List ℕ) (g : Grammar Said) (t : Stand) → stop_of q s ≡ waits g t
+hands_on : (q : Question) (s more : List ℕ) (g : Grammar Parsed) (t : Cursor) → stop_of q s ≡ waits g t
     → handed_out q (s ++ more) ≡ handed_out q s ++ handed g (longer more t)
 unfolding handed_out stop_of
 hands_on q s more g t e =
     handed_more more (whole q.kind q.way) (start s)
-    ∙ ap (λ (z : Stop Said). handed (whole q.kind q.way) (start s) ++ handed_on z more) e
+    ∙ ap (λ (z : Stop Parsed). handed (whole q.kind q.way) (start s) ++ handed_on z more) e
 
 -- a fault stays, and nothing more is handed out
 pub stays : (q : Question) (s more : List ℕ) (f : Fault) → stop_of q s ≡ fails f
     → (stop_of q (s ++ more) ≡ fails f) × (handed_out q (s ++ more) ≡ handed_out q s)
 unfolding handed_out stop_of
 stays q s more f e = (
-  stop_more more (whole q.kind q.way) (start s) ∙ ap (λ (z : Stop Said). resume z more) e,
+  stop_more more (whole q.kind q.way) (start s) ∙ ap (λ (z : Stop Parsed). resume z more) e,
   handed_more more (whole q.kind q.way) (start s)
-      ∙ ap (λ (z : Stop Said). handed (whole q.kind q.way) (start s) ++ handed_on z more) e
+      ∙ ap (λ (z : Stop Parsed). handed (whole q.kind q.way) (start s) ++ handed_on z more) e
       ∙ append-nil (handed (whole q.kind q.way) (start s)),
 )
 
 -- the field that is under way, of a reader that stands
 pub record StandsIn {H : Type 0} (hash : List ℕ → List ℕ) (holds : H → List ℕ → Type 0) (q : Question) (r : Reader H)
-    (s : List ℕ) (g : Above → Option Cut → Grammar Said) : Type 0 where
+    (s : List ℕ) (g : Above → Option Cut → Grammar Parsed) : Type 0 where
   pub above : Above
   pub part : Option Cut
   pub last : ℕ
@@ -160,7 +160,7 @@ stands_in hash holds q r s w e at = record {
   above = at.waits.above;
   part = at.waits.whole;
   last = at.last;
-  stops = at.stops ∙ ap (λ (g : Grammar Said). waits g (record { at = r.at; last = at.last; rest = r.held }))
+  stops = at.stops ∙ ap (λ (g : Grammar Parsed). waits g (record { at = r.at; last = at.last; rest = r.held }))
       (at.waits.waits ∙ ap (λ (z : Option Want). left_at q.way r.machine.head r.machine.leaf.left
       at.waits.above at.waits.whole z r.machine.stage) e);
   is_open = at.waits.is_open;
@@ -173,7 +173,7 @@ pub turn_more : {H : Type 0} (hash : List ℕ → List ℕ) (holds : H → List 
     → StandsAt hash holds q (record r { held = held }) (s ++ piece) × (handed_out q (s ++ piece) ≡ handed_out q s)
 turn_more hash holds q r w s piece held wants within more less at =
     let i = stands_in hash holds q r s (Some w) wants at in
-    let t : Stand = record { at = r.at; last = i.last; rest = r.held } in
+    let t : Cursor = record { at = r.at; last = i.last; rest = r.held } in
     let next = next_at q.way r.machine.head r.machine.leaf.left i.above r.machine.stage in
     let quiet : handed_out q (s ++ piece) ≡ handed_out q s =
     hands_on q s piece (reads w next) t i.stops
@@ -189,7 +189,7 @@ turn_more hash holds q r w s piece held wants within more less at =
         stops = goes_on q s piece (reads w next) t i.stops ∙ short_stop w next (longer piece t) within less
             ∙ ap (λ (bytes : List ℕ). waits (reads w next) (record { at = r.at; last = i.last; rest = bytes }))
             (sym more);
-        waits = subst (λ (rs : List Record). Waits hash holds q r.machine rs (reads w next)) (sym quiet)
+        waits = subst (λ (rs : List Record). WaitsForField hash holds q r.machine rs (reads w next)) (sym quiet)
             (record { above = i.above; whole = i.part; waits = same; is_open = i.is_open });
       },
       quiet,
@@ -217,7 +217,7 @@ pub turn_broken : {H : Type 0} (hash : List ℕ → List ℕ) (holds : H → Lis
     → (stop_of q (s ++ piece) ≡ fails (fault d r.at)) × (handed_out q (s ++ piece) ≡ handed_out q s)
 turn_broken hash holds q r w s front back piece d wants within parts long broken at =
     let i = stands_in hash holds q r s (Some w) wants at in
-    let t : Stand = record { at = r.at; last = i.last; rest = r.held } in
+    let t : Cursor = record { at = r.at; last = i.last; rest = r.held } in
     let next = next_at q.way r.machine.head r.machine.leaf.left i.above r.machine.stage in
     fault_on q s front back piece (fault d r.at) parts
     (goes_on q s front (reads w next) t i.stops ∙ broken_stop w next t front d within long broken)
@@ -227,23 +227,23 @@ turn_broken hash holds q r w s front back piece d wants within parts long broken
 
 -- where the front of a piece ends a field, by what stands behind it
 settled : {H : Type 0} (hash : List ℕ → List ℕ) (holds : H → List ℕ → Type 0) (q : Question) (r : Reader H)
-    (s given : List ℕ) (rs : List Record) (g : Grammar Said) (at last : ℕ)
-    → stop_of q given ≡ stop g (at_place at last) → handed_out q given ≡ rs
+    (s given : List ℕ) (rs : List Record) (g : Grammar Parsed) (at last : ℕ)
+    → stop_of q given ≡ stop g (cursor_at at last) → handed_out q given ≡ rs
     → WaitsBehind hash holds q rs at last r g → StandsAt hash holds q r given
 settled hash holds q r s given rs g at last stops out w = record {
   next = w.next;
   last = last;
   stops = stops ∙ w.stops ∙ (λ i. waits w.next (record { at = sym w.at_field i; last = last; rest = sym w.empty i }));
-  waits = subst (λ (xs : List Record). Waits hash holds q r.machine xs w.next) (sym out) w.waits;
+  waits = subst (λ (xs : List Record). WaitsForField hash holds q r.machine xs w.next) (sym out) w.waits;
 }
 
 turn_behind : {H : Type 0} (hash : List ℕ → List ℕ) (holds : H → List ℕ → Type 0) (q : Question) (r : Reader H)
-    (s piece back : List ℕ) (n at last : ℕ) (g : Grammar Said) (turn : Turn) → take n piece ++ back ≡ piece
-    → stop_of q (s ++ take n piece) ≡ stop g (at_place at last)
-    → handed_out q (s ++ take n piece) ≡ handed_out q s ++ handed g (at_place at last)
+    (s piece back : List ℕ) (n at last : ℕ) (g : Grammar Parsed) (turn : Progress) → take n piece ++ back ≡ piece
+    → stop_of q (s ++ take n piece) ≡ stop g (cursor_at at last)
+    → handed_out q (s ++ take n piece) ≡ handed_out q s ++ handed g (cursor_at at last)
     → handed_out q (s ++ take (n - 1) piece) ≡ handed_out q s
     → Behind hash holds q (handed_out q s) at last n r g turn
-    → Turns hash holds q s piece r turn
+    → MakesProgress hash holds q s piece r turn
 turn_behind hash holds q r s piece back n at last g turns.More parts stops out before b = absurd b
 turn_behind hash holds q r s piece back n at last g (turns.Took taken) parts stops out before b =
     let quiet : handed_out q (s ++ take n piece) ≡ handed_out q s =
@@ -265,16 +265,16 @@ turn_behind hash holds q r s piece back n at last g (turns.Broken f) parts stops
 
 -- the field is whole and breaks no rule of its own
 pub turn_whole : {H : Type 0} (hash : List ℕ → List ℕ) (holds : H → List ℕ → Type 0) (q : Question) (r new : Reader H)
-    (w : Want) (s piece : List ℕ) (n z : ℕ) (v : Field) (turn : Turn) → want_of r ≡ Some w
+    (w : Want) (s piece : List ℕ) (n z : ℕ) (v : Field) (turn : Progress) → want_of r ≡ Some w
     → r.at + size_of w ≤ place_limit → 1 ≤ n → n ≤ length piece → length r.held + n ≡ size_of w → z ≡ size_of w
     → field_of w (r.held ++ take n piece) ≡ Ok v
     → ((given : List Record) (a : Above) (p : Option Cut) → IsOpen hash holds q r.machine r.machine.stage given a p
     → Behind hash holds q given (r.at + z) r.at n new
     (next_at q.way r.machine.head r.machine.leaf.left a r.machine.stage v) turn)
-    → StandsAt hash holds q r s → Turns hash holds q s piece new turn
+    → StandsAt hash holds q r s → MakesProgress hash holds q s piece new turn
 turn_whole hash holds q r new w s piece n z v turn wants within some fits size same value behind at =
     let i = stands_in hash holds q r s (Some w) wants at in
-    let t : Stand = record { at = r.at; last = i.last; rest = r.held } in
+    let t : Cursor = record { at = r.at; last = i.last; rest = r.held } in
     let next = next_at q.way r.machine.head r.machine.leaf.left i.above r.machine.stage in
     let front = take n piece in
     let taken : length front ≡ n = length-take-le n piece fits in
@@ -305,17 +305,17 @@ record_waits hash holds q r s is none at =
     stands_in hash holds q r s (Some want.Number) (ap (λ (z : Stage). want_at r.machine.head.kind z) is) at
 
 pub turn_record : {H : Type 0} (hash : List ℕ → List ℕ) (holds : H → List ℕ → Type 0) (q : Question) (r new : Reader H)
-    (s piece : List ℕ) (n : ℕ) (one : Record) (turn : Turn) → IsWhole r piece one n
+    (s piece : List ℕ) (n : ℕ) (one : Record) (turn : Progress) → IsWhole r piece one n
     → ((given : List Record) (a : Above) (p : Option Cut) → IsOpen hash holds q r.machine stage.Number given a p
     → Behind hash holds q given (r.at + n) (last_field r.at one) n new
     (after_record (ways_at q r.machine.head) r.machine.head r.machine.leaf.left a.nodes a.records one) turn)
-    → StandsAt hash holds q r s → Turns hash holds q s piece new turn
+    → StandsAt hash holds q r s → MakesProgress hash holds q s piece new turn
 turn_record hash holds q r new s piece n one turn w behind at =
     let i = record_waits hash holds q r s w.stage w.held at in
     let X = after_record (ways_at q r.machine.head) r.machine.head r.machine.leaf.left i.above.nodes i.above.records
     in
     let g = reads want.Number (λ v. behind_number X (number_in v)) in
-    let t : Stand = record { at = r.at; last = i.last; rest = [] } in
+    let t : Cursor = record { at = r.at; last = i.last; rest = [] } in
     let stops : stop_of q s ≡ waits g t = i.stops ∙ (λ j. waits
     (reads want.Number (next_at q.way r.machine.head
     r.machine.leaf.left i.above (w.stage j))) (record { at = r.at; last = i.last; rest = w.held j })) in
@@ -334,11 +334,11 @@ turn_record hash holds q r new s piece n one turn w behind at =
     (take-append-drop n piece)
     (goes_on q s (take n piece) g t stops ∙ ap (λ (bytes : List ℕ). stop g
     (record { at = r.at; last = i.last; rest = bytes })) front
-    ∙ read.stops ∙ ap (λ (k : ℕ). stop (X one) (at_place k last)) size)
+    ∙ read.stops ∙ ap (λ (k : ℕ). stop (X one) (cursor_at k last)) size)
     (hands_on q s (take n piece) g t stops
     ∙ ap (λ (rs : List Record). handed_out q s ++ rs)
     (ap (λ (bytes : List ℕ). handed g (record { at = r.at; last = i.last; rest = bytes })) front
-    ∙ read.hands ∙ ap (λ (k : ℕ). handed (X one) (at_place k last)) size))
+    ∙ read.hands ∙ ap (λ (k : ℕ). handed (X one) (cursor_at k last)) size))
     (hands_on q s (take (n - 1) piece) g t stops
     ∙ ap (λ (rs : List Record). handed_out q s ++ rs)
     (ap (λ (bytes : List ℕ). handed g (record { at = r.at; last = i.last; rest = bytes })) less
@@ -353,7 +353,7 @@ pub turn_trailing : {H : Type 0} (hash : List ℕ → List ℕ) (holds : H → L
     → (stop_of q (s ++ piece) ≡ fails (fault rule.Trailing r.at)) × (handed_out q (s ++ piece) ≡ handed_out q s)
 turn_trailing hash holds q r s piece ends some at =
     let i = stands_in hash holds q r s None ends at in
-    let t : Stand = record { at = r.at; last = i.last; rest = r.held } in
+    let t : Cursor = record { at = r.at; last = i.last; rest = r.held } in
     let x = said r.machine.head i.part in
     let more : 0 < length (r.held ++ piece) = omega (arith, length-append r.held piece) in (
       goes_on q s piece (done x) t i.stops ∙ trailing_stop x (longer piece t) more,
@@ -370,7 +370,7 @@ turn_none hash holds q r s (b ∷ bs) none at = absurd (omega arith)
 
 -- ---- how many bytes were taken
 
-pub takes_some : (n long : ℕ) (turn : Turn) → TakesJust n turn → 1 ≤ n → n ≤ long → TakesSome long turn
+pub takes_some : (n long : ℕ) (turn : Progress) → TakesJust n turn → 1 ≤ n → n ≤ long → TakesSome long turn
 takes_some n long turns.More is some fits = tt
 takes_some n long (turns.Took m) is some fits = (omega (arith, is), omega (arith, is))
 takes_some n long (turns.Found m) is some fits = (omega (arith, is), omega (arith, is))

@@ -15,26 +15,26 @@ use Rattle.mr_proof.specs.declared.field.Field.{Field}
 use Rattle.mr_proof.specs.declared.field.Field.TheVariants as field
 use Rattle.mr_proof.specs.Limits.{place_limit}
 use Rattle.mr_proof.specs.Fields.{version, size_of, field_of}
-use Rattle.mr_proof.specs.Spelling.{Said}
+use Rattle.mr_proof.specs.Spelling.{Parsed}
 use Rattle.mr_proof.specs.Grammar.{Grammar, reads, number_in, rect_in, bytes_in}
-use Rattle.mr_proof.specs.Layout.{Stand, field_at}
+use Rattle.mr_proof.specs.Layout.{Cursor, field_at}
 use Rattle.mr_proof.specs.Handed.{handed}
 use Rattle.mr_proof.proofs.Values.{word_long, rectangle_long}
 use Rattle.mr_proof.proofs.FieldValues.{number_value, rect_value, length_value, payload_value}
-use Rattle.mr_check.specs.Stops.{stop}
-use Rattle.mr_check.specs.Standing.{behind_number, behind_sides, behind_length}
-use Rattle.mr_check.specs.Reads.{last_field}
+use Rattle.mr_check.specs.private.Stops.{stop}
+use Rattle.mr_check.specs.Machine.{behind_number, behind_sides, behind_length}
+use Rattle.mr_check.specs.private.Reads.{last_field}
 use Rattle.mr_check.proofs.Noting.{short_handed}
 
-abbrev stand : ℕ → ℕ → List ℕ → Stand
+abbrev stand : ℕ → ℕ → List ℕ → Cursor
 stand at last rest = record { at = at; last = last; rest = rest }
 
 -- reading goes on in the second grammar from the second place
-pub record On {A : Type 0} (g : Grammar A) (s : Stand) (k : Grammar A) (t : Stand) : Type 0 where
+pub record On {A : Type 0} (g : Grammar A) (s : Cursor) (k : Grammar A) (t : Cursor) : Type 0 where
   pub stops : stop g s ≡ stop k t
   pub hands : handed g s ≡ handed k t
 
-on_both : {A : Type 0} (f g h : Grammar A) (s t u : Stand) → On f s g t → On g t h u → On f s h u
+on_both : {A : Type 0} (f g h : Grammar A) (s t u : Cursor) → On f s g t → On g t h u → On f s h u
 on_both f g h s t u a b = record { stops = a.stops ∙ b.stops; hands = a.hands ∙ b.hands }
 
 -- a field whose bytes stand in front
@@ -58,7 +58,7 @@ field_on w next at last raw rest v long within is =
 -- ---- the fields of a record
 
 -- number and rectangle
-sides_on : (X : Record → Grammar Said) (r : Record) (at last : ℕ) (rest : List ℕ) → IsRecord r
+sides_on : (X : Record → Grammar Parsed) (r : Record) (at last : ℕ) (rest : List ℕ) → IsRecord r
     → at + 24 ≤ place_limit
     → On (reads want.Number (λ v. behind_number X (number_in v)))
     (stand at last (to_be_bytes w64 r.number ++ (rectangle_bytes r.rect ++ rest)))
@@ -76,7 +76,7 @@ sides_on X r at last rest is within =
     (on_both _ _ _ _ _ _ one two)
 
 -- the length
-length_on : (X : Record → Grammar Said) (n : ℕ) (x : Rectangle) (l at last : ℕ) (rest : List ℕ) → l ≤ 200
+length_on : (X : Record → Grammar Parsed) (n : ℕ) (x : Rectangle) (l at last : ℕ) (rest : List ℕ) → l ≤ 200
     → at + 1 ≤ place_limit
     → On (behind_sides X n x) (stand at last (l ∷ rest)) (behind_length X n x l) (stand (at + 1) at rest)
 length_on X n x l at last rest few within =
@@ -88,7 +88,7 @@ abbrev last_of : List ℕ → ℕ → ℕ → ℕ
 last_of p at last = if length p == 0 then last else at
 
 -- the payload
-payload_on : (X : Record → Grammar Said) (n : ℕ) (x : Rectangle) (p : List ℕ) (at last : ℕ)
+payload_on : (X : Record → Grammar Parsed) (n : ℕ) (x : Rectangle) (p : List ℕ) (at last : ℕ)
     → at + length p ≤ place_limit
     → On (behind_length X n x (length p)) (stand at last p)
     (X (record { number = n; rect = x; layer = 0; payload = p }))
@@ -112,7 +112,7 @@ payload_on X n x (b ∷ p) at last within =
     let all : On (reads (want.Payload l) next) (stand at last (b ∷ p)) (next (field.Payload (b ∷ p)))
     (stand (at + l) at []) = subst (λ (raw : List ℕ). On (reads (want.Payload l) next) (stand at last raw)
     (next (field.Payload (b ∷ p))) (stand (at + l) at [])) whole one in
-    subst (λ (g : Grammar Said). On g (stand at last (b ∷ p)) (next (field.Payload (b ∷ p)))
+    subst (λ (g : Grammar Parsed). On g (stand at last (b ∷ p)) (next (field.Payload (b ∷ p)))
     (stand (at + l) (last_of (b ∷ p) at last) [])) (sym here)
     (subst (λ (k : ℕ). On (reads (want.Payload l) next) (stand at last (b ∷ p)) (next (field.Payload (b ∷ p)))
     (stand (at + l) k [])) place all)
@@ -132,7 +132,7 @@ pub record_long : (r : Record) → length (record_bytes version r) ≡ 25 + leng
 record_long r = length-record_bytes version r
 
 -- with all of its bytes the record is read
-pub record_on : (X : Record → Grammar Said) (r : Record) (at last : ℕ) → IsRecord r → HasLayer version r
+pub record_on : (X : Record → Grammar Parsed) (r : Record) (at last : ℕ) → IsRecord r → HasLayer version r
     → at + length (record_bytes version r) ≤ place_limit
     → On (reads want.Number (λ v. behind_number X (number_in v))) (stand at last (record_bytes version r)) (X r)
     (stand (at + length (record_bytes version r)) (last_field at r) [])
@@ -151,7 +151,7 @@ record_on X r at last is low within =
     let same : X (record { number = r.number; rect = r.rect; layer = 0; payload = p }) ≡ X r =
     λ i. X (record { number = r.number; rect = r.rect; layer = flat i; payload = p }) in
     let all : On g (stand at last raw) (X r) (stand (((at + 24) + 1) + l) (last_of p ((at + 24) + 1) (at + 24)) []) =
-    subst (λ (k : Grammar Said). On g (stand at last raw) k (stand (((at + 24) + 1) + l)
+    subst (λ (k : Grammar Parsed). On g (stand at last raw) k (stand (((at + 24) + 1) + l)
     (last_of p ((at + 24) + 1) (at + 24)) [])) same
     (on_both _ _ _ _ _ _ front (on_both _ _ _ _ _ _ sized paid)) in
     subst (λ (bytes : List ℕ). On g (stand at last bytes) (X r)
@@ -160,7 +160,7 @@ record_on X r at last is low within =
     (λ i. (ends i, up i)) all)
 
 -- without the last of its bytes it is not
-quiet_tail : (X : Record → Grammar Said) (n : ℕ) (x : Rectangle) (p : List ℕ) (at last : ℕ) → length p ≤ 200
+quiet_tail : (X : Record → Grammar Parsed) (n : ℕ) (x : Rectangle) (p : List ℕ) (at last : ℕ) → length p ≤ 200
     → at + 1 ≤ place_limit → handed (behind_sides X n x) (stand at last (take (length p) (length p ∷ p))) ≡ []
 quiet_tail X n x [] at last few within =
     short_handed want.Length (λ v. behind_length X n x (number_in v)) (stand at last []) (omega arith)
@@ -172,10 +172,10 @@ quiet_tail X n x (b ∷ p) at last few within =
     let rest = take (length p) (b ∷ p) in
     let short : length rest < l = omega (arith, length-take-le (length p) (b ∷ p) (omega arith)) in
     (length_on X n x l at last rest few within).hands
-    ∙ ap (λ (g : Grammar Said). handed g (stand (at + 1) at rest)) here
+    ∙ ap (λ (g : Grammar Parsed). handed g (stand (at + 1) at rest)) here
     ∙ short_handed (want.Payload l) next (stand (at + 1) at rest) short
 
-pub quiet_on : (X : Record → Grammar Said) (r : Record) (at last : ℕ) → IsRecord r
+pub quiet_on : (X : Record → Grammar Parsed) (r : Record) (at last : ℕ) → IsRecord r
     → at + length (record_bytes version r) ≤ place_limit
     → handed (reads want.Number (λ v. behind_number X (number_in v)))
     (stand at last (take (length (record_bytes version r) - 1) (record_bytes version r))) ≡ []

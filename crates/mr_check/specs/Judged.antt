@@ -2,12 +2,12 @@
 -- contracts go
 -- by a relation between them and a byte string, which is known by what they say of it.
 use Rattle.std.specs.Prelude.{◌≡◌, ◌≤◌, ℕ, List, ◌++◌, length, take, filter, vec_capacity, ⊤, Result, Ok, Err}
-use Rattle.mr_record.specs.Bytes.{AreBytes}
+use Rattle.mr_record.specs.private.Bytes.{AreBytes}
 use Rattle.mr_record.specs.declared.record.Record.{Record}
 use Rattle.mr_query.specs.Word.{IsQuery}
 use Rattle.mr_query.specs.declared.query.Query.{Query}
 use Rattle.mr_proof.specs.declared.rule.Fault.{Fault}
-use Rattle.mr_proof.specs.Spelling.{Said, opened_records}
+use Rattle.mr_proof.specs.Spelling.{Parsed, opened_records}
 use Rattle.mr_proof.specs.Tight.{Question, question, keeps_at, IsLawful}
 use Rattle.mr_proof.specs.Handed.{handed_out}
 use Rattle.mr_proof.specs.Feeding.{IsUnsettled, HandsOut}
@@ -19,10 +19,10 @@ use Rattle.mr_check.specs.declared.verifier.Verifier.{Verifier}
 use Rattle.mr_check.specs.declared.outline.Outline.{Outline}
 use Rattle.mr_check.specs.declared.outline.Collected.{Collected}
 use Rattle.mr_check.specs.declared.collector.Collector.{Collector}
-use Rattle.mr_check.specs.declared.intake.Intake.{Intake}
+use Rattle.mr_check.specs.declared.piece_check.PieceCheck.{PieceCheck}
 use Rattle.mr_check.specs.declared.judge.Judge.{Judge}
-use Rattle.mr_check.specs.Standing.{rect_round}
-use Rattle.mr_check.specs.Reads.{StandsBy}
+use Rattle.mr_check.specs.Machine.{rect_round}
+use Rattle.mr_check.specs.private.Reads.{StandsBy}
 
 -- ---- whatever is asked
 
@@ -38,7 +38,7 @@ pub record WasFed {H : Type 0} {G : Ghosts H} (hash : List ℕ → List ℕ)
   pub stands : StandsBy hash holds q w.reader w.reader.fault bytes
 
 -- it is the outline of this head and cut
-pub record IsOutline (x : Said) (o : Outline) : Type 0 where
+pub record IsOutline (x : Parsed) (o : Outline) : Type 0 where
   pub head : o.head ≡ x.head
   pub rect : o.rect ≡ rect_round x.part
 
@@ -46,7 +46,7 @@ pub record IsOutline (x : Said) (o : Outline) : Type 0 where
 -- out
 pub record EndsAccepted (hash : List ℕ → List ℕ) (root : List ℕ) (q : Question) (bytes : List ℕ)
     (o : Outline) : Type 0 where
-  pub said : Said
+  pub said : Parsed
   pub hands : HandsOut hash root q bytes said
   pub outline : IsOutline said o
 
@@ -80,11 +80,12 @@ TakesPiece hash holds root q w kept bytes (Ok x) = Took hash holds root q w kept
 TakesPiece hash holds root q w kept bytes (Err e) = IsStopped hash root q bytes e
 
 -- whatever was taken before the piece. This serves private functions.
-abbrev pub Takes : {X H : Type 0} {G : Ghosts H} → (List ℕ → List ℕ) → (H → List ℕ → Type 0)
+abbrev pub TakesNextPiece : {X H : Type 0} {G : Ghosts H} → (List ℕ → List ℕ) →
+    (H → List ℕ → Type 0)
     → Question → Verifier H G → Verifier H G → List ℕ → List Record → List Record
     → Result X CheckErr
     → Type 0
-Takes hash holds q before after piece old new result = (root : List ℕ) (bytes : List ℕ)
+TakesNextPiece hash holds q before after piece old new result = (root : List ℕ) (bytes : List ℕ)
     → Took hash holds root q before old bytes
     → TakesPiece hash holds root q after new (bytes ++ piece) result
 
@@ -102,7 +103,7 @@ abbrev pub HasCollected : {H : Type 0} {G : Ghosts H} → (List ℕ → List ℕ
 HasCollected hash holds root q h bytes = Took hash holds root q h.verifier h.kept.items bytes
 
 -- the head and cut of accepted bytes: their outline, and the records that are not left out
-pub record IsCollected (x : Said) (q : Question) (o : Collected) : Type 0 where
+pub record IsCollected (x : Parsed) (q : Question) (o : Collected) : Type 0 where
   pub outline : IsOutline x o.outline
   pub records : o.records.items
       ≡ filter (λ (r : Record). keeps_at (q.way x.head.radius) r.rect) (opened_records x.part)
@@ -111,7 +112,7 @@ pub record IsCollected (x : Said) (q : Question) (o : Collected) : Type 0 where
 abbrev pub AnswersCollected : (List ℕ → List ℕ) → List ℕ → Question → List ℕ
     → Result Collected CheckErr
     → Type 0
-AnswersCollected hash root q bytes (Ok o) = (x : Said) × (checked hash root q bytes ≡ Ok x)
+AnswersCollected hash root q bytes (Ok o) = (x : Parsed) × (checked hash root q bytes ≡ Ok x)
     × IsCollected x q o
 AnswersCollected hash root q bytes (Err (errors.Fault f)) = checked hash root q bytes ≡ Err f
 AnswersCollected hash root q bytes (Err errors.NoMemory) = ⊤
@@ -119,7 +120,7 @@ AnswersCollected hash root q bytes (Err errors.NoMemory) = ⊤
 -- ---- queries
 
 -- the judge was fed these bytes as a proof for the query, against the root digest
-pub record StandsFor {H : Type 0} {G : Ghosts H} (hash : List ℕ → List ℕ)
+pub record WasFedForQuery {H : Type 0} {G : Ghosts H} (hash : List ℕ → List ℕ)
     (holds : H → List ℕ → Type 0) (root : List ℕ) (q : Query) (j : Judge H G)
     (bytes : List ℕ) : Type 0 where
   pub asked : j.query ≡ q
@@ -129,7 +130,7 @@ pub record StandsFor {H : Type 0} {G : Ghosts H} (hash : List ℕ → List ℕ)
 -- this much of the proof was taken in, for the query and against the root digest
 pub record IsTaken {H : Type 0} {G : Ghosts H} (hash : List ℕ → List ℕ)
     (holds : H → List ℕ → Type 0)
-    (root : List ℕ) (q : Query) (i : Intake H G) (bytes : List ℕ) : Type 0 where
+    (root : List ℕ) (q : Query) (i : PieceCheck H G) (bytes : List ℕ) : Type 0 where
   pub asked : i.query ≡ q
   pub is : IsQuery q
   pub took : HasCollected hash holds root (question q) i.collector bytes

@@ -1,11 +1,4 @@
 pub mod Answers
-pub mod Stops
-pub mod Popping
-pub mod Counting
-pub mod Stages
-pub mod OpenNodes
-pub mod Standing
-pub mod Heads
-pub mod Reads
-pub mod Differing
+pub mod Machine
+pub mod private
 pub mod Judged

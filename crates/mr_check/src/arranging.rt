@@ -5,7 +5,7 @@ ghost use Rattle.std.specs.List.Sorted.{IsPermutation, IsNonDecreasing};
 ghost use Rattle.mr_geom.specs.Rectangle.{Rectangle};
 ghost use Rattle.mr_query.specs.Scan.{scan};
 ghost use Rattle.mr_query.specs.declared.query.Query.TheVariants as queries;
-ghost use Rattle.mr_check.specs.Differing.{rise, rise_after, numbers_of, EachOnce, AreInOrder};
+ghost use Rattle.mr_check.specs.private.Differing.{rise, rise_after, numbers_of, EachOnce, AreInOrder};
 
 use mr_geom::Rect;
 use mr_query::Query;
@@ -46,7 +46,7 @@ fn rise(numbers: &[u64]) -> bool
 
 // Whether no two records have one number.
 fn differ(alloc: Global, records: &[Record]) -> Result<bool, AllocError>
-    ensures once { IfOk result (λ b. b ≡ true → EachOnce records.now) }
+    ensures each_once { IfOk result (λ b. b ≡ true → EachOnce records.now) }
     ensures all { IfOk result (λ b. EachOnce records.now → b ≡ true) }
 {
     let numbers = numbers(alloc, records)?;

@@ -7,14 +7,14 @@ ghost use Rattle.mr_tree.specs.Digest.{by};
 ghost use Rattle.mr_proof.specs.declared.rule.Fault.{Fault};
 ghost use Rattle.mr_query.specs.Word.{IsAskable};
 ghost use Rattle.mr_proof.specs.Tight.{question};
-ghost use Rattle.mr_proof.specs.Accepted.{Proves};
+ghost use Rattle.mr_proof.specs.Accepted.{ProvesAnswer};
 ghost use Rattle.mr_proof.specs.Feeding.{HandsOpened};
 ghost use Rattle.mr_proof.specs.Refused.{IsRefused};
 ghost use Rattle.mr_proof.specs.Reading.{verdict};
 ghost use Rattle.mr_proof.specs.Halves.{AcceptsJust, RefusesJust, OneHalf, SpellsOne, FindsPair, StaysRefused, AcceptsHonest};
 ghost use Rattle.mr_proof.specs.Headline.{Headline, AcceptedIsHonest, OthersFail};
 ghost use Rattle.mr_check.specs.declared.error.CheckErr.TheVariants as errors;
-ghost use Rattle.mr_check.specs.Answers.{Checks};
+ghost use Rattle.mr_check.specs.Answers.{AnswersVerdict};
 
 use crate::{CheckErr, answer_of, check_question};
 use mr_proof::{accepted_is_honest, honest_is_accepted, query_is_lawful};
@@ -31,7 +31,7 @@ fn answered_by<H: Hashes>(
     proof: &[u8],
 ) -> Result<Vec<Record>, CheckErr>
     requires { IsAskable q.now }
-    ensures { Checks result (verdict H.of root.now q.now proof.now) }
+    ensures { AnswersVerdict result (verdict H.of root.now q.now proof.now) }
 {
     is_query(q);
     query_is_lawful(q);
@@ -55,14 +55,14 @@ pub fn check<H: Hashes>(
 ) -> Result<Vec<Record>, CheckErr>
     requires { IsAskable q.now }
     // What is answered: the verdict, which is an answer or a fault, for each string just one.
-    ensures exact { Checks result (verdict H.of root.now q.now proof.now) }
+    ensures exact { AnswersVerdict result (verdict H.of root.now q.now proof.now) }
     ensures accepts { AcceptsJust H.of root.now q.now proof.now }
     ensures refuses { RefusesJust H.of root.now q.now proof.now }
     ensures one_half { OneHalf H.of root.now q.now proof.now }
     // What an answer is worth: the bytes prove it; they are the honest proof of the map with this
     // root, and it is the answer of a scan, or the hash function has a collision. The honest proof
     // of a map of version 1 is accepted, and any other string is refused or shows a collision.
-    ensures proved { IfOk result (λ v. Proves H.of root.now q.now proof.now v.items) }
+    ensures proved { IfOk result (λ v. ProvesAnswer H.of root.now q.now proof.now v.items) }
     ensures complete { AcceptsHonest (by One H.of) q.now }
     ensures headline { (v : Version) → Headline (by v H.of) q.now proof.now }
     ensures accepted { (v : Version) → AcceptedIsHonest (by v H.of) q.now proof.now }

@@ -3,8 +3,8 @@
 ghost use Rattle.std.specs.Prelude.{◌≡◌, ◌+◌, ◌≤◌, List, option_map, vec_len};
 ghost use Rattle.mr_record.specs.declared.record.Record as types;
 ghost use Rattle.mr_proof.specs.Cut.{Cut};
-ghost use Rattle.mr_proof.specs.Tight.{opens_seen, seen_at};
-ghost use Rattle.mr_check.specs.Standing.{frames_of, Open, IsRead, Closes, CloseFits, after, ways_at};
+ghost use Rattle.mr_proof.specs.Tight.{opens_seen, key_at};
+ghost use Rattle.mr_check.specs.Machine.{frames_of, Open, HasReadCut, ClosesNode, CloseFits, after, ways_at};
 
 use crate::frame::{pop, push};
 use crate::machine::Machine;
@@ -15,7 +15,7 @@ use mr_tree::{Entry, Hashes};
 // Whether the node is to be opened.
 pub(crate) fn is_to_be_opened<A: AsQuestion>(q: &A, head: &Head, node: &Entry) -> bool
     ensures { result ≡ opens_seen (ways_at (A.question q.now) head.now)
-        (option_map seen_at node.now.rect) }
+        (option_map key_at node.now.rect) }
 {
     match node.rect {
         None => false,
@@ -35,9 +35,10 @@ pub(crate) fn close<H: Hashes, A: AsQuestion>(
     ensures fits { CloseFits m.new.head.kind m.new.stage (vec_len m.new.frames.list) result }
     ensures kept { m.new.latest ≡ m.old.latest }
     ensures closes { (given : List types.Record) (os : List Open) (P : Cut)
-        → IsRead H.of H.holds (A.question q.now) m.old.head (frames_of m.old) m.old.tally node.now
+        → HasReadCut H.of H.holds (A.question q.now) m.old.head (frames_of m.old) m.old.tally
+        node.now
         given os P
-        → Closes H.of H.holds (A.question q.now) m.new given
+        → ClosesNode H.of H.holds (A.question q.now) m.new given
         (after (ways_at (A.question q.now) m.old.head) m.old.head node.now.level os P) result }
 {
     match pop(&mut m.frames) {

@@ -8,7 +8,7 @@ ghost use Rattle.mr_proof.specs.Tight.{IsLawful};
 ghost use Rattle.mr_proof.specs.Halves.{ShowsJust, FaultsJust, SpellsOneOf, FindsPairOf, StaysRefused, AcceptsHonestProof};
 ghost use Rattle.mr_proof.specs.Headline.{AcceptedMatchesHonest};
 ghost use Rattle.mr_proof.specs.Feeding.{IsUnsettled, HandsOpened};
-ghost use Rattle.mr_check.specs.Judged.{Took, Takes, IsStopped, AnswersCollected};
+ghost use Rattle.mr_check.specs.Judged.{Took, TakesNextPiece, IsStopped, AnswersCollected};
 
 use crate::outline::Collected;
 use crate::{CheckErr, Fed, Verifier};
@@ -32,7 +32,7 @@ fn gather<H: Hashes, A: AsQuestion>(
     piece: &[u8],
     kept: &mut Vec<Record>,
 ) -> Result<(), CheckErr>
-    ensures { Takes H.of H.holds (A.question q.now) verifier.old verifier.new piece.now
+    ensures { TakesNextPiece H.of H.holds (A.question q.now) verifier.old verifier.new piece.now
         kept.old.items
         kept.new.items result }
 {

@@ -3,13 +3,13 @@
 ghost use Rattle.std.specs.Prelude.{◌≡◌, ℕ, List, None};
 ghost use Rattle.mr_query.specs.Word.{IsQuery};
 ghost use Rattle.mr_query.specs.declared.query.Query as queries;
-ghost use Rattle.mr_record.specs.Bytes.{AreBytes};
+ghost use Rattle.mr_record.specs.private.Bytes.{AreBytes};
 ghost use Rattle.mr_record.specs.declared.version.Version.{Version};
 ghost use Rattle.mr_tree.specs.Digest.{by};
 ghost use Rattle.mr_proof.specs.Tight.{IsLawful};
 ghost use Rattle.mr_proof.specs.Headline.{AcceptedIsHonest, OthersFail};
 ghost use Rattle.mr_check.specs.Judged.{EndsAs};
-ghost use Rattle.mr_check.specs.Reads.{FitsReader, StandsBy, StandsAt, OtherRadius, found_at, EndsAt};
+ghost use Rattle.mr_check.specs.private.Reads.{FitsReader, StandsBy, StandsAt, OtherRadius, found_at, EndsAt};
 
 use crate::outline::Outline;
 use crate::radius_counts::has_other_radius;

@@ -2,10 +2,10 @@
 
 ghost use Rattle.std.specs.Prelude.{◌≡◌, ℕ, List, None, length};
 ghost use Rattle.mr_check.specs.Answers.{TakesFrom};
-ghost use Rattle.mr_check.specs.Reads.{FitsReader, StandsAt, FedBy, FaultFed};
+ghost use Rattle.mr_check.specs.private.Reads.{FitsReader, StandsAt, FedBy, FaultFed};
 
 use crate::fed::Fed;
-use crate::reader::{Reader, Turn, advance};
+use crate::reader::{Progress, Reader, advance};
 use mr_proof::AsQuestion;
 use mr_tree::Hashes;
 
@@ -23,16 +23,16 @@ pub(crate) fn read_piece<H: Hashes, A: AsQuestion>(q: &A, r: &mut Reader<H>, pie
     loop {
         let (_, rest) = piece.split_at(at);
         match advance(q, r, rest) {
-            Turn::More => return Fed::More,
-            Turn::Took(count) => at += count,
-            Turn::Found(count) => {
+            Progress::More => return Fed::More,
+            Progress::Took(count) => at += count,
+            Progress::Found(count) => {
                 let one = &r.machine.latest;
                 return Fed::Found {
                     taken: at + count,
                     item: *one,
                 };
             }
-            Turn::Broken(fault) => return Fed::Fault(fault),
+            Progress::Broken(fault) => return Fed::Fault(fault),
         }
     }
 }

@@ -1,7 +1,7 @@
 //! Open nodes.
 
 ghost use Rattle.std.specs.Prelude.{◌≡◌, ◌+◌, ◌<◌, ◌≤◌, [], ◌∷◌, reverse, vec_len, vec_capacity, IfOk};
-ghost use Rattle.mr_check.specs.Popping.{Pops};
+ghost use Rattle.mr_check.specs.private.Popping.{PopsFrame};
 
 use crate::open_node::OpenNode;
 use mr_tree::Hashes;
@@ -44,7 +44,7 @@ pub(crate) fn push<F>(stack: &mut Stack<F>, frame: F)
 }
 
 pub(crate) fn pop<F>(stack: &mut Stack<F>) -> Option<F>
-    ensures { Pops result (reverse stack.old.list.items) (reverse stack.new.list.items)
+    ensures { PopsFrame result (reverse stack.old.list.items) (reverse stack.new.list.items)
         (vec_len stack.old.list) (vec_len stack.new.list) }
 {
     stack.list.pop()

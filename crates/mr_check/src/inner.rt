@@ -4,15 +4,15 @@ ghost use Rattle.std.specs.Prelude.{◌≡◌, ◌+◌, ◌≤◌, [], List, vec
 ghost use Rattle.mr_record.specs.declared.record.Record as types;
 ghost use Rattle.mr_proof.specs.Cut.{Pruned, Inner, Leaf};
 ghost use Rattle.mr_proof.specs.Grammar.{item, some_items, some_records, opened};
-ghost use Rattle.mr_check.specs.Standing.{frames_of, Above, InTree, Steps, StepFits, after, node_next, ways_at, shown_next, stage_of, stepped_by};
+ghost use Rattle.mr_check.specs.Machine.{frames_of, Above, InTree, StepsPastField, StepFits, after, node_next, ways_at, shown_next, stage_of, stepped_by};
 
 use crate::closing::close;
 use crate::frame::{Frame, push};
-use crate::machine::{Machine, Stepped};
+use crate::machine::{Machine, StepResult};
 use crate::open_node::OpenNode;
 use crate::stage::Stage;
 use mr_geom::Rect;
-use mr_proof::{AsQuestion, Rule, Shown};
+use mr_proof::{AsQuestion, PrunedEntry, Rule};
 use mr_tree::Hashes;
 
 // The stage behind a tag.
@@ -35,18 +35,18 @@ pub(crate) fn tagged<H: Hashes, A: AsQuestion>(
     m: &mut Machine<H>,
     level: u8,
     tag: u8,
-) -> Stepped
+) -> StepResult
     requires { vec_len m.old.frames.list + level ≤ 7 }
     ensures fits { StepFits m.new.head.kind m.new.stage (vec_len m.new.frames.list) result }
     ensures steps { (given : List types.Record) (a : Above) → a.records ≡ []
         → InTree H.of H.holds (A.question q.now) m.old.head (frames_of m.old) m.old.tally level
         given a
-        → Steps H.of H.holds (A.question q.now) m.new given (node_next
+        → StepsPastField H.of H.holds (A.question q.now) m.new given (node_next
         (ways_at (A.question q.now) m.old.head) level
         (after (ways_at (A.question q.now) m.old.head) m.old.head level a.nodes) tag) result }
 {
     m.stage = stage_of(level, tag);
-    Stepped::On
+    StepResult::On
 }
 
 // The rectangle of a pruned part.
@@ -55,30 +55,30 @@ pub(crate) fn shown<H: Hashes, A: AsQuestion>(
     m: &mut Machine<H>,
     level: u8,
     rect: &Rect,
-) -> Stepped
+) -> StepResult
     requires { vec_len m.old.frames.list + level ≤ 7 }
     ensures fits { StepFits m.new.head.kind m.new.stage (vec_len m.new.frames.list) result }
     ensures steps { (given : List types.Record) (a : Above) → a.records ≡ []
         → InTree H.of H.holds (A.question q.now) m.old.head (frames_of m.old) m.old.tally level
         given a
-        → Steps H.of H.holds (A.question q.now) m.new given
+        → StepsPastField H.of H.holds (A.question q.now) m.new given
         (shown_next (ways_at (A.question q.now) m.old.head)
         (after (ways_at (A.question q.now) m.old.head) m.old.head level a.nodes) rect.now)
         result }
 {
     if q.way(m.head.radius, rect).is_open() {
-        return Stepped::Broken(Rule::Hidden);
+        return StepResult::Broken(Rule::Hidden);
     }
     m.stage = Stage::Digest(level, *rect);
-    Stepped::On
+    StepResult::On
 }
 
-fn stepped(broken: Option<Rule>) -> Stepped
+fn stepped(broken: Option<Rule>) -> StepResult
     ensures { result ≡ stepped_by broken }
 {
     match broken {
-        None => Stepped::On,
-        Some(rule) => Stepped::Broken(rule),
+        None => StepResult::On,
+        Some(rule) => StepResult::Broken(rule),
     }
 }
 
@@ -87,14 +87,14 @@ pub(crate) fn pruned<H: Hashes, A: AsQuestion>(
     q: &A,
     m: &mut Machine<H>,
     level: u8,
-    part: &Shown,
-) -> Stepped
+    part: &PrunedEntry,
+) -> StepResult
     requires { vec_len m.old.frames.list + level ≤ 7 }
     ensures fits { StepFits m.new.head.kind m.new.stage (vec_len m.new.frames.list) result }
     ensures steps { (given : List types.Record) (a : Above) → a.records ≡ []
         → InTree H.of H.holds (A.question q.now) m.old.head (frames_of m.old) m.old.tally level
         given a
-        → Steps H.of H.holds (A.question q.now) m.new given (after
+        → StepsPastField H.of H.holds (A.question q.now) m.new given (after
         (ways_at (A.question q.now) m.old.head) m.old.head level
         a.nodes (Pruned part.now)) result }
 {
@@ -108,14 +108,14 @@ pub(crate) fn opened_inner<H: Hashes, A: AsQuestion>(
     m: &mut Machine<H>,
     below: u8,
     entries: u8,
-) -> Stepped
+) -> StepResult
     requires levels { vec_len m.old.frames.list + (below + 1) ≤ 7 }
     requires some { 1 ≤ entries }
     ensures fits { StepFits m.new.head.kind m.new.stage (vec_len m.new.frames.list) result }
     ensures steps { (given : List types.Record) (a : Above) → a.records ≡ []
         → InTree H.of H.holds (A.question q.now) m.old.head (frames_of m.old) m.old.tally
         (below + 1) given a
-        → Steps H.of H.holds (A.question q.now) m.new given
+        → StepsPastField H.of H.holds (A.question q.now) m.new given
         (some_items (item (ways_at (A.question q.now) m.old.head) below) entries
         (λ Ps. opened (ways_at (A.question q.now) m.old.head) (Inner Ps)
         (after (ways_at (A.question q.now) m.old.head) m.old.head (below + 1) a.nodes))) result }
@@ -126,7 +126,7 @@ pub(crate) fn opened_inner<H: Hashes, A: AsQuestion>(
     };
     push(&mut m.frames, frame);
     m.stage = Stage::Tag(below);
-    Stepped::On
+    StepResult::On
 }
 
 // The number of records of a leaf.
@@ -134,13 +134,13 @@ pub(crate) fn opened_leaf<H: Hashes, A: AsQuestion>(
     q: &A,
     m: &mut Machine<H>,
     entries: u8,
-) -> Stepped
+) -> StepResult
     requires levels { vec_len m.old.frames.list ≤ 7 }
     requires some { 1 ≤ entries }
     ensures fits { StepFits m.new.head.kind m.new.stage (vec_len m.new.frames.list) result }
     ensures steps { (given : List types.Record) (a : Above) → a.records ≡ []
         → InTree H.of H.holds (A.question q.now) m.old.head (frames_of m.old) m.old.tally 0 given a
-        → Steps H.of H.holds (A.question q.now) m.new given
+        → StepsPastField H.of H.holds (A.question q.now) m.new given
         (some_records (ways_at (A.question q.now) m.old.head) entries
         (λ rs. opened (ways_at (A.question q.now) m.old.head) (Leaf rs)
         (after (ways_at (A.question q.now) m.old.head) m.old.head 0 a.nodes))) result }
@@ -150,5 +150,5 @@ pub(crate) fn opened_leaf<H: Hashes, A: AsQuestion>(
         left: entries - 1,
     };
     m.stage = Stage::Number;
-    Stepped::On
+    StepResult::On
 }

@@ -6,9 +6,9 @@ ghost use Rattle.mr_tree.specs.Digest.{by};
 ghost use Rattle.mr_query.specs.Word.{IsAskable};
 ghost use Rattle.mr_query.specs.declared.query.Query as queries;
 ghost use Rattle.mr_proof.specs.Tight.{question};
-ghost use Rattle.mr_proof.specs.Feeding.{Ends, HandsOpened};
+ghost use Rattle.mr_proof.specs.Feeding.{EndsFeeding, HandsOpened};
 ghost use Rattle.mr_proof.specs.Headline.{AcceptedIsHonest, OthersFail};
-ghost use Rattle.mr_check.specs.Answers.{TakesFrom, taken_of, Feeds};
+ghost use Rattle.mr_check.specs.Answers.{TakesFrom, taken_of, FeedsPiece};
 
 use crate::ending::accepted_are_honest;
 use crate::fed::Fed;
@@ -27,12 +27,12 @@ pub struct Judge<H: Hashes> {
 }
 
 impl<H: Hashes> Judge<H> {
-    ghost use Rattle.mr_check.specs.Judged.{StandsFor};
+    ghost use Rattle.mr_check.specs.Judged.{WasFedForQuery};
 
     /// A judge that was fed nothing. It makes room for all that it will need.
     pub fn new(alloc: Global, root: &[u8; 32], q: &Query) -> Result<Judge<H>, AllocError>
         requires { IsAskable q.now }
-        ensures { IfOk result (λ j. StandsFor H.of H.holds root.now q.now j []) }
+        ensures { IfOk result (λ j. WasFedForQuery H.of H.holds root.now q.now j []) }
     {
         is_query(q);
         query_is_lawful(q);
@@ -50,11 +50,11 @@ impl<H: Hashes> Judge<H> {
     pub fn feed(&mut self, piece: &[u8]) -> Fed
         ensures taken { TakesFrom (length piece.now) result }
         ensures stands { (root : List ℕ) (q : queries.Query) (bytes : List ℕ)
-            → StandsFor H.of H.holds root q self.old bytes
-            → StandsFor H.of H.holds root q self.new (bytes ++ taken_of result piece.now) }
+            → WasFedForQuery H.of H.holds root q self.old bytes
+            → WasFedForQuery H.of H.holds root q self.new (bytes ++ taken_of result piece.now) }
         ensures fed { (root : List ℕ) (q : queries.Query) (bytes : List ℕ)
-            → StandsFor H.of H.holds root q self.old bytes
-            → Feeds H.of root (question q) bytes piece.now result }
+            → WasFedForQuery H.of H.holds root q self.old bytes
+            → FeedsPiece H.of root (question q) bytes piece.now result }
     {
         self.verifier.feed(&self.query, piece)
     }
@@ -62,13 +62,13 @@ impl<H: Hashes> Judge<H> {
     /// The verdict of the bytes that were fed, which is that of `check`. It takes no memory.
     pub fn end(self) -> Result<(), Fault>
         ensures verdict { (root : List ℕ) (q : queries.Query) (bytes : List ℕ)
-            → StandsFor H.of H.holds root q self bytes → Ends H.of root q bytes result }
+            → WasFedForQuery H.of H.holds root q self bytes → EndsFeeding H.of root q bytes result }
         ensures accepted { (v : Version) (root : List ℕ) (q : queries.Query) (bytes : List ℕ)
-            → StandsFor H.of H.holds root q self bytes → AcceptedIsHonest (by v H.of) q bytes }
+            → WasFedForQuery H.of H.holds root q self bytes → AcceptedIsHonest (by v H.of) q bytes }
         ensures other_strings { (v : Version) (root : List ℕ) (q : queries.Query) (bytes : List ℕ)
-            → StandsFor H.of H.holds root q self bytes → OthersFail (by v H.of) q bytes }
+            → WasFedForQuery H.of H.holds root q self bytes → OthersFail (by v H.of) q bytes }
         ensures handed { (root : List ℕ) (q : queries.Query) (bytes : List ℕ)
-            → StandsFor H.of H.holds root q self bytes → HandsOpened (question q) bytes }
+            → WasFedForQuery H.of H.holds root q self bytes → HandsOpened (question q) bytes }
     {
         accepted_are_honest::<H>();
         self.verifier.end(&self.query)?;

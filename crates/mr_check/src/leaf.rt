@@ -2,14 +2,14 @@
 
 ghost use Rattle.std.specs.Prelude.{◌≡◌, ◌≤◌, [], List, vec_len};
 ghost use Rattle.mr_record.specs.declared.record.Record as types;
-ghost use Rattle.mr_check.specs.Counting.{Counts};
-ghost use Rattle.mr_check.specs.Standing.{frames_of, Above, InTree, IsLeaf, LeafRead, Steps, StepFits, after_record, is_handed_out, ways_at, found_by, plus, behind_length};
+ghost use Rattle.mr_check.specs.private.Counting.{CountsRecords};
+ghost use Rattle.mr_check.specs.Machine.{frames_of, Above, InTree, IsLeaf, LeafRead, StepsPastField, StepFits, after_record, is_handed_out, ways_at, found_by, plus, behind_length};
 ghost use Rattle.mr_record.specs.Record.{payload_limit, HasLayer};
 ghost use Rattle.mr_proof.specs.Fields.{version};
 
 use crate::closing::{close, is_to_be_opened};
 use crate::frame::Frame;
-use crate::machine::{Machine, Stepped};
+use crate::machine::{Machine, StepResult};
 use crate::open_node::OpenNode;
 use crate::radius_counts::{RadiusCounts, count};
 use crate::stage::Stage;
@@ -22,9 +22,11 @@ use std::mem;
 // Whether the record is handed out; if so, it is counted.
 fn counted<A: AsQuestion>(q: &A, head: &Head, tally: &mut RadiusCounts, one: &Record) -> bool
     ensures handed_on { result ≡ is_handed_out (A.question q.now) head.now one.now }
-    ensures tally { (given : List types.Record) → Counts (A.question q.now).around head.now.radius
+    ensures tally { (given : List types.Record) → CountsRecords (A.question q.now).around
+        head.now.radius
         given tally.old
-        → Counts (A.question q.now).around head.now.radius (plus result given one.now) tally.new }
+        → CountsRecords (A.question q.now).around head.now.radius (plus result given one.now)
+        tally.new }
 {
     if q.way(head.radius, &one.rect).is_kept() {
         count(tally, q.around(), head.radius, one);
@@ -45,23 +47,23 @@ fn taken<H: Hashes>(leaf: &mut Frame<H>) -> Frame<H>
     mem::replace(leaf, blank)
 }
 
-fn found(broken: Option<Rule>, handed_on: bool) -> Stepped
+fn found(broken: Option<Rule>, handed_on: bool) -> StepResult
     ensures { result ≡ found_by broken handed_on }
 {
     match broken {
-        Some(rule) => Stepped::Broken(rule),
+        Some(rule) => StepResult::Broken(rule),
         None => {
             if handed_on {
-                Stepped::Found
+                StepResult::Found
             } else {
-                Stepped::On
+                StepResult::On
             }
         }
     }
 }
 
 // The last record of the open leaf was read.
-fn last<H: Hashes, A: AsQuestion>(q: &A, m: &mut Machine<H>, handed_on: bool) -> Stepped
+fn last<H: Hashes, A: AsQuestion>(q: &A, m: &mut Machine<H>, handed_on: bool) -> StepResult
     requires { vec_len m.old.frames.list ≤ 7 }
     ensures fits { StepFits m.new.head.kind m.new.stage (vec_len m.new.frames.list) result }
     ensures steps { (given : List types.Record) (a : Above)
@@ -69,26 +71,26 @@ fn last<H: Hashes, A: AsQuestion>(q: &A, m: &mut Machine<H>, handed_on: bool) ->
         → LeafRead H.of H.holds (A.question q.now) m.old.head (frames_of m.old) m.old.tally
         m.old.leaf
         (plus handed_on given m.old.latest) a m.old.latest
-        → Steps H.of H.holds (A.question q.now) m.new given (after_record
+        → StepsPastField H.of H.holds (A.question q.now) m.new given (after_record
         (ways_at (A.question q.now) m.old.head) m.old.head
         0 a.nodes a.records m.old.latest) result }
 {
     let leaf = taken(&mut m.leaf);
     let node = leaf.node.close(0);
     if !is_to_be_opened(q, &m.head, &node) {
-        return Stepped::Broken(Rule::Needless);
+        return StepResult::Broken(Rule::Needless);
     }
     found(close(q, m, &node), handed_on)
 }
 
 // One more record of the open leaf was read.
-pub(crate) fn record<H: Hashes, A: AsQuestion>(q: &A, m: &mut Machine<H>) -> Stepped
+pub(crate) fn record<H: Hashes, A: AsQuestion>(q: &A, m: &mut Machine<H>) -> StepResult
     requires deep { vec_len m.old.frames.list ≤ 7 }
     requires layer { HasLayer version m.old.latest }
     ensures fits { StepFits m.new.head.kind m.new.stage (vec_len m.new.frames.list) result }
     ensures steps { (given : List types.Record) (a : Above) → IsLeaf H.holds m.old.leaf a.records
         → InTree H.of H.holds (A.question q.now) m.old.head (frames_of m.old) m.old.tally 0 given a
-        → Steps H.of H.holds (A.question q.now) m.new given (after_record
+        → StepsPastField H.of H.holds (A.question q.now) m.new given (after_record
         (ways_at (A.question q.now) m.old.head) m.old.head
         m.old.leaf.left a.nodes a.records m.old.latest) result }
 {
@@ -109,20 +111,20 @@ pub(crate) fn sized<H: Hashes, A: AsQuestion>(
     number: u64,
     rect: &Rect,
     length: u8,
-) -> Stepped
+) -> StepResult
     requires deep { vec_len m.old.frames.list ≤ 7 }
     requires few { length ≤ payload_limit }
     ensures fits { StepFits m.new.head.kind m.new.stage (vec_len m.new.frames.list) result }
     ensures steps { (given : List types.Record) (a : Above) → IsLeaf H.holds m.old.leaf a.records
         → InTree H.of H.holds (A.question q.now) m.old.head (frames_of m.old) m.old.tally 0 given a
-        → Steps H.of H.holds (A.question q.now) m.new given (behind_length (after_record
+        → StepsPastField H.of H.holds (A.question q.now) m.new given (behind_length (after_record
         (ways_at (A.question q.now) m.old.head) m.old.head m.old.leaf.left a.nodes a.records)
         number
         rect.now length) result }
 {
     if length > 0 {
         m.stage = Stage::Payload(number, *rect, length);
-        return Stepped::On;
+        return StepResult::On;
     }
     let payload = no_payload();
     m.latest = Record {

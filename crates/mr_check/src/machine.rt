@@ -21,7 +21,7 @@ pub(crate) struct Machine<H: Hashes> {
 }
 
 // What one more field comes to.
-pub(crate) enum Stepped {
+pub(crate) enum StepResult {
     On,
     // the record that was read last is handed out
     Found,

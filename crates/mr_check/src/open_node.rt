@@ -3,9 +3,9 @@
 ghost use Rattle.std.specs.Prelude.{◌≡◌, ◌∷◌, ◌++◌, [], ℕ, List};
 ghost use Rattle.mr_record.specs.Record.{HasLayer};
 ghost use Rattle.mr_tree.specs.Digest.{leaf_tag, inner_tag};
-ghost use Rattle.mr_tree.specs.Gathers.{Piece, of_record, of_entry};
+ghost use Rattle.mr_tree.specs.HasHashed.{Piece, of_record, of_entry};
 ghost use Rattle.mr_proof.specs.Fields.{version};
-ghost use Rattle.mr_check.specs.OpenNodes.{IsSilent, Gathered};
+ghost use Rattle.mr_check.specs.private.OpenNodes.{IsSilent, Gathered};
 
 use mr_geom::{Rect, joined};
 use mr_proof::VERSION;

@@ -3,7 +3,7 @@
 ghost use Rattle.std.specs.Prelude.{◌≡◌, ◌+◌, ◌-◌, ◌^◌, ◌<◌, ◌∷◌, [], ◌++◌, List, min, if◌then◌else◌};
 ghost use Rattle.mr_record.specs.declared.record.Record as types;
 ghost use Rattle.mr_proof.specs.Refused.{has_other_radius};
-ghost use Rattle.mr_check.specs.Counting.{Counts, no_counts, is_near, is_in};
+ghost use Rattle.mr_check.specs.private.Counting.{CountsRecords, no_counts, is_near, is_in};
 
 use mr_proof::Around;
 use mr_record::Record;
@@ -64,8 +64,8 @@ pub(crate) fn count(
     radius: Option<u128>,
     one: &Record,
 )
-    ensures { (rs : List types.Record) → Counts around radius rs tally.old
-        → Counts around radius (rs ++ one.now ∷ []) tally.new }
+    ensures { (rs : List types.Record) → CountsRecords around radius rs tally.old
+        → CountsRecords around radius (rs ++ one.now ∷ []) tally.new }
 {
     let near = is_near(around, radius, one);
     let within = is_in(around, radius, one);
@@ -87,7 +87,7 @@ pub(crate) fn has_other_radius(
     around: Option<Around>,
     radius: Option<u128>,
 ) -> bool
-    ensures { (rs : List types.Record) → Counts around radius rs tally.now
+    ensures { (rs : List types.Record) → CountsRecords around radius rs tally.now
         → result ≡ has_other_radius around radius rs }
 {
     match around {

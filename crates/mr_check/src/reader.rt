@@ -6,17 +6,17 @@ ghost use Rattle.mr_proof.specs.Tight.{Question};
 ghost use Rattle.mr_proof.specs.Limits.{place_limit};
 ghost use Rattle.mr_proof.specs.Fields.{size_of, field_of, FitsPayload, HasForm};
 ghost use Rattle.mr_proof.specs.Cut.{Cut};
-ghost use Rattle.mr_proof.specs.Spelling.{Said};
+ghost use Rattle.mr_proof.specs.Spelling.{Parsed};
 ghost use Rattle.mr_proof.specs.Grammar.{Grammar};
-ghost use Rattle.mr_check.specs.declared.reader.Turn.TheVariants as turns;
-ghost use Rattle.mr_check.specs.Stops.{noted};
-ghost use Rattle.mr_check.specs.Stages.{want_at, size_in, MayBe, FitsStage};
-ghost use Rattle.mr_check.specs.Standing.{Above, IsOpen, Steps, StepFits, WaitsPast, next_at};
-ghost use Rattle.mr_check.specs.Reads.{want_of, last_field, FitsReader, IsWhole, StandsAt, Behind, Turns, TakesSome, TakesJust, FaultOf};
+ghost use Rattle.mr_check.specs.declared.reader.Progress.TheVariants as turns;
+ghost use Rattle.mr_check.specs.private.Stops.{noted};
+ghost use Rattle.mr_check.specs.private.Stages.{want_at, size_in, MayBe, FitsStage};
+ghost use Rattle.mr_check.specs.Machine.{Above, IsOpen, StepsPastField, StepFits, WaitsPast, next_at};
+ghost use Rattle.mr_check.specs.private.Reads.{want_of, last_field, FitsReader, IsWhole, StandsAt, Behind, MakesProgress, TakesSome, TakesJust, FaultOf};
 ghost use Rattle.mr_record.specs.Record.{payload_limit};
 
 use crate::leaf::record;
-use crate::machine::{Machine, Stepped};
+use crate::machine::{Machine, StepResult};
 use crate::stage::{Stage, want_at};
 use crate::step::step;
 use mr_outside::Buffer;
@@ -36,7 +36,7 @@ pub(crate) struct Reader<H: Hashes> {
 
 // What some bytes come to: the whole piece was taken; or so many of its bytes, which end a field,
 // and maybe a record that is handed out, which the machine has; or there is a fault.
-pub(crate) enum Turn {
+pub(crate) enum Progress {
     More,
     Took(usize),
     Found(usize),
@@ -71,7 +71,7 @@ pub(crate) fn fault_at(rule: Rule, at: usize) -> Fault
 }
 
 // There is a fault: nothing more is read.
-fn fail<H: Hashes>(r: &mut Reader<H>, rule: Rule, at: usize) -> Turn
+fn fail<H: Hashes>(r: &mut Reader<H>, rule: Rule, at: usize) -> Progress
     requires deep { vec_len r.old.machine.frames.list ≤ 7 }
     requires place { r.old.at ≤ place_limit }
     ensures fits { FitsReader r.new }
@@ -82,7 +82,7 @@ fn fail<H: Hashes>(r: &mut Reader<H>, rule: Rule, at: usize) -> Turn
     r.machine.stage = Stage::End(Entry::none());
     r.held = Buffer::new();
     r.fault = Some(fault);
-    Turn::Broken(fault)
+    Progress::Broken(fault)
 }
 
 // Whether the field that is under way would end past the limit.
@@ -98,7 +98,7 @@ fn is_long<H: Hashes>(r: &Reader<H>) -> bool
 }
 
 // Behind what gave no record.
-fn goes_on<H: Hashes>(r: &mut Reader<H>, taken: usize) -> Turn
+fn goes_on<H: Hashes>(r: &mut Reader<H>, taken: usize) -> Progress
     requires stage { FitsStage r.old.machine.head.kind r.old.machine.stage
         (vec_len r.old.machine.frames.list) }
     requires held { r.old.held ≡ [] }
@@ -107,7 +107,7 @@ fn goes_on<H: Hashes>(r: &mut Reader<H>, taken: usize) -> Turn
     ensures fits { FitsReader r.new }
     ensures fault { FaultOf r.new.fault result }
     ensures takes { TakesJust taken result }
-    ensures behind { (q : Question) (given : List types.Record) (g : Grammar Said) (last : ℕ)
+    ensures behind { (q : Question) (given : List types.Record) (g : Grammar Parsed) (last : ℕ)
         → noted g ≡ [] → WaitsPast H.of H.holds q r.old.machine given g
         → Behind H.of H.holds q given r.old.at last taken r.new g result }
 {
@@ -115,11 +115,11 @@ fn goes_on<H: Hashes>(r: &mut Reader<H>, taken: usize) -> Turn
         let at = r.at;
         return fail(r, Rule::Long, at);
     }
-    Turn::Took(taken)
+    Progress::Took(taken)
 }
 
 // Behind what ended a record that is handed out.
-fn hands_out<H: Hashes>(r: &mut Reader<H>, taken: usize) -> Turn
+fn hands_out<H: Hashes>(r: &mut Reader<H>, taken: usize) -> Progress
     requires stage { FitsStage r.old.machine.head.kind r.old.machine.stage
         (vec_len r.old.machine.frames.list) }
     requires held { r.old.held ≡ [] }
@@ -128,7 +128,7 @@ fn hands_out<H: Hashes>(r: &mut Reader<H>, taken: usize) -> Turn
     ensures fits { FitsReader r.new }
     ensures fault { FaultOf r.new.fault result }
     ensures takes { TakesJust taken result }
-    ensures behind { (q : Question) (given : List types.Record) (g : Grammar Said) (last : ℕ)
+    ensures behind { (q : Question) (given : List types.Record) (g : Grammar Parsed) (last : ℕ)
         → noted g ≡ r.old.machine.latest ∷ []
         → WaitsPast H.of H.holds q r.old.machine (given ++ r.old.machine.latest ∷ []) g
         → Behind H.of H.holds q given r.old.at last taken r.new g result }
@@ -137,12 +137,12 @@ fn hands_out<H: Hashes>(r: &mut Reader<H>, taken: usize) -> Turn
         let at = r.at;
         return fail(r, Rule::Long, at);
     }
-    Turn::Found(taken)
+    Progress::Found(taken)
 }
 
 // What a step comes to that was made with so many bytes of a piece, the last of a field at this
 // place.
-fn behind<H: Hashes>(r: &mut Reader<H>, stepped: Stepped, last: usize, taken: usize) -> Turn
+fn behind<H: Hashes>(r: &mut Reader<H>, stepped: StepResult, last: usize, taken: usize) -> Progress
     requires stage { StepFits r.old.machine.head.kind r.old.machine.stage
         (vec_len r.old.machine.frames.list) stepped }
     requires held { r.old.held ≡ [] }
@@ -151,14 +151,14 @@ fn behind<H: Hashes>(r: &mut Reader<H>, stepped: Stepped, last: usize, taken: us
     ensures fits { FitsReader r.new }
     ensures fault { FaultOf r.new.fault result }
     ensures takes { TakesJust taken result }
-    ensures behind { (q : Question) (given : List types.Record) (g : Grammar Said)
-        → Steps H.of H.holds q r.old.machine given g stepped
+    ensures behind { (q : Question) (given : List types.Record) (g : Grammar Parsed)
+        → StepsPastField H.of H.holds q r.old.machine given g stepped
         → Behind H.of H.holds q given r.old.at last taken r.new g result }
 {
     match stepped {
-        Stepped::Broken(rule) => fail(r, rule, last),
-        Stepped::On => goes_on(r, taken),
-        Stepped::Found => hands_out(r, taken),
+        StepResult::Broken(rule) => fail(r, rule, last),
+        StepResult::On => goes_on(r, taken),
+        StepResult::Found => hands_out(r, taken),
     }
 }
 
@@ -169,7 +169,7 @@ fn behind_field<H: Hashes, A: AsQuestion>(
     field: &Field,
     size: usize,
     taken: usize,
-) -> Turn
+) -> Progress
     requires stage { FitsStage r.old.machine.head.kind r.old.machine.stage
         (vec_len r.old.machine.frames.list) }
     requires may { MayBe (want_of r.old) field.now }
@@ -192,7 +192,12 @@ fn behind_field<H: Hashes, A: AsQuestion>(
 }
 
 // The field that is under way, as far as the piece has it.
-fn next_field<H: Hashes, A: AsQuestion>(q: &A, r: &mut Reader<H>, want: &Want, piece: &[u8]) -> Turn
+fn next_field<H: Hashes, A: AsQuestion>(
+    q: &A,
+    r: &mut Reader<H>,
+    want: &Want,
+    piece: &[u8],
+) -> Progress
     requires fits { FitsReader r.old }
     requires wants { want_of r.old ≡ Some want.now }
     requires none { r.old.fault ≡ None }
@@ -200,13 +205,13 @@ fn next_field<H: Hashes, A: AsQuestion>(q: &A, r: &mut Reader<H>, want: &Want, p
     ensures fault { FaultOf r.new.fault result }
     ensures takes { TakesSome (length piece.now) result }
     ensures turns { (s : List ℕ) → StandsAt H.of H.holds (A.question q.now) r.old s
-        → Turns H.of H.holds (A.question q.now) s piece.now r.new result }
+        → MakesProgress H.of H.holds (A.question q.now) s piece.now r.new result }
 {
     let size = want.size();
     let missing = size - r.held.as_slice().len();
     if piece.len() < missing {
         r.held.put(piece);
-        return Turn::More;
+        return Progress::More;
     }
     let (front, _) = piece.split_at(missing);
     match read_whole(want, &mut r.held, front) {
@@ -219,7 +224,7 @@ fn next_field<H: Hashes, A: AsQuestion>(q: &A, r: &mut Reader<H>, want: &Want, p
 }
 
 // Behind the last field no byte may stand.
-fn at_end<H: Hashes>(r: &mut Reader<H>, piece: &[u8]) -> Turn
+fn at_end<H: Hashes>(r: &mut Reader<H>, piece: &[u8]) -> Progress
     requires fits { FitsReader r.old }
     requires ends { want_of r.old ≡ None }
     requires none { r.old.fault ≡ None }
@@ -227,24 +232,24 @@ fn at_end<H: Hashes>(r: &mut Reader<H>, piece: &[u8]) -> Turn
     ensures fault { FaultOf r.new.fault result }
     ensures takes { TakesSome (length piece.now) result }
     ensures turns { (q : Question) (s : List ℕ) → StandsAt H.of H.holds q r.old s
-        → Turns H.of H.holds q s piece.now r.new result }
+        → MakesProgress H.of H.holds q s piece.now r.new result }
 {
     if piece.is_empty() {
-        return Turn::More;
+        return Progress::More;
     }
     let at = r.at;
     fail(r, Rule::Trailing, at)
 }
 
 // The next field, as far as the piece has it.
-fn by_field<H: Hashes, A: AsQuestion>(q: &A, r: &mut Reader<H>, piece: &[u8]) -> Turn
+fn by_field<H: Hashes, A: AsQuestion>(q: &A, r: &mut Reader<H>, piece: &[u8]) -> Progress
     requires fits { FitsReader r.old }
     requires none { r.old.fault ≡ None }
     ensures fits { FitsReader r.new }
     ensures fault { FaultOf r.new.fault result }
     ensures takes { TakesSome (length piece.now) result }
     ensures turns { (s : List ℕ) → StandsAt H.of H.holds (A.question q.now) r.old s
-        → Turns H.of H.holds (A.question q.now) s piece.now r.new result }
+        → MakesProgress H.of H.holds (A.question q.now) s piece.now r.new result }
 {
     match want_at(r.machine.head.kind, &r.machine.stage) {
         None => at_end(r, piece),
@@ -290,7 +295,7 @@ fn behind_record<H: Hashes, A: AsQuestion>(
     one: &Record,
     size: usize,
     piece: &[u8],
-) -> Turn
+) -> Progress
     requires fits { FitsReader r.old }
     requires none { r.old.fault ≡ None }
     requires whole { IsWhole r.old piece.now one.now size }
@@ -298,7 +303,7 @@ fn behind_record<H: Hashes, A: AsQuestion>(
     ensures fault { FaultOf r.new.fault result }
     ensures takes { TakesSome (length piece.now) result }
     ensures turns { (s : List ℕ) → StandsAt H.of H.holds (A.question q.now) r.old s
-        → Turns H.of H.holds (A.question q.now) s piece.now r.new result }
+        → MakesProgress H.of H.holds (A.question q.now) s piece.now r.new result }
 {
     let last = last_field(r.at, one);
     r.at += size;
@@ -308,14 +313,14 @@ fn behind_record<H: Hashes, A: AsQuestion>(
 }
 
 // The next record or the next field, as far as the piece has it.
-pub(crate) fn advance<H: Hashes, A: AsQuestion>(q: &A, r: &mut Reader<H>, piece: &[u8]) -> Turn
+pub(crate) fn advance<H: Hashes, A: AsQuestion>(q: &A, r: &mut Reader<H>, piece: &[u8]) -> Progress
     requires fits { FitsReader r.old }
     requires none { r.old.fault ≡ None }
     ensures fits { FitsReader r.new }
     ensures fault { FaultOf r.new.fault result }
     ensures takes { TakesSome (length piece.now) result }
     ensures turns { (s : List ℕ) → StandsAt H.of H.holds (A.question q.now) r.old s
-        → Turns H.of H.holds (A.question q.now) s piece.now r.new result }
+        → MakesProgress H.of H.holds (A.question q.now) s piece.now r.new result }
 {
     match whole_record(r, piece) {
         None => by_field(q, r, piece),

@@ -1,7 +1,7 @@
 //! The field that is under way.
 
 ghost use Rattle.std.specs.Prelude.{◌≡◌};
-ghost use Rattle.mr_check.specs.Stages.{head_want, want_at};
+ghost use Rattle.mr_check.specs.private.Stages.{head_want, want_at};
 
 use mr_geom::Rect;
 use mr_proof::{Kind, Want};

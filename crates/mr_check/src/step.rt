@@ -3,19 +3,19 @@
 ghost use Rattle.std.specs.Prelude.{◌≡◌, ◌≤◌, List, Option, vec_len};
 ghost use Rattle.mr_record.specs.declared.record.Record as types;
 ghost use Rattle.mr_proof.specs.Cut.{Cut};
-ghost use Rattle.mr_check.specs.Stages.{want_at, head_want, MayBe, FitsStage};
+ghost use Rattle.mr_check.specs.private.Stages.{want_at, head_want, MayBe, FitsStage};
 ghost use Rattle.mr_proof.specs.Fields.{HasForm};
 ghost use Rattle.mr_proof.specs.Tight.{Question};
-ghost use Rattle.mr_check.specs.declared.machine.Stepped.TheVariants as stepped;
-ghost use Rattle.mr_check.specs.Standing.{frames_of, Above, IsOpen, InHead, Steps, StepFits, next_at, head_next, stage_behind};
+ghost use Rattle.mr_check.specs.declared.machine.StepResult.TheVariants as stepped;
+ghost use Rattle.mr_check.specs.Machine.{frames_of, Above, IsOpen, InHead, StepsPastField, StepFits, next_at, head_next, stage_behind};
 
 use crate::headed::behind_field;
 use crate::inner::{opened_inner, opened_leaf, pruned, shown, tagged};
 use crate::leaf::{record, sized};
-use crate::machine::{Machine, Stepped};
+use crate::machine::{Machine, StepResult};
 use crate::stage::{HeadField, Stage};
 use crate::values::{digest_of, number_of, payload_of, rect_of, tag_of};
-use mr_proof::{AsQuestion, Field, Head, Shown};
+use mr_proof::{AsQuestion, Field, Head, PrunedEntry};
 use mr_record::Record;
 use mr_tree::{Entry, Hashes};
 
@@ -36,37 +36,37 @@ fn stage_behind(head: &Head, next: Option<HeadField>) -> Stage
 }
 
 // A field of the head.
-fn headed<H: Hashes>(m: &mut Machine<H>, at: HeadField, field: &Field) -> Stepped
+fn headed<H: Hashes>(m: &mut Machine<H>, at: HeadField, field: &Field) -> StepResult
     requires levels { vec_len m.old.frames.list ≡ 0 }
     requires may { HasForm (head_want m.old.head.kind at) field.now }
     ensures fits { StepFits m.new.head.kind m.new.stage (vec_len m.new.frames.list) result }
     ensures steps { (q : Question) (given : List types.Record)
         → InHead q m.old.head (frames_of m.old) m.old.tally given
-        → Steps H.of H.holds q m.new given
+        → StepsPastField H.of H.holds q m.new given
         (head_next q.way m.old.head at field.now) result }
 {
     let next = behind_field(&mut m.head, at, field);
     m.stage = stage_behind(&m.head, next);
-    Stepped::On
+    StepResult::On
 }
 
 // The stage alone is another.
-fn goes<H: Hashes>(m: &mut Machine<H>, stage: Stage) -> Stepped
+fn goes<H: Hashes>(m: &mut Machine<H>, stage: Stage) -> StepResult
     ensures value { result ≡ stepped.On }
     ensures stage { m.new ≡ record m.old { stage = stage } }
 {
     m.stage = stage;
-    Stepped::On
+    StepResult::On
 }
 
 // One more field, behind those before.
-pub(crate) fn step<H: Hashes, A: AsQuestion>(q: &A, m: &mut Machine<H>, field: &Field) -> Stepped
+pub(crate) fn step<H: Hashes, A: AsQuestion>(q: &A, m: &mut Machine<H>, field: &Field) -> StepResult
     requires fits { FitsStage m.old.head.kind m.old.stage (vec_len m.old.frames.list) }
     requires may { MayBe (want_at m.old.head.kind m.old.stage) field.now }
     ensures fits { StepFits m.new.head.kind m.new.stage (vec_len m.new.frames.list) result }
     ensures steps { (given : List types.Record) (a : Above) (whole : Option Cut)
         → IsOpen H.of H.holds (A.question q.now) m.old m.old.stage given a whole
-        → Steps H.of H.holds (A.question q.now) m.new given (next_at (A.question q.now).way
+        → StepsPastField H.of H.holds (A.question q.now) m.new given (next_at (A.question q.now).way
         m.old.head
         m.old.leaf.left a m.old.stage field.now) result }
 {
@@ -79,7 +79,7 @@ pub(crate) fn step<H: Hashes, A: AsQuestion>(q: &A, m: &mut Machine<H>, field: &
             q,
             m,
             level,
-            &Shown {
+            &PrunedEntry {
                 rect,
                 digest: digest_of(field),
             },

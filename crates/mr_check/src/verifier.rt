@@ -6,8 +6,8 @@ ghost use Rattle.mr_tree.specs.Digest.{by};
 ghost use Rattle.mr_proof.specs.Tight.{Question, IsLawful};
 ghost use Rattle.mr_proof.specs.Headline.{AcceptedMatchesHonest};
 ghost use Rattle.mr_proof.specs.Feeding.{HandsOpened};
-ghost use Rattle.mr_check.specs.Answers.{TakesFrom, taken_of, Feeds};
-ghost use Rattle.mr_check.specs.Reads.{FitsReader, StandsAt, StandsBy};
+ghost use Rattle.mr_check.specs.Answers.{TakesFrom, taken_of, FeedsPiece};
+ghost use Rattle.mr_check.specs.private.Reads.{FitsReader, StandsAt, StandsBy};
 
 use crate::ending::verdict_of;
 use crate::fed::Fed;
@@ -80,7 +80,7 @@ fn feed<H: Hashes, A: AsQuestion>(q: &A, r: &mut Reader<H>, piece: &[u8]) -> Fed
         → StandsBy H.of H.holds (A.question q.now) r.new r.new.fault
         (s ++ taken_of result piece.now) }
     ensures fed { (root s : List ℕ) → StandsBy H.of H.holds (A.question q.now) r.old r.old.fault s
-        → Feeds H.of root (A.question q.now) s piece.now result }
+        → FeedsPiece H.of root (A.question q.now) s piece.now result }
 {
     match r.fault {
         Some(fault) => Fed::Fault(fault),
@@ -119,7 +119,7 @@ impl<H: Hashes> Verifier<H> {
             (bytes ++ taken_of result piece.now) }
         ensures fed { (root : List ℕ) (bytes : List ℕ)
             → WasFed H.of H.holds root (A.question q.now) self.old bytes
-            → Feeds H.of root (A.question q.now) bytes piece.now result }
+            → FeedsPiece H.of root (A.question q.now) bytes piece.now result }
     {
         feed(q, &mut self.reader, piece)
     }

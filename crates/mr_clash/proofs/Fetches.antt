@@ -3,10 +3,10 @@ use Rattle.std.proofs.Common.{◌≡◌, ℕ, suc, ◌+◌, ◌≤◌, ◌<◌, 
 use Rattle.std.specs.Prelude.{Option, Some, None, IfSome}
 use Rattle.mr_tree.specs.declared.tree.Tree.{Tree}
 use Rattle.mr_proof.specs.declared.head.Head.{Head}
-use Rattle.mr_proof.specs.Cut.{Cut, Cuts, Pruned, Leaf, Inner, count_of, opened_nodes, all_opened}
+use Rattle.mr_proof.specs.Cut.{Cut, Cuts, Pruned, Leaf, Inner, number_of_cuts, opened_nodes, all_opened}
 use Rattle.mr_proof.specs.Spelling.{cut_bytes, cuts_bytes, part_bytes, FitsCut, FitCuts, IsSpelled}
 use Rattle.mr_proof.specs.Honest.{opened_of}
-use Rattle.mr_clash.specs.Steps.{is_pruned, FetchesItem, FetchesChildren}
+use Rattle.mr_clash.specs.private.Steps.{is_pruned, FetchesItem, FetchesChildren}
 use Rattle.mr_clash.proofs.Taking.{drop_cuts, next_cut}
 
 -- an item that is not pruned opens its node
@@ -26,7 +26,7 @@ opened_inner v (Inner Ps) rest before old mid new above is fits e one few =
 
 -- one more of some items side by side
 pub fetched_more : (hash : List ℕ → List ℕ) (v w : ℕ) (Ps : Cuts) (rest : List ℕ) (i : ℕ) (bytes : List ℕ)
-    (old mid new : ℕ) → i < count_of Ps → FitCuts w Ps → bytes ≡ cuts_bytes (drop_cuts i Ps) ++ rest → v ≡ w
+    (old mid new : ℕ) → i < number_of_cuts Ps → FitCuts w Ps → bytes ≡ cuts_bytes (drop_cuts i Ps) ++ rest → v ≡ w
     → FetchesItem v bytes mid new → mid + all_opened (drop_cuts i Ps) ≤ old + all_opened Ps
     → new + all_opened (drop_cuts (i + 1) Ps) ≤ old + all_opened Ps
 fetched_more hash v w Ps rest i bytes old mid new lt fits here level few so_far =

@@ -5,7 +5,7 @@ use Rattle.std.proofs.Math.Logic.{∥∥₁_elim}
 use Rattle.std.proofs.Props.{props}
 use Rattle.mr_tree.specs.Digest.{Scheme, by}
 use Rattle.mr_tree.specs.Digest as digests
-use Rattle.mr_tree.specs.Nodes.{Standing, IsTop}
+use Rattle.mr_tree.specs.Nodes.{MapModel, IsTop}
 use Rattle.mr_tree.specs.WellFormed.{WellFormed, HasLayers}
 use Rattle.mr_record.specs.declared.version.Version.TheVariants.{One}
 use Rattle.mr_tree.specs.declared.nodes.Top.{Top}
@@ -13,7 +13,7 @@ use Rattle.mr_tree.specs.declared.tree.Tree.{Tree}
 use Rattle.mr_proof.specs.declared.rule.Fault.{Fault}
 use Rattle.mr_proof.specs.Tight.{Question}
 use Rattle.mr_proof.specs.Honest.{honest_said, proof_for}
-use Rattle.mr_proof.specs.Spelling.{Said}
+use Rattle.mr_proof.specs.Spelling.{Parsed}
 use Rattle.mr_proof.specs.Reading.{checked}
 use Rattle.mr_proof.specs.Clash.{Pair, clash_of, NoneAnd}
 use Rattle.mr_proof.specs.Halves.{AcceptsHonestProof}
@@ -27,13 +27,13 @@ none_and : {K : Type 0} (hash : List ℕ → List ℕ) (o : Option Pair) → o �
 none_and hash None e k = k
 none_and hash (Some p) e k = absurd cc
 
-abbrev passed : Said → Result Said Fault
+abbrev passed : Parsed → Result Parsed Fault
 passed x = Ok x
 
-abbrev failed : Fault → Result Said Fault
+abbrev failed : Fault → Result Parsed Fault
 failed f = Err f
 
-not_both : (x : Said) (f : Fault) → passed x ≡ failed f → ⊥
+not_both : (x : Parsed) (f : Fault) → passed x ≡ failed f → ⊥
 not_both x f e = cc
 
 abbrev shown : Pair → Option Pair
@@ -82,7 +82,7 @@ answered_prop h t b a bytes (Ok v) = finds_prop h t b a bytes v
 answered_prop h t b a bytes (Err e) = hlevel props
 
 -- so of what is found by a told tree, which is well formed and has the layers of version 1
-pub honest_proof_told : (hash : List ℕ → List ℕ) (a : Question) (bytes : List ℕ) (s : Standing) (top : Top)
+pub honest_proof_told : (hash : List ℕ → List ℕ) (a : Question) (bytes : List ℕ) (s : MapModel) (top : Top)
     (r : Result QuestionFinding AuditErr) → IsTop hash s top → top.batch < 2 ^ 64
     → AcceptsHonestProof (by One hash) a → AcceptedMatchesHonest (by One hash) a bytes
     → HonestProofIsQuiet (by One hash) a → s.version ≡ One → IfSome s.tree (λ t. ∥ WellFormed t ∥₁)

@@ -6,10 +6,10 @@ use Rattle.mr_tree.specs.Tree.{mask_of}
 use Rattle.mr_tree.specs.declared.entry.Entry.{Entry}
 use Rattle.mr_tree.proofs.Masks.{mask_of-cons}
 use Rattle.mr_tree.specs.Digest.{Scheme, level_over}
-use Rattle.mr_proof.specs.Cut.{Cut, Cuts, Pruned, Leaf, Inner, no_more, first, count_of, entry, entries}
+use Rattle.mr_proof.specs.Cut.{Cut, Cuts, Pruned, Leaf, Inner, no_more, first, number_of_cuts, entry, entries}
 use Rattle.mr_proof.specs.Spelling.{FitsCut, FitCuts}
 use Rattle.mr_proof.proofs.Plain.{no_bits}
-use Rattle.mr_clash.specs.Steps.{scheme}
+use Rattle.mr_clash.specs.private.Steps.{scheme}
 
 mutual
   pub entry_at_level : (hash : Scheme) (v : ℕ) (P : Cut) → FitsCut v P → (entry hash v P).level ≡ v
@@ -20,7 +20,7 @@ mutual
       let above = fits.0.above in
       omega (arith, below)
 
-  pub first_at_level : (hash : Scheme) (w : ℕ) (Ps : Cuts) → 1 ≤ count_of Ps → FitCuts w Ps
+  pub first_at_level : (hash : Scheme) (w : ℕ) (Ps : Cuts) → 1 ≤ number_of_cuts Ps → FitCuts w Ps
       → level_over (entries hash w Ps) ≡ w + 1
   first_at_level hash w no_more some fits = absurd (omega arith)
   first_at_level hash w (first P Ps) some fits = ap (λ n. n + 1) (entry_at_level hash w P fits.0)

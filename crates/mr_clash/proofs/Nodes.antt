@@ -7,29 +7,29 @@ use Rattle.mr_record.specs.declared.record.Record.{Record}
 use Rattle.mr_tree.specs.Tree.{union_of, rect_step, first_level, mask_of}
 use Rattle.mr_tree.specs.Digest.{entry_bytes, entry_step, level_over, node_preimage, inner_tag}
 use Rattle.mr_tree.specs.declared.entry.Entry.{Entry}
-use Rattle.mr_tree.specs.View.{Node, entry_of, level_of, preimage_of}
+use Rattle.mr_tree.specs.View.{Node, child_entry, level_of, preimage_of}
 use Rattle.mr_tree.specs.declared.child.Child.{Child}
 use Rattle.mr_tree.specs.declared.tree.Tree.TheOpen as node
 use Rattle.mr_proof.specs.Fields.{version}
 use Rattle.mr_proof.proofs.Plain.{no_bits}
-use Rattle.mr_proof.specs.Cut.{Cut, Cuts, Pruned, Leaf, Inner, count_of, entry, entries}
-use Rattle.mr_proof.specs.declared.shown.Shown.{Shown}
+use Rattle.mr_proof.specs.Cut.{Cut, Cuts, Pruned, Leaf, Inner, number_of_cuts, entry, entries}
+use Rattle.mr_proof.specs.declared.pruned_entry.PrunedEntry.{PrunedEntry}
 use Rattle.mr_proof.specs.Spelling.{cut_bytes, FitsCut, FitCuts}
-use Rattle.mr_clash.specs.Steps.{scheme, string_over, is_pruned, Passed}
+use Rattle.mr_clash.specs.private.Steps.{scheme, string_over, is_pruned, Passed}
 use Rattle.mr_clash.proofs.Taking.{take_front}
 use Rattle.mr_clash.proofs.Levels.{first_at_level, cuts_mask, cuts_count}
 
 -- ---- entries
 
 -- the level over the children of an inner node that was passed over
-level_over_all : (hash : List ℕ → List ℕ) (w v : ℕ) (Ps : Cuts) (xs : List Entry) → v ≡ w + 1 → 1 ≤ count_of Ps
+level_over_all : (hash : List ℕ → List ℕ) (w v : ℕ) (Ps : Cuts) (xs : List Entry) → v ≡ w + 1 → 1 ≤ number_of_cuts Ps
     → FitCuts w Ps → xs ≡ entries (scheme hash) w Ps → v ≡ level_over xs
 level_over_all hash w v Ps xs above some fits say =
     above ∙ sym (ap level_over say ∙ first_at_level (scheme hash) w Ps some fits)
 
 -- the string of an inner node, by what is said of its children
 pub inner_string_shown : (hash : List ℕ → List ℕ) (w v : ℕ) (Ps : Cuts) (xs : List Entry) → v ≡ w + 1
-    → 1 ≤ count_of Ps → FitCuts w Ps → xs ≡ entries (scheme hash) w Ps
+    → 1 ≤ number_of_cuts Ps → FitCuts w Ps → xs ≡ entries (scheme hash) w Ps
     → string_over v xs
     ≡ node_preimage version (node.Inner (entries (scheme hash) (v - 1) Ps))
 inner_string_shown hash w v Ps xs above some fits say =
@@ -40,7 +40,7 @@ inner_string_shown hash w v Ps xs above some fits say =
     ∙ ap (λ es. node_preimage version (node.Inner es)) (say ∙ sym below)
 
 pub inner_passed : (hash : List ℕ → List ℕ) (w v : ℕ) (Ps : Cuts) (rest : List ℕ) (xs ys : List Entry) (x : Entry)
-    (after : List ℕ) → v ≡ w + 1 → 1 ≤ count_of Ps → FitCuts w Ps → xs ≡ entries (scheme hash) w Ps → ys ≡ xs
+    (after : List ℕ) → v ≡ w + 1 → 1 ≤ number_of_cuts Ps → FitCuts w Ps → xs ≡ entries (scheme hash) w Ps → ys ≡ xs
     → x.level ≡ v → x.rect ≡ union_of (map (λ (e : Entry). e.rect) ys) → (x.mask ≡ 0) × (x.count ≡ 0)
     → x.digest ≡ hash (string_over v ys)
     → after ≡ rest → Passed hash v (Inner Ps) rest x after
@@ -67,7 +67,7 @@ ok_as (Ok v) a b e h = h ∙ e
 ok_as (Err f) a b e h = tt
 
 levels_of : (cs : List Child)
-    → map (λ (e : Entry). e.level) (map entry_of cs) ≡ map (λ (c : Child). c.level) cs
+    → map (λ (e : Entry). e.level) (map child_entry cs) ≡ map (λ (c : Child). c.level) cs
 levels_of [] = refl
 levels_of (c ∷ cs) = ap (λ ns. c.level ∷ ns) (levels_of cs)
 
@@ -77,10 +77,10 @@ above_zero (suc n) m e above = omega arith
 
 -- that of a node of the map, by what it holds of its children
 pub owned_inner : (n : Node) (cs : List Child) (v : ℕ) (xs ys : List Entry) → n ≡ node.Inner cs → v ≡ level_of n
-    → xs ≡ map entry_of cs → ys ≡ xs → string_over v ys ≡ preimage_of version n
+    → xs ≡ map child_entry cs → ys ≡ xs → string_over v ys ≡ preimage_of version n
 owned_inner n cs v xs ys is level same again =
-    let all : ys ≡ map entry_of cs = again ∙ same in
-    let first : v ≡ level_over (map entry_of cs) =
+    let all : ys ≡ map child_entry cs = again ∙ same in
+    let first : v ≡ level_over (map child_entry cs) =
     level ∙ ap level_of is ∙ ap (λ ns. first_level ns + 1) (sym (levels_of cs)) in
     (λ i. inner_tag ∷ first i ∷ length (all i) ∷ flat_map (entry_bytes version) (all i))
     ∙ ap (preimage_of version) (sym is)
@@ -111,7 +111,7 @@ leaf_said hash rs x string low place mask count digest is = λ i. record {
 
 pub item_pruned : (hash : List ℕ → List ℕ) (v : ℕ) (P : Cut) (rest before after : List ℕ) (x : Entry)
     → is_pruned P ≡ true → before ≡ cut_bytes P ++ rest → FitsCut v P
-    → ((part : Shown) → FitsCut v (Pruned part) → before ≡ cut_bytes (Pruned part) ++ rest
+    → ((part : PrunedEntry) → FitsCut v (Pruned part) → before ≡ cut_bytes (Pruned part) ++ rest
     → Passed hash v (Pruned part) rest x after)
     → Passed hash v P rest x after
 item_pruned hash v (Pruned part) rest before after x is e fits passed = passed part fits e

@@ -10,7 +10,7 @@ use Rattle.mr_geom.specs.Rectangle.{Rectangle}
 use Rattle.mr_record.specs.Record.{IsRecord, HasLayer, record_bytes}
 use Rattle.mr_record.specs.declared.record.Record.{Record}
 use Rattle.mr_tree.specs.Tree.{union_of, rect_step}
-use Rattle.mr_tree.specs.View.{Node, IsView, children_in, records_in, entry_of, level_of, preimage_of, rect_of}
+use Rattle.mr_tree.specs.View.{Node, IsView, children_in, records_in, child_entry, level_of, preimage_of, rect_of}
 use Rattle.mr_tree.specs.declared.entry.Entry.{Entry}
 use Rattle.mr_tree.specs.declared.tree.Tree.TheOpen as node
 use Rattle.mr_proof.specs.Cut.{Leaf}
@@ -19,7 +19,7 @@ use Rattle.mr_proof.specs.Spelling.{cut_bytes, FitsCut}
 use Rattle.mr_proof.specs.Clash.{differ, or_else}
 use Rattle.mr_proof.proofs.Spellings.{cons_parts, same_record}
 use Rattle.mr_proof.proofs.Values.{bytes_same}
-use Rattle.mr_clash.specs.Steps.{pair_of, string_over, Closed, WalkedLeaf}
+use Rattle.mr_clash.specs.private.Steps.{pair_of, string_over, Closed, WalkedLeaf}
 use Rattle.mr_clash.specs.declared.walked.Row.{Row}
 use Rattle.mr_clash.proofs.Nodes.{leaf_said, owned_inner}
 
@@ -108,7 +108,7 @@ own_leaf hash (node.Leaf ss) rs rest before after digest rect view layers leaf f
 
 -- an inner node over what the map holds of its children
 pub own_inner : (hash : List ℕ → List ℕ) (n : Node) (v : ℕ) (digest : List ℕ) (rect : Option Rectangle) (row : Row)
-    → n ≡ node.Inner (children_in n) → v ≡ level_of n → row.entries.items ≡ map entry_of (children_in n)
+    → n ≡ node.Inner (children_in n) → v ≡ level_of n → row.entries.items ≡ map child_entry (children_in n)
     → rect ≡ union_of (map (λ (e : Entry). e.rect) row.entries.items) → hash (preimage_of version n) ≡ digest
     → Closed hash v (preimage_of version n) row
     (record {
@@ -118,7 +118,7 @@ pub own_inner : (hash : List ℕ → List ℕ) (n : Node) (v : ℕ) (digest : Li
 own_inner hash n v digest rect row inner level own place held =
     let xs = row.entries.items in
     let string : string_over v xs ≡ preimage_of version n =
-    owned_inner n (children_in n) v (map entry_of (children_in n)) xs inner level refl own in
+    owned_inner n (children_in n) v (map child_entry (children_in n)) xs inner level refl own in
     record {
       at_level = refl;
       place = place;

@@ -3,13 +3,13 @@ use Rattle.std.proofs.Common.{◌≡◌, ℕ, ◌+◌, ◌≤◌, List, refl, sy
 use Rattle.std.specs.Prelude.{Option, Some, None, IfSome, Result, Ok, Err, IfOk}
 use Rattle.mr_tree.specs.Digest.{Scheme, by}
 use Rattle.mr_tree.specs.Digest as digests
-use Rattle.mr_tree.specs.Nodes.{Standing, IsTop}
+use Rattle.mr_tree.specs.Nodes.{MapModel, IsTop}
 use Rattle.mr_tree.specs.declared.nodes.Top.{Top}
 use Rattle.mr_tree.specs.declared.tree.Tree.{Tree}
 use Rattle.mr_proof.specs.declared.rule.Fault.{Fault}
 use Rattle.mr_proof.specs.Tight.{Question}
 use Rattle.mr_proof.specs.Honest.{opened_of}
-use Rattle.mr_proof.specs.Spelling.{Said}
+use Rattle.mr_proof.specs.Spelling.{Parsed}
 use Rattle.mr_proof.specs.Reading.{checked}
 use Rattle.mr_proof.specs.Clash.{Pair, clash_of, IsCollision}
 use Rattle.mr_check.specs.declared.error.CheckErr.{CheckErr}
@@ -20,12 +20,12 @@ use Rattle.mr_clash.specs.Finding.{root_at}
 use Rattle.mr_clash.specs.Causes.{AuditCauses}
 use Rattle.mr_clash.specs.declared.question_finding.QuestionFinding.{QuestionFinding}
 use Rattle.mr_clash.specs.declared.error.AuditErr.{AuditErr}
-use Rattle.mr_clash.specs.QuestionFindings.{IsQuestionFindingBy, IsQuestionFinding, QuestionFindingFor, QuestionFindingCollides, opened_checked, opened_checked_by, FetchesFor, Declines, QuestionFindingOf}
+use Rattle.mr_clash.specs.QuestionFindings.{IsQuestionFindingBy, IsQuestionFinding, QuestionFindingFor, QuestionFindingCollides, opened_checked, opened_checked_by, FetchesFor, DeclinesCheck, QuestionFindingOf}
 use Rattle.mr_clash.proofs.Roots.{root_told}
 
 -- ---- by the verdict and the pair
 
-question_finding_by : (a : Question) (r : Result Said Fault) (x : Said) (o : Collected) (found pair : Option Pair)
+question_finding_by : (a : Question) (r : Result Parsed Fault) (x : Parsed) (o : Collected) (found pair : Option Pair)
     (question_finding : QuestionFinding)
     → r ≡ Ok x → IsCollected x a o → found ≡ pair → QuestionFindingOf o pair question_finding
     → IsQuestionFindingBy a r found question_finding
@@ -44,7 +44,7 @@ question_finding_collides hash o (Some p) question_finding collides of = subst (
 
 -- ---- bytes that are not accepted
 
-module _ (hash : List ℕ → List ℕ) (s : Standing) (top : Top) (a : Question) (bytes root : List ℕ)
+module _ (hash : List ℕ → List ℕ) (s : MapModel) (top : Top) (a : Question) (bytes root : List ℕ)
     (is : IsTop hash s top)
     (e : root ≡ hash (root_at top)) where
   checked_is : (t : Tree) → s.tree ≡ Some t → checked hash (digests.root (by s.version hash) t s.batch) a bytes
@@ -53,11 +53,11 @@ module _ (hash : List ℕ → List ℕ) (s : Standing) (top : Top) (a : Question
 
   pub declined_told : (error : CheckErr) (r : Result QuestionFinding AuditErr)
       → AnswersCollected hash root a bytes (Err error)
-      → Declines error r → IfSome s.tree (λ t. IfOk r (IsQuestionFinding (by s.version hash) t s.batch a bytes))
+      → DeclinesCheck error r → IfSome s.tree (λ t. IfOk r (IsQuestionFinding (by s.version hash) t s.batch a bytes))
   declined_told error r exact declines = by_tree s.tree refl error exact declines
     where
       by_tree : (o : Option Tree) → s.tree ≡ o → (error : CheckErr) → AnswersCollected hash root a bytes (Err error)
-          → Declines error r → IfSome o (λ t. IfOk r (IsQuestionFinding (by s.version hash) t s.batch a bytes))
+          → DeclinesCheck error r → IfSome o (λ t. IfOk r (IsQuestionFinding (by s.version hash) t s.batch a bytes))
       by_tree None told error exact declines = tt
       by_tree (Some t) told (errors.Fault f) exact declines =
           subst (λ (r : Result QuestionFinding AuditErr). IfOk r (IsQuestionFinding (by s.version hash) t s.batch a
@@ -72,7 +72,7 @@ module _ (hash : List ℕ → List ℕ) (s : Standing) (top : Top) (a : Question
 
   pub declined_for : (error : CheckErr) (r : Result QuestionFinding AuditErr)
       → AnswersCollected hash root a bytes (Err error)
-      → Declines error r → IfOk r (QuestionFindingFor hash s a bytes)
+      → DeclinesCheck error r → IfOk r (QuestionFindingFor hash s a bytes)
   declined_for (errors.Fault f) r exact declines =
       subst (λ (r : Result QuestionFinding AuditErr). IfOk r (QuestionFindingFor hash s a bytes)) (sym declines)
       (top, is, None, ap (λ x. checked hash x a bytes) (sym e) ∙ exact)
@@ -108,7 +108,7 @@ module _ (hash : List ℕ → List ℕ) (s : Standing) (top : Top) (a : Question
         (ap (λ x. checked hash x a bytes) (sym e) ∙ g.1) g.2 refl of,
   )
 
-  pub few_opened : (x : Said) (old new : ℕ) → checked hash root a bytes ≡ Ok x → new ≤ old + opened_of x.part
+  pub few_opened : (x : Parsed) (old new : ℕ) → checked hash root a bytes ≡ Ok x → new ≤ old + opened_of x.part
       → IfSome s.tree (λ t. new ≤ old + opened_checked_by (by s.version hash) t s.batch a bytes)
   few_opened x old new exact few = by_tree s.tree refl
     where
@@ -118,7 +118,7 @@ module _ (hash : List ℕ → List ℕ) (s : Standing) (top : Top) (a : Question
       by_tree (Some t) told =
           let is_verdict = ap opened_checked (checked_is t told ∙ exact) in omega (arith, is_verdict, few)
 
-  pub few_for : (x : Said) (old new : ℕ) → checked hash root a bytes ≡ Ok x → new ≤ old + opened_of x.part
+  pub few_for : (x : Parsed) (old new : ℕ) → checked hash root a bytes ≡ Ok x → new ≤ old + opened_of x.part
       → FetchesFor hash s a bytes old new
   few_for x old new exact few =
       let is_verdict : opened_checked (checked hash (hash (root_at top)) a bytes) ≡ opened_of x.part =
@@ -128,7 +128,8 @@ module _ (hash : List ℕ → List ℕ) (s : Standing) (top : Top) (a : Question
   pub none_for : (n : ℕ) → FetchesFor hash s a bytes n n
   none_for n = (top, is, omega arith)
 
-pub declined_causes : (s : Standing) (n : ℕ) (error : CheckErr) (r : Result QuestionFinding AuditErr) → Declines error r
+pub declined_causes : (s : MapModel) (n : ℕ) (error : CheckErr) (r : Result QuestionFinding AuditErr) → DeclinesCheck
+    error r
     → AuditCauses s n n r
 declined_causes s n (errors.Fault f) r declines =
     subst (AuditCauses s n n) (sym declines) (record { cause = tt; faults = omega arith; quiet = refl })
@@ -136,7 +137,7 @@ declined_causes s n errors.NoMemory r declines =
     subst (AuditCauses s n n) (sym declines) (record { cause = tt; faults = omega arith; quiet = tt })
 
 pub declined_collides : (hash : List ℕ → List ℕ) (error : CheckErr) (r : Result QuestionFinding AuditErr)
-    → Declines error r
+    → DeclinesCheck error r
     → IfOk r (QuestionFindingCollides hash)
 declined_collides hash (errors.Fault f) r declines =
     subst (λ (r : Result QuestionFinding AuditErr). IfOk r (QuestionFindingCollides hash)) (sym declines) tt

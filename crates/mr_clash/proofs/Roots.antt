@@ -5,8 +5,8 @@ use Rattle.mr_tree.specs.Tree.{records}
 use Rattle.mr_tree.specs.Digest.{Scheme, by, root_preimage}
 use Rattle.mr_tree.specs.declared.entry.Entry.{Entry}
 use Rattle.mr_tree.specs.Digest as digests
-use Rattle.mr_tree.specs.Nodes.{Standing, IsTop, MayFetch, tree_under, root_entry}
-use Rattle.mr_tree.specs.View.{entry_of}
+use Rattle.mr_tree.specs.Nodes.{MapModel, IsTop, MayFetch, tree_under, root_entry}
+use Rattle.mr_tree.specs.View.{child_entry}
 use Rattle.mr_tree.specs.declared.child.Child.{Child}
 use Rattle.mr_tree.specs.declared.nodes.Top.{Top}
 use Rattle.mr_tree.specs.declared.tree.Tree.{Tree}
@@ -14,7 +14,7 @@ use Rattle.mr_proof.specs.declared.head.Head.{Head}
 use Rattle.mr_proof.specs.Fields.{version}
 use Rattle.mr_proof.specs.Cut.{Cut, rect, digest, entry}
 use Rattle.mr_proof.specs.Spelling.{version_of, cut_bytes, part_bytes, FitsCut, IsSpelled}
-use Rattle.mr_proof.specs.Accepted.{root_bytes, root_found}
+use Rattle.mr_proof.specs.Accepted.{proof_preimage, root_found}
 use Rattle.mr_proof.specs.Clash.{Pair, differ, or_else, node_clash, part_clash, pair_clash, if_said, clash_of}
 use Rattle.mr_proof.proofs.Full.{IsThere}
 use Rattle.mr_proof.proofs.Pairs.{pair_found_of}
@@ -23,7 +23,7 @@ use Rattle.mr_proof.proofs.SameNodes.{named_cut}
 use Rattle.mr_proof.proofs.SameRoots.{same_root, empty_filled}
 use Rattle.mr_proof.proofs.Worth.{version_said}
 use Rattle.mr_clash.specs.Finding.{root_at}
-use Rattle.mr_clash.specs.Steps.{scheme, pair_of, PassesRoot, Walks, WalkedOne, WalkedRoot, Compared, ComparedMap}
+use Rattle.mr_clash.specs.private.Steps.{scheme, pair_of, PassesRoot, WalksCut, WalkedOne, WalkedRoot, Compared, ComparedMap}
 use Rattle.mr_clash.specs.declared.walked.Walked.{Walked}
 use Rattle.mr_clash.proofs.Levels.{entry_at_level}
 use Rattle.mr_clash.proofs.Walks.{node_collides, same_strings, some_node}
@@ -33,7 +33,7 @@ use Rattle.mr_clash.proofs.Walks.{node_collides, same_strings, some_node}
 -- that of a cut, by what is said of its node
 pub root_of_cut : (hash : List ℕ → List ℕ) (h : Head) (P : Cut) (x : Entry) → FitsCut h.level P
     → x ≡ entry (scheme hash) h.level P
-    → root_preimage (version_of h) h.batch h.count x ≡ root_bytes hash h (Some P)
+    → root_preimage (version_of h) h.batch h.count x ≡ proof_preimage hash h (Some P)
 root_of_cut hash h P x fits e = λ i. root_preimage (version_of h) h.batch h.count (record {
   level = (ap (λ (e : Entry). e.level) e ∙ entry_at_level (scheme hash) h.level P fits) i;
   rect = (ap (λ (e : Entry). e.rect) e ∙ entry-rect (scheme hash) h.level P) i;
@@ -44,12 +44,12 @@ root_of_cut hash h P x fits e = λ i. root_preimage (version_of h) h.batch h.cou
 
 -- that of no cut
 pub root_of_none : (hash : List ℕ → List ℕ) (h : Head) (e : Entry) → h.count ≡ 0
-    → root_preimage (version_of h) h.batch h.count e ≡ root_bytes hash h None
+    → root_preimage (version_of h) h.batch h.count e ≡ proof_preimage hash h None
 root_of_none hash h e none = λ i. root_preimage (version_of h) h.batch (none i) e
 
 -- that of the map, where its tree is told
-pub root_told : (hash : List ℕ → List ℕ) (s : Standing) (top : Top) (t : Tree) → IsTop hash s top → s.tree ≡ Some t
-    → root_at top ≡ digests.root_bytes (by s.version hash) t s.batch
+pub root_told : (hash : List ℕ → List ℕ) (s : MapModel) (top : Top) (t : Tree) → IsTop hash s top → s.tree ≡ Some t
+    → root_at top ≡ digests.root_preimage_of (by s.version hash) t s.batch
 root_told hash s top t is told =
     let count : top.count ≡ length (records t) =
     subst (λ (o : Option Tree). IfSome o (λ t. top.count ≡ length (records t))) told is.count in
@@ -61,7 +61,7 @@ root_told hash s top t is told =
     same_some u t e = cc
 
     by_root : (r : Option Child) → top.root ≡ r → top.count ≡ length (records t) → tree_under s top.root ≡ Some t
-        → root_at top ≡ digests.root_bytes (by s.version hash) t s.batch
+        → root_at top ≡ digests.root_preimage_of (by s.version hash) t s.batch
     by_root None r count under =
         let none : top.count ≡ 0 = is.none.1 (subst IsNone (sym r) refl) in
         (λ i. root_preimage (is.version i) (is.batch i) (none i) (root_entry top.root))
@@ -70,14 +70,15 @@ root_told hash s top t is told =
         let may : MayFetch hash s c = subst (λ (o : Option Child). IfSome o (MayFetch hash s)) r is.root in
         let some : IsSome s.tree = subst IsSome (sym told) refl in
         let at : s.node c.id ≡ Some t = sym (ap (tree_under s) r) ∙ under in
-        let own : entry_of c ≡ digests.entry (by s.version hash) t = known_at (s.node c.id) at (may.known some) in
+        let own : child_entry c ≡ digests.entry (by s.version hash) t = known_at (s.node c.id) at (may.known some) in
         (λ i. root_preimage (is.version i) (is.batch i) (count i) (root_entry (r i)))
         ∙ ap (root_preimage s.version s.batch (length (records t))) own
       where
-        known_at : (o : Option Tree) → o ≡ Some t → IsSomeAnd o (λ t. entry_of c ≡ digests.entry (by s.version hash) t)
-            → entry_of c ≡ digests.entry (by s.version hash) t
+        known_at : (o : Option Tree) → o ≡ Some t → IsSomeAnd o
+            (λ t. child_entry c ≡ digests.entry (by s.version hash) t)
+            → child_entry c ≡ digests.entry (by s.version hash) t
         known_at None e k = cc
-        known_at (Some u) e k = subst (λ (u : Tree). entry_of c ≡ digests.entry (by s.version hash) u)
+        known_at (Some u) e k = subst (λ (u : Tree). child_entry c ≡ digests.entry (by s.version hash) u)
             (same_some u t e) k
 
 -- ---- roots that are one
@@ -101,12 +102,13 @@ said_of hash h P = record {
 -- a map with records and a proof of one
 pub root_cut : (hash : List ℕ → List ℕ) → ((m : List ℕ) → length (hash m) ≡ 32) → (top : Top) (c : Child) (h : Head)
     (P : Cut) (bytes : List ℕ) → top.root ≡ Some c → top.batch < 2 ^ 64 → top.count < 2 ^ 64 → 1 ≤ top.count
-    → IsThere (Some c.rect) → IsSpelled h (Some P) bytes → root_at top ≡ root_bytes hash h (Some P)
+    → IsThere (Some c.rect) → IsSpelled h (Some P) bytes → root_at top ≡ proof_preimage hash h (Some P)
     → RootCut hash top c h P
 root_cut hash sized top c h P bytes root batch count some there spelled e =
-    let own : root_entry top.root ≡ entry_of c = ap root_entry root in
+    let own : root_entry top.root ≡ child_entry c = ap root_entry root in
     let place : (entry (scheme hash) h.level P).rect ≡ rect P = entry-rect (scheme hash) h.level P in
-    let same = same_root top.version (version_of h) top.batch top.count h.batch h.count (entry_of c) (said_of hash h P)
+    let same = same_root top.version (version_of h) top.batch top.count h.batch h.count (child_entry c)
+    (said_of hash h P)
     batch count spelled.head.batch (omega (arith, spelled.head.count)) some (omega (arith, spelled.part.0)) there
     (subst IsThere place (named_cut (scheme hash) sized h.level P spelled.part.1).there)
     (ap (root_preimage top.version top.batch top.count) (sym own) ∙ e) in
@@ -121,13 +123,13 @@ root_cut hash sized top c h P bytes root batch count some there spelled e =
 
 -- an empty map and a cut have two roots
 pub no_root_cut : (hash : List ℕ → List ℕ) (top : Top) (h : Head) (P : Cut) → top.count ≡ 0 → 1 ≤ h.count
-    → root_at top ≡ root_bytes hash h (Some P) → ⊥
+    → root_at top ≡ proof_preimage hash h (Some P) → ⊥
 no_root_cut hash top h P none some e =
     empty_filled top.version (version_of h) top.batch h.batch h.count (root_entry top.root)
     (said_of hash h P) some
     ((λ i. root_preimage top.version top.batch (sym none i) (root_entry top.root)) ∙ e)
 
-some_records : (hash : List ℕ → List ℕ) (s : Standing) (top : Top) (c : Child) → IsTop hash s top
+some_records : (hash : List ℕ → List ℕ) (s : MapModel) (top : Top) (c : Child) → IsTop hash s top
     → top.root ≡ Some c → 1 ≤ top.count
 some_records hash s top c is root = by_count top.count refl
   where
@@ -142,14 +144,15 @@ some_records hash s top c is root = by_count top.count refl
 
 clash_spelled : (h : Scheme) (t : Tree) (batch : ℕ) (head : Head) (P : Option Cut) (bytes : List ℕ)
     → IsSpelled head P bytes → clash_of head.kind h t batch bytes
-    ≡ or_else (differ (digests.root_bytes h t batch) (Some (root_bytes h.of head P))) (part_clash h head.level t P)
+    ≡ or_else (differ (digests.root_preimage_of h t batch) (Some (proof_preimage h.of head P)))
+    (part_clash h head.level t P)
 clash_spelled h t batch head P bytes spelled =
     ap (λ o. if_said o (pair_clash h t batch)) (pair_found_of head.kind head P bytes refl spelled)
 
-told_of : (hash : List ℕ → List ℕ) (s : Standing) (top : Top) (h : Head) (P : Option Cut) (bytes : List ℕ)
+told_of : (hash : List ℕ → List ℕ) (s : MapModel) (top : Top) (h : Head) (P : Option Cut) (bytes : List ℕ)
     (pair : Option Pair) → IsTop hash s top → IsSpelled h P bytes
     → ((t : Tree) → s.tree ≡ Some t
-    → pair ≡ or_else (differ (root_at top) (Some (root_bytes hash h P))) (part_clash (scheme hash) h.level t P))
+    → pair ≡ or_else (differ (root_at top) (Some (proof_preimage hash h P))) (part_clash (scheme hash) h.level t P))
     → IfSome s.tree (λ t. pair ≡ clash_of h.kind (by s.version hash) t s.batch bytes)
 told_of hash s top h P bytes pair is spelled so = by_tree s.tree refl
   where
@@ -158,40 +161,42 @@ told_of hash s top h P bytes pair is spelled so = by_tree s.tree refl
     by_tree None told = tt
     by_tree (Some t) told =
         so t told
-        ∙ ap (λ x. or_else (differ x (Some (root_bytes hash h P))) (part_clash (scheme hash) h.level t P))
+        ∙ ap (λ x. or_else (differ x (Some (proof_preimage hash h P))) (part_clash (scheme hash) h.level t P))
         (root_told hash s top t is told)
-        ∙ by_pair (differ (digests.root_bytes (by s.version hash) t s.batch) (Some (root_bytes hash h P))) refl
+        ∙ by_pair (differ (digests.root_preimage_of (by s.version hash) t s.batch)
+        (Some (proof_preimage hash h P))) refl
         ∙ sym (clash_spelled (by s.version hash) t s.batch h P bytes spelled)
       where
         -- where the strings of the roots are one, the map is of the version of proofs
         by_pair : (o : Option Pair)
-            → differ (digests.root_bytes (by s.version hash) t s.batch) (Some (root_bytes hash h P)) ≡ o
-            → or_else (differ (digests.root_bytes (by s.version hash) t s.batch) (Some (root_bytes hash h P)))
+            → differ (digests.root_preimage_of (by s.version hash) t s.batch) (Some (proof_preimage hash h P)) ≡ o
+            → or_else (differ (digests.root_preimage_of (by s.version hash) t s.batch) (Some (proof_preimage hash h P)))
             (part_clash (scheme hash) h.level t P)
-            ≡ or_else (differ (digests.root_bytes (by s.version hash) t s.batch) (Some (root_bytes hash h P)))
+            ≡ or_else (differ (digests.root_preimage_of (by s.version hash) t s.batch) (Some (proof_preimage hash h P)))
             (part_clash (by s.version hash) h.level t P)
         by_pair (Some p) d =
             ap (λ o. or_else o (part_clash (scheme hash) h.level t P)) d
             ∙ sym (ap (λ o. or_else o (part_clash (by s.version hash) h.level t P)) d)
         by_pair None d =
-            ap (λ v. or_else (differ (digests.root_bytes (by s.version hash) t s.batch) (Some (root_bytes hash h P)))
+            ap (λ v. or_else (differ (digests.root_preimage_of (by s.version hash) t s.batch)
+            (Some (proof_preimage hash h P)))
             (part_clash (by v hash) h.level t P))
             (sym (version_said (by s.version hash) t s.batch h P (same_strings _ _ (sym d))))
 
 -- the strings of the roots differ
-pub roots_differ : (hash : List ℕ → List ℕ) (s : Standing) (top : Top) (h : Head) (P : Option Cut) (bytes : List ℕ)
+pub roots_differ : (hash : List ℕ → List ℕ) (s : MapModel) (top : Top) (h : Head) (P : Option Cut) (bytes : List ℕ)
     (p : Pair) → IsTop hash s top → IsSpelled h P bytes → root_found hash h P ≡ hash (root_at top)
-    → Some p ≡ differ (root_at top) (Some (root_bytes hash h P)) → ComparedMap hash s h.kind bytes (Some p)
+    → Some p ≡ differ (root_at top) (Some (proof_preimage hash h P)) → ComparedMap hash s h.kind bytes (Some p)
 roots_differ hash s top h P bytes p is spelled held d = record {
-  collides = node_collides hash (root_at top) (root_bytes hash h P) (hash (root_at top)) (Some p) refl (sym held) d;
+  collides = node_collides hash (root_at top) (proof_preimage hash h P) (hash (root_at top)) (Some p) refl (sym held) d;
   told = told_of hash s top h P bytes (Some p) is spelled
       (λ t told. ap (λ o. or_else o (part_clash (scheme hash) h.level t P)) d);
 }
 
 -- they are one, and the root node was compared with the cut
-pub nodes_compared : (hash : List ℕ → List ℕ) (s : Standing) (top : Top) (c : Child) (h : Head) (P : Cut)
+pub nodes_compared : (hash : List ℕ → List ℕ) (s : MapModel) (top : Top) (c : Child) (h : Head) (P : Cut)
     (bytes : List ℕ) (pair : Option Pair) → IsTop hash s top → top.root ≡ Some c → IsSpelled h (Some P) bytes
-    → None ≡ differ (root_at top) (Some (root_bytes hash h (Some P))) → h.level ≡ c.level
+    → None ≡ differ (root_at top) (Some (proof_preimage hash h (Some P))) → h.level ≡ c.level
     → Compared hash s c.id c.level P pair → ComparedMap hash s h.kind bytes pair
 nodes_compared hash s top c h P bytes pair is root spelled d level so = record {
   collides = so.collides;
@@ -209,7 +214,7 @@ nodes_compared hash s top c h P bytes pair is root spelled d level so = record {
 -- ---- the root item
 
 -- there is none
-pub none_walked : (hash : List ℕ → List ℕ) (s : Standing) (top : Top) (h : Head) (P : Option Cut) (bytes : List ℕ)
+pub none_walked : (hash : List ℕ → List ℕ) (s : MapModel) (top : Top) (h : Head) (P : Option Cut) (bytes : List ℕ)
     (x : Entry) → IsTop hash s top → IsSpelled h P bytes → h.count ≡ 0
     → WalkedRoot hash s top h P bytes (record { entry = x; clash = None })
 none_walked hash s top h None bytes x is spelled none = record {
@@ -223,10 +228,10 @@ none_walked hash s top h (Some P) bytes x is spelled none =
     let some = spelled.part.0 in absurd (omega (arith, some, none))
 
 -- its node has none of the map at its place
-alone : {E : Type 0} (hash : List ℕ → List ℕ) (s : Standing) (top : Top) (h : Head) (P : Option Cut) (bytes : List ℕ)
+alone : {E : Type 0} (hash : List ℕ → List ℕ) (s : MapModel) (top : Top) (h : Head) (P : Option Cut) (bytes : List ℕ)
     (v : ℕ) (before : List ℕ) (r : Result Walked E) → IsSpelled h P bytes → (h.count ≡ 0 → ⊥) → v ≡ h.level
     → before ≡ part_bytes P
-    → ((P : Cut) → IsSpelled h (Some P) bytes → None ≡ differ (root_at top) (Some (root_bytes hash h (Some P))) → ⊥)
+    → ((P : Cut) → IsSpelled h (Some P) bytes → None ≡ differ (root_at top) (Some (proof_preimage hash h (Some P))) → ⊥)
     → PassesRoot hash v before r → IfOk r (WalkedRoot hash s top h P bytes)
 alone hash s top h None bytes v before r spelled some level is apart passes = absurd (some spelled.part)
 alone hash s top h (Some P) bytes v before r spelled some level is apart passes =
@@ -241,7 +246,7 @@ alone hash s top h (Some P) bytes v before r spelled some level is apart passes 
     passed (Err f) says = tt
 
 -- the map has no root node
-pub root_alone : {E : Type 0} (hash : List ℕ → List ℕ) (s : Standing) (top : Top) (h : Head) (P : Option Cut)
+pub root_alone : {E : Type 0} (hash : List ℕ → List ℕ) (s : MapModel) (top : Top) (h : Head) (P : Option Cut)
     (bytes : List ℕ) (v : ℕ) (before : List ℕ) (r : Result Walked E) → IsTop hash s top → top.root ≡ None
     → IsSpelled h P bytes → (h.count ≡ 0 → ⊥) → v ≡ h.level → before ≡ part_bytes P → PassesRoot hash v before r
     → IfOk r (WalkedRoot hash s top h P bytes)
@@ -252,7 +257,7 @@ root_alone hash s top h P bytes v before r is root spelled some level here passe
     passes
 
 -- that of the map has another level
-pub other_level : {E : Type 0} (hash : List ℕ → List ℕ) → ((m : List ℕ) → length (hash m) ≡ 32) → (s : Standing)
+pub other_level : {E : Type 0} (hash : List ℕ → List ℕ) → ((m : List ℕ) → length (hash m) ≡ 32) → (s : MapModel)
     (top : Top) (c : Child) (h : Head) (P : Option Cut) (bytes : List ℕ) (v : ℕ) (before : List ℕ)
     (r : Result Walked E) → IsTop hash s top → top.root ≡ Some c → top.batch < 2 ^ 64 → top.count < 2 ^ 64
     → IsThere (Some c.rect) → (top.version ≡ version → c.level ≡ v → ⊥) → IsSpelled h P bytes
@@ -266,11 +271,11 @@ other_level hash sized s top c h P bytes v before r is root batch count there ot
     passes
 
 -- the root node was walked beside the item
-pub root_walked : {E : Type 0} (hash : List ℕ → List ℕ) → ((m : List ℕ) → length (hash m) ≡ 32) → (s : Standing)
+pub root_walked : {E : Type 0} (hash : List ℕ → List ℕ) → ((m : List ℕ) → length (hash m) ≡ 32) → (s : MapModel)
     (top : Top) (c : Child) (h : Head) (P : Option Cut) (bytes : List ℕ) (v : ℕ) (before after : List ℕ)
     (r : Result Walked E) → IsTop hash s top → top.root ≡ Some c → top.batch < 2 ^ 64 → top.count < 2 ^ 64
     → IsThere (Some c.rect) → c.level ≡ v → IsSpelled h P bytes → (h.count ≡ 0 → ⊥) → v ≡ h.level
-    → before ≡ part_bytes P → Walks hash s c before after r → IfOk r (WalkedRoot hash s top h P bytes)
+    → before ≡ part_bytes P → WalksCut hash s c before after r → IfOk r (WalkedRoot hash s top h P bytes)
 root_walked hash sized s top c h None bytes v before after r is root batch count there one spelled some level here
     walked = absurd (some spelled.part)
 root_walked hash sized s top c h (Some P) bytes v before after r is root batch count there one spelled some level here
@@ -294,9 +299,9 @@ root_walked hash sized s top c h (Some P) bytes v before after r is root batch c
     walked_on (Err f) so = tt
 
 -- the strings of the roots, and what is below
-pub map_compared : (hash : List ℕ → List ℕ) (s : Standing) (top : Top) (h : Head) (P : Option Cut) (bytes : List ℕ)
+pub map_compared : (hash : List ℕ → List ℕ) (s : MapModel) (top : Top) (h : Head) (P : Option Cut) (bytes : List ℕ)
     (w : Walked) (roots pair : Option Pair) → IsTop hash s top → IsSpelled h P bytes
-    → root_found hash h P ≡ hash (root_at top) → roots ≡ differ (root_at top) (Some (root_bytes hash h P))
+    → root_found hash h P ≡ hash (root_at top) → roots ≡ differ (root_at top) (Some (proof_preimage hash h P))
     → WalkedRoot hash s top h P bytes w → pair ≡ or_else roots (option_map pair_of w.clash)
     → ComparedMap hash s h.kind bytes pair
 map_compared hash s top h P bytes w None pair is spelled held d walked e =

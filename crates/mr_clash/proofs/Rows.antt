@@ -5,13 +5,13 @@ use Rattle.std.proofs.lemmas.List.Elements.{recursion_from_All}
 use Rattle.std.specs.List.{AllByRecursion}
 use Rattle.std.proofs.lemmas.List.{length-map}
 use Rattle.mr_tree.specs.declared.entry.Entry.{Entry}
-use Rattle.mr_tree.specs.Nodes.{Standing}
+use Rattle.mr_tree.specs.Nodes.{MapModel}
 use Rattle.mr_tree.specs.declared.child.Child.{Child}
 use Rattle.mr_tree.specs.declared.tree.Tree.{Tree}
-use Rattle.mr_proof.specs.Cut.{Cut, Cuts, no_more, first, count_of, entries, digest}
+use Rattle.mr_proof.specs.Cut.{Cut, Cuts, no_more, first, number_of_cuts, entries, digest}
 use Rattle.mr_proof.specs.Spelling.{cut_bytes, cuts_bytes, FitsCut, FitCuts}
 use Rattle.mr_proof.specs.Clash.{Pair, or_else, node_clash, children_clash, IsCollision}
-use Rattle.mr_clash.specs.Steps.{scheme, pair_of, held_of, shown_of, PassedAll, Compared, WalkedOne, WalkedAll}
+use Rattle.mr_clash.specs.private.Steps.{scheme, pair_of, held_of, shown_digests, PassedAll, Compared, WalkedOne, WalkedAll}
 use Rattle.mr_clash.specs.declared.walked.Row.{Row}
 use Rattle.mr_clash.specs.declared.walked.Walked.{Walked}
 use Rattle.mr_clash.proofs.Taking.{drop_cuts, drop_all, length-entries}
@@ -22,10 +22,10 @@ record ChildCut (hash : List ℕ → List ℕ) (w : ℕ) (cs : List Child) (Ps :
   cut : Cut
   fits : FitsCut w cut
   here : drop_cuts i Ps ≡ first cut (drop_cuts (suc i) Ps)
-  same : held_of cs ≡ shown_of (entries (scheme hash) w Ps) → c.digest ≡ digest (scheme hash) w cut
+  same : held_of cs ≡ shown_digests (entries (scheme hash) w Ps) → c.digest ≡ digest (scheme hash) w cut
 
 child_cut : (hash : List ℕ → List ℕ) (w : ℕ) (cs : List Child) (Ps : Cuts) (i : ℕ) (c : Child) → i < length cs
-    → c ≡ get_or cs i c → count_of Ps ≡ length cs → FitCuts w Ps → ChildCut hash w cs Ps i c
+    → c ≡ get_or cs i c → number_of_cuts Ps ≡ length cs → FitCuts w Ps → ChildCut hash w cs Ps i c
 child_cut hash w [] Ps i c lt is count fits = absurd (omega arith)
 child_cut hash w (d ∷ cs) no_more i c lt is count fits = absurd (omega (arith, count))
 child_cut hash w (d ∷ cs) (first P Ps) zero c lt is count fits = record {
@@ -44,12 +44,12 @@ child_cut hash w (d ∷ cs) (first P Ps) (suc i) c lt is count fits =
     }
 
 -- and the tree under it
-record ChildTree (s : Standing) (ts : List Tree) (i : ℕ) (c : Child) : Type 0 where
+record ChildTree (s : MapModel) (ts : List Tree) (i : ℕ) (c : Child) : Type 0 where
   tree_at : Tree
   node_at : s.node c.id ≡ Some tree_at
   here : drop i ts ≡ tree_at ∷ drop (suc i) ts
 
-child_tree : (s : Standing) (cs : List Child) (ts : List Tree) (i : ℕ) (c : Child) → i < length cs
+child_tree : (s : MapModel) (cs : List Child) (ts : List Tree) (i : ℕ) (c : Child) → i < length cs
     → c ≡ get_or cs i c → map (λ (c : Child). s.node c.id) cs ≡ map Some ts → ChildTree s ts i c
 child_tree s [] ts i c lt is e = absurd (omega arith)
 child_tree s (d ∷ cs) [] i c lt is e = absurd cc
@@ -78,7 +78,7 @@ first_collides hash None b p q = q
 first_collides hash (Some x) b p q = p
 
 -- the pair of so many of them, where what is said of all is one
-pub record FirstOf (hash : List ℕ → List ℕ) (s : Standing) (w : ℕ) (cs : List Child) (Ps : Cuts) (i : ℕ)
+pub record FirstOf (hash : List ℕ → List ℕ) (s : MapModel) (w : ℕ) (cs : List Child) (Ps : Cuts) (i : ℕ)
     (pair : Option Pair) : Type 0 where
   pub collides : IfSome pair (IsCollision hash)
   pub told : IsSome s.tree → (ts : List Tree) → map (λ (c : Child). s.node c.id) cs ≡ map Some ts
@@ -86,13 +86,13 @@ pub record FirstOf (hash : List ℕ → List ℕ) (s : Standing) (w : ℕ) (cs :
       ≡ or_else pair (children_clash (scheme hash) w (drop i ts) (drop_cuts i Ps))
 
 -- so many of them were passed over
-pub record WalkedSome (hash : List ℕ → List ℕ) (s : Standing) (w : ℕ) (cs : List Child) (Ps : Cuts) (rest : List ℕ)
+pub record WalkedSome (hash : List ℕ → List ℕ) (s : MapModel) (w : ℕ) (cs : List Child) (Ps : Cuts) (rest : List ℕ)
     (i : ℕ) (xs : List Entry) (pair : Option Pair) (bytes : List ℕ) : Type 0 where
   pub say : entries (scheme hash) w Ps ≡ xs ++ entries (scheme hash) w (drop_cuts i Ps)
   pub left_is : bytes ≡ cuts_bytes (drop_cuts i Ps) ++ rest
-  pub compared : held_of cs ≡ shown_of (entries (scheme hash) w Ps) → FirstOf hash s w cs Ps i pair
+  pub compared : held_of cs ≡ shown_digests (entries (scheme hash) w Ps) → FirstOf hash s w cs Ps i pair
 
-pub none_walked : (hash : List ℕ → List ℕ) (s : Standing) (w : ℕ) (cs : List Child) (Ps : Cuts)
+pub none_walked : (hash : List ℕ → List ℕ) (s : MapModel) (w : ℕ) (cs : List Child) (Ps : Cuts)
     (rest bytes : List ℕ) → bytes ≡ cuts_bytes Ps ++ rest → WalkedSome hash s w cs Ps rest 0 [] None bytes
 none_walked hash s w cs Ps rest bytes e = record {
   say = refl;
@@ -101,21 +101,21 @@ none_walked hash s w cs Ps rest bytes e = record {
 }
 
 -- what the walk of an item comes to, at its level
-abbrev pub WalkedAt : (List ℕ → List ℕ) → Standing → Child → ℕ → (before after : List ℕ) → Walked → Type 0
+abbrev pub WalkedAt : (List ℕ → List ℕ) → MapModel → Child → ℕ → (before after : List ℕ) → Walked → Type 0
 WalkedAt hash s c v before after one =
     (P : Cut) (rest : List ℕ) → FitsCut v P → before ≡ cut_bytes P ++ rest → WalkedOne hash s c v P rest one after
 
-pub walked_at : (hash : List ℕ → List ℕ) (s t : Standing) (c : Child) (w : ℕ) (before after : List ℕ)
+pub walked_at : (hash : List ℕ → List ℕ) (s t : MapModel) (c : Child) (w : ℕ) (before after : List ℕ)
     (one : Walked) → s ≡ t → c.level ≡ w → WalkedAt hash s c c.level before after one
     → WalkedAt hash t c w before after one
 walked_at hash s t c w before after one same level walked =
     subst (λ v. WalkedAt hash t c v before after one) level
-    (subst (λ (s : Standing). WalkedAt hash s c c.level before after one) same walked)
+    (subst (λ (s : MapModel). WalkedAt hash s c c.level before after one) same walked)
 
 -- one more was passed over
-pub walked_more : (hash : List ℕ → List ℕ) (s : Standing) (w : ℕ) (cs : List Child) (Ps : Cuts) (rest : List ℕ)
+pub walked_more : (hash : List ℕ → List ℕ) (s : MapModel) (w : ℕ) (cs : List Child) (Ps : Cuts) (rest : List ℕ)
     (i : ℕ) (c : Child) (xs more : List Entry) (pair pairs : Option Pair) (bytes after : List ℕ) (one : Walked)
-    → i < length cs → c ≡ get_or cs i c → count_of Ps ≡ length cs → FitCuts w Ps
+    → i < length cs → c ≡ get_or cs i c → number_of_cuts Ps ≡ length cs → FitCuts w Ps
     → WalkedSome hash s w cs Ps rest i xs pair bytes → WalkedAt hash s c w bytes after one
     → more ≡ xs ++ one.entry ∷ [] → pairs ≡ or_else pair (option_map pair_of one.clash)
     → WalkedSome hash s w cs Ps rest (i + 1) more pairs after
@@ -156,7 +156,7 @@ walked_more hash s w cs Ps rest i c xs more pair pairs bytes after one lt is cou
     }
 
 -- all of them were passed over
-drop_cuts_end : (hash : List ℕ → List ℕ) (w : ℕ) (ts : List Tree) (Ps : Cuts) (i : ℕ) → count_of Ps ≤ i
+drop_cuts_end : (hash : List ℕ → List ℕ) (w : ℕ) (ts : List Tree) (Ps : Cuts) (i : ℕ) → number_of_cuts Ps ≤ i
     → children_clash (scheme hash) w (drop i ts) (drop_cuts i Ps) ≡ None
 drop_cuts_end hash w ts no_more zero le = refl
 drop_cuts_end hash w ts no_more (suc i) le = refl
@@ -168,12 +168,12 @@ drop_cuts_end hash w [] (first P Ps) (suc i) le = none_of_none (drop_cuts i Ps)
     none_of_none (first Q Qs) = refl
 drop_cuts_end hash w (t ∷ ts) (first P Ps) (suc i) le = drop_cuts_end hash w ts Ps i (omega arith)
 
-pub all_walked : (hash : List ℕ → List ℕ) (s : Standing) (w : ℕ) (cs : List Child) (Ps : Cuts) (rest : List ℕ)
-    (i : ℕ) (row : Row) (bytes : List ℕ) → length cs ≤ i → count_of Ps ≡ length cs
+pub all_walked : (hash : List ℕ → List ℕ) (s : MapModel) (w : ℕ) (cs : List Child) (Ps : Cuts) (rest : List ℕ)
+    (i : ℕ) (row : Row) (bytes : List ℕ) → length cs ≤ i → number_of_cuts Ps ≡ length cs
     → WalkedSome hash s w cs Ps rest i row.entries.items (option_map pair_of row.clash) bytes
     → WalkedAll hash s w cs Ps rest row bytes
 all_walked hash s w cs Ps rest i row bytes le count so =
-    let all : count_of Ps ≤ i = omega (arith, le, count) in
+    let all : number_of_cuts Ps ≤ i = omega (arith, le, count) in
     let none = drop_all Ps i all in
     record {
       say = sym (so.say ∙ ap (λ Qs. row.entries.items ++ entries (scheme hash) w Qs) none
@@ -189,8 +189,9 @@ all_walked hash s w cs Ps rest i row bytes le count so =
     }
 
 -- as many items as a node has no children
-pub other_count : (hash : List ℕ → List ℕ) (s : Standing) (w : ℕ) (cs : List Child) (Ps : Cuts) (rest : List ℕ)
-    (row : Row) (after : List ℕ) → (count_of Ps ≡ length cs → ⊥) → PassedAll hash w Ps rest row.entries.items after
+pub other_count : (hash : List ℕ → List ℕ) (s : MapModel) (w : ℕ) (cs : List Child) (Ps : Cuts) (rest : List ℕ)
+    (row : Row) (after : List ℕ) → (number_of_cuts Ps ≡ length cs → ⊥) → PassedAll hash w Ps rest
+    row.entries.items after
     → WalkedAll hash s w cs Ps rest row after
 other_count hash s w cs Ps rest row after other passed = record {
   say = passed.say;

@@ -14,9 +14,9 @@ use Rattle.mr_tree.specs.declared.tree.Tree.TheOpen as node
 use Rattle.mr_tree.specs.declared.entry.Entry.{Entry}
 use Rattle.mr_proof.specs.declared.head.Kind.TheVariants as kind
 use Rattle.mr_proof.specs.Fields.{version}
-use Rattle.mr_proof.specs.Cut.{Cut, Cuts, no_more, first, count_of, entry, entries}
+use Rattle.mr_proof.specs.Cut.{Cut, Cuts, no_more, first, number_of_cuts, entry, entries}
 use Rattle.mr_proof.specs.Spelling.{cut_bytes, cuts_bytes, radius_bytes, FitsCut, FitCuts}
-use Rattle.mr_clash.specs.Steps.{scheme, Passed, PassedAll}
+use Rattle.mr_clash.specs.private.Steps.{scheme, Passed, PassedAll}
 
 pub take_front : (n : ℕ) (x rest : List ℕ) → length x ≡ n → take n (x ++ rest) ≡ x
 take_front n x rest e = subst (λ k. take k (x ++ rest) ≡ x) e (take-append_seam x rest)
@@ -149,7 +149,7 @@ pub record NextCut (hash : List ℕ → List ℕ) (w : ℕ) (Ps : Cuts) (i : ℕ
   pub more : take (suc i) (entries (scheme hash) w Ps) ≡ take i (entries (scheme hash) w Ps)
       ++ entry (scheme hash) w cut ∷ []
 
-pub next_cut : (hash : List ℕ → List ℕ) (w : ℕ) (Ps : Cuts) (i : ℕ) → i < count_of Ps → FitCuts w Ps
+pub next_cut : (hash : List ℕ → List ℕ) (w : ℕ) (Ps : Cuts) (i : ℕ) → i < number_of_cuts Ps → FitCuts w Ps
     → NextCut hash w Ps i
 next_cut hash w no_more i lt fits = absurd (omega arith)
 next_cut hash w (first P Ps) zero lt fits = record { cut = P; fits = fits.0; here = refl; more = refl }
@@ -157,7 +157,8 @@ next_cut hash w (first P Ps) (suc i) lt fits =
     let n = next_cut hash w Ps i (omega arith) fits.1 in
     record { cut = n.cut; fits = n.fits; here = n.here; more = ap (λ xs. entry (scheme hash) w P ∷ xs) n.more }
 
-pub length-entries : (hash : List ℕ → List ℕ) (w : ℕ) (Ps : Cuts) → length (entries (scheme hash) w Ps) ≡ count_of Ps
+pub length-entries : (hash : List ℕ → List ℕ) (w : ℕ) (Ps : Cuts) → length (entries (scheme hash) w Ps) ≡
+    number_of_cuts Ps
 length-entries hash w no_more = refl
 length-entries hash w (first P Ps) = let rest = length-entries hash w Ps in omega arith
 
@@ -176,7 +177,7 @@ pub record NextItem (hash : List ℕ → List ℕ) (w : ℕ) (Ps : Cuts) (rest :
       ++ entry (scheme hash) w cut ∷ []
 
 pub next_item : (hash : List ℕ → List ℕ) (w : ℕ) (Ps : Cuts) (rest : List ℕ) (i : ℕ) (bytes : List ℕ)
-    → i < count_of Ps → FitCuts w Ps → bytes ≡ cuts_bytes (drop_cuts i Ps) ++ rest
+    → i < number_of_cuts Ps → FitCuts w Ps → bytes ≡ cuts_bytes (drop_cuts i Ps) ++ rest
     → NextItem hash w Ps rest i bytes
 next_item hash w Ps rest i bytes lt fits e =
     let n = next_cut hash w Ps i lt fits in
@@ -201,7 +202,7 @@ passed_more hash w Ps rest i xs more bytes after x so n one pushed = record {
   left_is = one.behind;
 }
 
-pub drop_all : (Ps : Cuts) (i : ℕ) → count_of Ps ≤ i → drop_cuts i Ps ≡ no_more
+pub drop_all : (Ps : Cuts) (i : ℕ) → number_of_cuts Ps ≤ i → drop_cuts i Ps ≡ no_more
 drop_all no_more zero le = refl
 drop_all no_more (suc i) le = refl
 drop_all (first P Ps) zero le = absurd (omega arith)
@@ -209,7 +210,7 @@ drop_all (first P Ps) (suc i) le = drop_all Ps i (omega arith)
 
 -- all of them were passed over
 pub all_passed : (hash : List ℕ → List ℕ) (w : ℕ) (Ps : Cuts) (rest : List ℕ) (i : ℕ) (xs : List Entry)
-    (bytes : List ℕ) → count_of Ps ≤ i → PassedSome hash w Ps rest i xs bytes → PassedAll hash w Ps rest xs bytes
+    (bytes : List ℕ) → number_of_cuts Ps ≤ i → PassedSome hash w Ps rest i xs bytes → PassedAll hash w Ps rest xs bytes
 all_passed hash w Ps rest i xs bytes le so = record {
   say = so.say ∙ take-all i (entries (scheme hash) w Ps) (omega (arith, le, length-entries hash w Ps));
   behind = so.left_is ∙ ap (λ Qs. cuts_bytes Qs ++ rest) (drop_all Ps i le);

@@ -9,20 +9,20 @@ use Rattle.mr_record.specs.declared.version.Version.{Version}
 use Rattle.mr_tree.specs.Digest.{by, entry_bytes, level_over, node_preimage}
 use Rattle.mr_tree.specs.declared.entry.Entry.{Entry}
 use Rattle.mr_tree.specs.Digest as digests
-use Rattle.mr_tree.specs.Nodes.{Standing, IsEntry, IsNodeOf, MayFetch, Shows}
-use Rattle.mr_tree.specs.View.{Node, IsChild, IsInner, IsView, children_in, entry_of, preimage_of}
+use Rattle.mr_tree.specs.Nodes.{MapModel, IsEntry, IsNodeOf, MayFetch, ShowsNode}
+use Rattle.mr_tree.specs.View.{Node, IsChild, IsInner, IsView, children_in, child_entry, preimage_of}
 use Rattle.mr_tree.specs.declared.child.Child.{Child}
 use Rattle.mr_tree.specs.declared.tree.Tree.{Tree}
 use Rattle.mr_tree.specs.declared.tree.Tree.TheVariants as tree
 use Rattle.mr_tree.specs.declared.tree.Tree.TheOpen as node
-use Rattle.mr_proof.specs.declared.shown.Shown.{Shown}
+use Rattle.mr_proof.specs.declared.pruned_entry.PrunedEntry.{PrunedEntry}
 use Rattle.mr_proof.specs.Fields.{version}
 use Rattle.mr_proof.specs.Cut.{Cut, Cuts, Pruned, Leaf, Inner, no_more, first, entry, entries, digest, preimage}
 use Rattle.mr_proof.specs.Spelling.{cut_bytes, FitsCut, FitCuts}
 use Rattle.mr_proof.specs.Clash.{Pair, differ, or_else, children, children_in as trees_in, node_clash, children_clash, IsCollision, NoneAnd}
 use Rattle.mr_proof.proofs.Values.{same_bytes}
 use Rattle.mr_proof.proofs.SameNodes.{IsNamed, entry_front, named_cut, none_differ, preimage-Leaf, preimage-Inner}
-use Rattle.mr_clash.specs.Steps.{scheme, pair_of, held_of, shown_of, is_pruned, string_over, Passed, Compared, ComparedAll, WalkedOne, WalkedAll, WalkedLeaf, Closed}
+use Rattle.mr_clash.specs.private.Steps.{scheme, pair_of, held_of, shown_digests, is_pruned, string_over, Passed, Compared, ComparedAll, WalkedOne, WalkedAll, WalkedLeaf, Closed}
 use Rattle.mr_clash.specs.declared.finding.Clash.{Clash}
 use Rattle.mr_clash.specs.declared.walked.Row.{Row}
 use Rattle.mr_clash.specs.declared.walked.Walked.{Walked}
@@ -30,7 +30,7 @@ use Rattle.mr_clash.proofs.Nodes.{inner_passed, inner_string_shown, item_pruned}
 
 -- ---- two lists of entries with one string
 
-named_children : (cs : List Child) → AllByRecursion IsChild cs → AllByRecursion IsNamed (map entry_of cs)
+named_children : (cs : List Child) → AllByRecursion IsChild cs → AllByRecursion IsNamed (map child_entry cs)
 named_children [] all = tt
 named_children (c ∷ cs) all = (
   record {
@@ -50,7 +50,7 @@ named_entries hash sized w (first P Ps) fits = (
 )
 
 same_digests : (es fs : List Entry) → AllByRecursion IsNamed es → AllByRecursion IsNamed fs → length es ≡ length fs
-    → flat_map (entry_bytes version) es ≡ flat_map (entry_bytes version) fs → shown_of es ≡ shown_of fs
+    → flat_map (entry_bytes version) es ≡ flat_map (entry_bytes version) fs → shown_digests es ≡ shown_digests fs
 same_digests [] [] p q n e = refl
 same_digests [] (f ∷ fs) p q n e = absurd (omega arith)
 same_digests (x ∷ es) [] p q n e = absurd (omega arith)
@@ -59,7 +59,7 @@ same_digests (x ∷ es) (f ∷ fs) p q n e =
     let rest = same_digests es fs p.1 q.1 (omega arith) c.rest in
     λ i. c.here.digest i ∷ rest i
 
-held_shown : (cs : List Child) → held_of cs ≡ shown_of (map entry_of cs)
+held_shown : (cs : List Child) → held_of cs ≡ shown_digests (map child_entry cs)
 held_shown [] = refl
 held_shown (c ∷ cs) = ap (λ ds. c.digest ∷ ds) (held_shown cs)
 
@@ -73,10 +73,11 @@ behind a b c d n m x y e = record { count = cc; rest = cc }
 -- the children of a node and those of a cut of it with one string
 pub same_children : (hash : List ℕ → List ℕ) → ((m : List ℕ) → length (hash m) ≡ 32) → (w : ℕ) (cs : List Child)
     (Ps : Cuts) → AllByRecursion IsChild cs → FitCuts w Ps
-    → node_preimage version (node.Inner (map entry_of cs)) ≡ node_preimage version (node.Inner (entries (scheme hash) w
-    Ps)) → held_of cs ≡ shown_of (entries (scheme hash) w Ps)
+    → node_preimage version (node.Inner (map child_entry cs)) ≡ node_preimage version
+    (node.Inner (entries (scheme hash) w
+    Ps)) → held_of cs ≡ shown_digests (entries (scheme hash) w Ps)
 same_children hash sized w cs Ps are fits e =
-    let es = map entry_of cs in
+    let es = map child_entry cs in
     let fs = entries (scheme hash) w Ps in
     let b = behind 0x4e 0x4e (level_over es) (level_over fs) (length es) (length fs) (flat_map (entry_bytes version) es)
     (flat_map (entry_bytes version) fs) e in
@@ -90,23 +91,23 @@ head_is a b xs ys e = cc
 pub tail_is : {A : Type 0} (a b : A) (xs ys : List A) → a ∷ xs ≡ b ∷ ys → xs ≡ ys
 tail_is a b xs ys e = cc
 
-entries_told : (hash : List ℕ → List ℕ) (s : Standing) → s.version ≡ version → (cs : List Child) (ts : List Tree)
+entries_told : (hash : List ℕ → List ℕ) (s : MapModel) → s.version ≡ version → (cs : List Child) (ts : List Tree)
     → map (λ (c : Child). s.node c.id) cs ≡ map Some ts → AllByRecursion (IsEntry hash s) cs
-    → map entry_of cs ≡ map (digests.entry (scheme hash)) ts
+    → map child_entry cs ≡ map (digests.entry (scheme hash)) ts
 entries_told hash s one [] [] e all = refl
 entries_told hash s one [] (t ∷ ts) e all = absurd cc
 entries_told hash s one (c ∷ cs) [] e all = absurd cc
 entries_told hash s one (c ∷ cs) (t ∷ ts) e all =
     let here : s.node c.id ≡ Some t = head_is (s.node c.id) (Some t) _ _ e in
-    let own : entry_of c ≡ digests.entry (scheme hash) t =
-    subst (λ (o : Option Tree). IsSomeAnd o (λ t. entry_of c ≡ digests.entry (scheme hash) t)) here
-    (subst (λ (v : Version). IsSomeAnd (s.node c.id) (λ t. entry_of c ≡ digests.entry (by v hash) t))
+    let own : child_entry c ≡ digests.entry (scheme hash) t =
+    subst (λ (o : Option Tree). IsSomeAnd o (λ t. child_entry c ≡ digests.entry (scheme hash) t)) here
+    (subst (λ (v : Version). IsSomeAnd (s.node c.id) (λ t. child_entry c ≡ digests.entry (by v hash) t))
     one all.0) in
     let rest = entries_told hash s one cs ts (tail_is (s.node c.id) (Some t) _ _ e) all.1 in
     λ i. own i ∷ rest i
 
 -- the string of the node is that of its tree
-pub preimage_told : (hash : List ℕ → List ℕ) (s : Standing) → s.version ≡ version → (t : Tree) (n : Node)
+pub preimage_told : (hash : List ℕ → List ℕ) (s : MapModel) → s.version ≡ version → (t : Tree) (n : Node)
     → IsNodeOf s t n
     → AllByRecursion (IsEntry hash s) (children_in n) → digests.preimage (scheme hash) t ≡ preimage_of version n
 preimage_told hash s one t node.Empty is all = absurd is
@@ -116,7 +117,7 @@ preimage_told hash s one t (node.Inner cs) is all =
     ap (digests.preimage (scheme hash)) is.1 ∙ preimage-Inner (scheme hash) is.0
     ∙ ap (λ es. node_preimage version (node.Inner es)) (sym (entries_told hash s one cs is.0 is.2 all))
 
-pub known_children : (hash : List ℕ → List ℕ) (s : Standing) (cs : List Child) → IsSome s.tree
+pub known_children : (hash : List ℕ → List ℕ) (s : MapModel) (cs : List Child) → IsSome s.tree
     → AllByRecursion (MayFetch hash s) cs → AllByRecursion (IsEntry hash s) cs
 known_children hash s [] told all = tt
 known_children hash s (c ∷ cs) told all = (all.0.known told, known_children hash s cs told all.1)
@@ -159,7 +160,7 @@ clash_here hash v t (Inner cuts) y p e d =
     ap (λ o. or_else o (children_clash (scheme hash) (v - 1) (children t) cuts))
     (ap (differ (digests.preimage (scheme hash) t)) e ∙ d)
 
-module _ (hash : List ℕ → List ℕ) (s : Standing) (c : Child) (P : Cut) where
+module _ (hash : List ℕ → List ℕ) (s : MapModel) (c : Child) (P : Cut) where
   -- nothing is compared with what is pruned
   pub pruned_compared : is_pruned P ≡ true → Compared hash s c.id c.level P None
   pruned_compared is = record { collides = tt; told = λ told. of_node (s.node c.id) P is }
@@ -171,8 +172,8 @@ module _ (hash : List ℕ → List ℕ) (s : Standing) (c : Child) (P : Cut) whe
       of_node (Some t) (Leaf rs) is = absurd cc
       of_node (Some t) (Inner cuts) is = absurd cc
 
-module _ (hash : List ℕ → List ℕ) (s : Standing) (one : s.version ≡ version) (c : Child) (n : Node)
-    (shows : Shows hash s c n) (may : AllByRecursion (MayFetch hash s) (children_in n)) where
+module _ (hash : List ℕ → List ℕ) (s : MapModel) (one : s.version ≡ version) (c : Child) (n : Node)
+    (shows : ShowsNode hash s c n) (may : AllByRecursion (MayFetch hash s) (children_in n)) where
   strings_told : (t : Tree) → IsSome s.tree → IsNodeOf s t n → digests.preimage (scheme hash) t ≡ preimage_of version n
   strings_told t told is = preimage_told hash s one t n is (known_children hash s (children_in n) told may)
 
@@ -258,17 +259,17 @@ digest_beside hash owned shown held digest o none is pair own =
     own ∙ sym is ∙ ap hash (same_strings owned shown (sym (ap (option_map pair_of) none) ∙ pair))
 
 -- what is pruned
-pub pruned_walked : (hash : List ℕ → List ℕ) (s : Standing) (c : Child) (P : Cut) (rest before after : List ℕ)
+pub pruned_walked : (hash : List ℕ → List ℕ) (s : MapModel) (c : Child) (P : Cut) (rest before after : List ℕ)
     (x : Entry) → is_pruned P ≡ true → before ≡ cut_bytes P ++ rest → FitsCut c.level P
-    → ((part : Shown) → FitsCut c.level (Pruned part) → before ≡ cut_bytes (Pruned part) ++ rest
+    → ((part : PrunedEntry) → FitsCut c.level (Pruned part) → before ≡ cut_bytes (Pruned part) ++ rest
     → Passed hash c.level (Pruned part) rest x after)
     → WalkedOne hash s c c.level P rest (record { entry = x; clash = None }) after
 pruned_walked hash s c P rest before after x is e fits passed =
     let p = item_pruned hash c.level P rest before after x is e fits passed in
     record { says = p.says; behind = p.behind; compared = λ same. pruned_compared hash s c P is }
 
-module _ (hash : List ℕ → List ℕ) (s : Standing) (one : s.version ≡ version) (c : Child) (n : Node)
-    (shows : Shows hash s c n) where
+module _ (hash : List ℕ → List ℕ) (s : MapModel) (one : s.version ≡ version) (c : Child) (n : Node)
+    (shows : ShowsNode hash s c n) where
   may_all : AllByRecursion (MayFetch hash s) (children_in n)
   may_all = recursion_from_All (MayFetch hash s) (children_in n) shows.children
 
@@ -341,7 +342,7 @@ module _ (hash : List ℕ → List ℕ) (s : Standing) (one : s.version ≡ vers
           → differ (preimage_of version n)
           (Some (node_preimage version (node.Inner (entries (scheme hash) (c.level - 1) Ps)))) ≡ o
           → n ≡ node.Inner cs
-          → (held_of cs ≡ shown_of (entries (scheme hash) (c.level - 1) Ps)
+          → (held_of cs ≡ shown_digests (entries (scheme hash) (c.level - 1) Ps)
           → ComparedAll hash s (c.level - 1) cs Ps (option_map pair_of row.clash))
           → c.digest ≡ digest (scheme hash) c.level (Inner Ps)
           → Compared hash s c.id c.level (Inner Ps) (or_else o (option_map pair_of row.clash))

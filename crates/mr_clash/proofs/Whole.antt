@@ -4,7 +4,7 @@ use Rattle.std.specs.Prelude.{Option, Some, None, IfSome, Result, Ok, Err}
 use Rattle.mr_tree.specs.Tree.{records}
 use Rattle.mr_tree.specs.Digest.{Scheme, by}
 use Rattle.mr_tree.specs.Digest as digests
-use Rattle.mr_tree.specs.Nodes.{Standing, IsTop}
+use Rattle.mr_tree.specs.Nodes.{MapModel, IsTop}
 use Rattle.mr_tree.specs.declared.nodes.Top.{Top}
 use Rattle.mr_tree.specs.declared.tree.Tree.{Tree}
 use Rattle.mr_record.specs.declared.record.Record.{Record}
@@ -23,14 +23,14 @@ use Rattle.mr_proof.specs.Honest.{proof}
 use Rattle.mr_proof.specs.Reading.{verdict}
 use Rattle.mr_check.proofs.Gathering.{answered}
 use Rattle.mr_check.proofs.Judging.{accepted, refused}
-use Rattle.mr_clash.specs.Finding.{finding_of, found, root_at, IsSound, FindsFor, FindsHonest, FetchesFew, Collides, opened_said, opened_by, opened_accepted}
+use Rattle.mr_clash.specs.Finding.{finding_of, found, root_at, IsSound, FindsFor, FindsHonest, FetchesFew, ShowsCollision, opened_said, opened_by, opened_accepted}
 use Rattle.mr_clash.specs.QuestionFindings.{IsQuestionFinding, QuestionFindingFor, QuestionFindingCollides, opened_checked, opened_checked_by, FetchesFor, FindsOf}
 use Rattle.mr_clash.specs.declared.question_finding.QuestionFinding.{QuestionFinding}
 use Rattle.mr_clash.specs.declared.question_finding.QuestionFinding.TheVariants as question_findings
 use Rattle.mr_clash.specs.declared.finding.Finding.{Finding}
 use Rattle.mr_clash.specs.declared.finding.Finding.TheVariants as findings
 use Rattle.mr_proof.specs.declared.head.Kind.{Kind}
-use Rattle.mr_proof.specs.Spelling.{Said, IsSpelled}
+use Rattle.mr_proof.specs.Spelling.{Parsed, IsSpelled}
 use Rattle.mr_proof.specs.Tight.{kind_of, question}
 use Rattle.mr_proof.specs.Reading.{checked}
 use Rattle.mr_proof.specs.Halves.{IsQueried}
@@ -51,13 +51,13 @@ queried (Nearest p k) = tt
 -- ---- of what bytes are worth
 
 module _ (q : Query) (bytes : List ℕ) (is : IsQuery q) (fits : IsBytes bytes) where
-  spelled_by : (hash : List ℕ → List ℕ) (root : List ℕ) (x : Said) → checked hash root (question q) bytes ≡ Ok x
+  spelled_by : (hash : List ℕ → List ℕ) (root : List ℕ) (x : Parsed) → checked hash root (question q) bytes ≡ Ok x
       → (x.head.kind ≡ kind_of q) × IsSpelled x.head x.part bytes
   spelled_by hash root x e =
       let shows = shows_from hash root (question q) bytes x (is_lawful q is) fits e in (shows.kind, shows.spelled)
 
   -- bytes that are accepted for the query have its kind
-  same_clash : (s : Scheme) (t : Tree) (b : ℕ) (x : Said)
+  same_clash : (s : Scheme) (t : Tree) (b : ℕ) (x : Parsed)
       → checked s.of (digests.root s t b) (question q) bytes ≡ Ok x
       → clash s t b bytes ≡ clash_of (kind_of q) s t b bytes
   same_clash s t b x e =
@@ -85,7 +85,7 @@ module _ (q : Query) (bytes : List ℕ) (is : IsQuery q) (fits : IsBytes bytes) 
   told_from s None b w v is_found of = tt
   told_from s (Some t) b w v is_found of = found_from s t b w v is_found of
 
-  pub judged_from : (hash : List ℕ → List ℕ) (s : Standing) (w : QuestionFinding) (v : Finding)
+  pub judged_from : (hash : List ℕ → List ℕ) (s : MapModel) (w : QuestionFinding) (v : Finding)
       → QuestionFindingFor hash s (question q) bytes w → FindsOf q w v → FindsFor hash s q bytes v
   judged_from hash s (question_findings.Refused f) v (top, at, pair, is_found) of = (
     top,
@@ -101,7 +101,7 @@ module _ (q : Query) (bytes : List ℕ) (is : IsQuery q) (fits : IsBytes bytes) 
       (top, at, pair, of ∙ sym (λ i. finding_of (exact i) (is_found.2 i)))
 
   -- accepted bytes open what they spell
-  opened_alike : (hash : List ℕ → List ℕ) (root : List ℕ) (r : Result Said Fault)
+  opened_alike : (hash : List ℕ → List ℕ) (root : List ℕ) (r : Result Parsed Fault)
       → checked hash root (question q) bytes ≡ r → opened_checked r ≡ opened_by (verdict hash root q bytes) bytes
   opened_alike hash root (Ok x) e =
       let p = spelled_by hash root x e in
@@ -117,7 +117,7 @@ module _ (q : Query) (bytes : List ℕ) (is : IsQuery q) (fits : IsBytes bytes) 
       let root = digests.root s t b in
       let same = opened_alike s.of root (checked s.of root (question q) bytes) refl in omega (arith, few, same)
 
-  pub few_from : (hash : List ℕ → List ℕ) (s : Standing) (before after : ℕ)
+  pub few_from : (hash : List ℕ → List ℕ) (s : MapModel) (before after : ℕ)
       → FetchesFor hash s (question q) bytes before after → FetchesFew hash s q bytes before after
   few_from hash s before after few =
       let root = hash (root_at few.0) in
@@ -126,10 +126,10 @@ module _ (q : Query) (bytes : List ℕ) (is : IsQuery q) (fits : IsBytes bytes) 
 
 pub finding_collides : (hash : List ℕ → List ℕ) (q : Query) (w : QuestionFinding) (v : Finding)
     → QuestionFindingCollides hash w
-    → FindsOf q w v → Collides hash v
-finding_collides hash q (question_findings.Refused f) v collides of = subst (Collides hash) (sym of) tt
-finding_collides hash q (question_findings.Sound o) v collides of = subst (Collides hash) (sym of.1) tt
-finding_collides hash q (question_findings.Collision owned shown) v collides of = subst (Collides hash) (sym of)
+    → FindsOf q w v → ShowsCollision hash v
+finding_collides hash q (question_findings.Refused f) v collides of = subst (ShowsCollision hash) (sym of) tt
+finding_collides hash q (question_findings.Sound o) v collides of = subst (ShowsCollision hash) (sym of.1) tt
+finding_collides hash q (question_findings.Collision owned shown) v collides of = subst (ShowsCollision hash) (sym of)
     collides
 
 module _ (h : Scheme) (q : Query) (t : Tree) (b : ℕ) (bytes : List ℕ) (well : WellFormed t)
@@ -184,7 +184,7 @@ finds_prop h t b q bytes (findings.Sound answer) = hlevel (props, set row.coded)
 finds_prop h t b q bytes (findings.Collision owned shown) = hlevel (props, set row.coded)
 
 -- so of a finding by a told tree, which is well formed and has the layers of version 1
-pub honest_told : (hash : List ℕ → List ℕ) (q : Query) (bytes : List ℕ) (s : Standing) (top : Top)
+pub honest_told : (hash : List ℕ → List ℕ) (q : Query) (bytes : List ℕ) (s : MapModel) (top : Top)
     (v : Finding) → IsTop hash s top → top.batch < 2 ^ 64 → AcceptsHonest (by One hash) q
     → AcceptedIsHonest (by One hash) q bytes → HonestIsQuiet (by One hash) q → s.version ≡ One
     → IfSome s.tree (λ t. ∥ WellFormed t ∥₁)

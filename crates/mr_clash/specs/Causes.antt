@@ -1,6 +1,6 @@
 -- Why an audit came to no finding.
 use Rattle.std.specs.Prelude.{◌≡◌, ◌≢◌, ℕ, ◌≤◌, ⊤, Option, Some, Result, IfErr, OnOk}
-use Rattle.mr_tree.specs.Nodes.{Standing, HasSomeCause}
+use Rattle.mr_tree.specs.Nodes.{MapModel, HasSomeCause}
 use Rattle.mr_tree.specs.declared.nodes.NodesErr.{NodesErr}
 use Rattle.mr_tree.specs.declared.nodes.NodesErr.TheVariants as nodes
 use Rattle.mr_clash.specs.declared.error.AuditErr.{AuditErr}
@@ -12,14 +12,14 @@ of_nodes nodes.NoMemory = errors.NoMemory
 of_nodes e = errors.Nodes e
 
 -- each refusal has its cause: that of a fetch, which is never handed on as one of memory
-abbrev pub HasCause : Standing → (before after : ℕ) → AuditErr → Type 0
-HasCause s before after (errors.Nodes e) = HasSomeCause s before after e × (e ≢ nodes.NoMemory)
-HasCause s before after errors.NoMemory = ⊤
+abbrev pub HasAuditCause : MapModel → (before after : ℕ) → AuditErr → Type 0
+HasAuditCause s before after (errors.Nodes e) = HasSomeCause s before after e × (e ≢ nodes.NoMemory)
+HasAuditCause s before after errors.NoMemory = ⊤
 
 -- between these counts of faults of the nodes
-pub record AuditCauses {A : Type 0} (s : Standing) (before after : ℕ) (result : Result A AuditErr)
+pub record AuditCauses {A : Type 0} (s : MapModel) (before after : ℕ) (result : Result A AuditErr)
     : Type 0 where
-  pub cause : IfErr result (HasCause s before after)
+  pub cause : IfErr result (HasAuditCause s before after)
   pub faults : before ≤ after
   pub quiet : OnOk result (after ≡ before)
 

@@ -3,14 +3,14 @@ use Rattle.std.specs.Prelude.{◌≡◌, ◌↔◌, ℕ, ◌+◌, ◌≤◌, Lis
 use Rattle.mr_record.specs.declared.record.Record.{Record}
 use Rattle.mr_tree.specs.Tree.{records}
 use Rattle.mr_tree.specs.Digest.{Scheme, root, root_preimage}
-use Rattle.mr_tree.specs.Nodes.{Standing, IsTop, root_entry}
+use Rattle.mr_tree.specs.Nodes.{MapModel, IsTop, root_entry}
 use Rattle.mr_tree.specs.declared.nodes.Top.{Top}
 use Rattle.mr_tree.specs.declared.tree.Tree.{Tree}
 use Rattle.mr_query.specs.Scan.{scan}
 use Rattle.mr_query.specs.declared.query.Query.{Query}
 use Rattle.mr_proof.specs.declared.rule.Fault.{Fault}
 use Rattle.mr_proof.specs.Honest.{proof, opened_of}
-use Rattle.mr_proof.specs.Spelling.{Said}
+use Rattle.mr_proof.specs.Spelling.{Parsed}
 use Rattle.mr_proof.specs.Reading.{verdict, pair_in}
 use Rattle.mr_proof.specs.Clash.{Pair, clash, IsCollision}
 use Rattle.mr_clash.specs.declared.finding.Finding.{Finding}
@@ -43,10 +43,10 @@ FindsHonest s t batch q bytes finding =
     × ((answer : List Record) → finding ≡ findings.Sound answer → answer ≡ scan (records t) q)
 
 -- two strings that are shown differ and have one hash
-abbrev pub Collides : (List ℕ → List ℕ) → Finding → Type 0
-Collides hash (findings.Collision owned shown) =
+abbrev pub ShowsCollision : (List ℕ → List ℕ) → Finding → Type 0
+ShowsCollision hash (findings.Collision owned shown) =
     IsCollision hash (record { owned = owned; shown = shown })
-Collides hash _ = ⊤
+ShowsCollision hash _ = ⊤
 
 -- ---- told or not
 
@@ -56,13 +56,13 @@ root_at top = root_preimage top.version top.batch top.count (root_entry top.root
 
 -- by the verdict of the bytes against the root digest of what a map that stands so says of itself:
 -- what is refused has its fault, what is sound its answer, and a pair is shown where it accepts
-abbrev pub FindsFor : (List ℕ → List ℕ) → Standing → Query → List ℕ → Finding → Type 0
+abbrev pub FindsFor : (List ℕ → List ℕ) → MapModel → Query → List ℕ → Finding → Type 0
 FindsFor hash s q bytes finding = (top : Top) × IsTop hash s top × (pair : Option Pair)
     × (finding ≡ finding_of (verdict hash (hash (root_at top)) q bytes) pair)
 
 -- ---- how many nodes are fetched
 
-abbrev pub opened_said : Option Said → ℕ
+abbrev pub opened_said : Option Parsed → ℕ
 opened_said None = 0
 opened_said (Some x) = opened_of x.part
 
@@ -81,6 +81,6 @@ opened_accepted s t batch q bytes = opened_by (verdict s.of (root s t batch) q b
 
 -- told or not, between these counts: by the verdict against the root digest of what a map that
 -- stands so says of itself
-abbrev pub FetchesFew : (List ℕ → List ℕ) → Standing → Query → List ℕ → (before after : ℕ) → Type 0
+abbrev pub FetchesFew : (List ℕ → List ℕ) → MapModel → Query → List ℕ → (before after : ℕ) → Type 0
 FetchesFew hash s q bytes before after = (top : Top) × IsTop hash s top
     × (after ≤ before + opened_by (verdict hash (hash (root_at top)) q bytes) bytes)

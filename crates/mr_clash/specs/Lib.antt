@@ -3,4 +3,4 @@ pub mod Finding
 pub mod QuestionFindings
 pub mod Causes
 -- what only private functions and proofs use
-pub mod Steps
+pub mod private

@@ -1,13 +1,13 @@
 -- What the audit of a proof finds, whatever the proof has to show.
 use Rattle.std.specs.Prelude.{◌≡◌, ◌↔◌, ℕ, ◌+◌, ◌≤◌, List, Option, Some, None, Result, Ok, Err, ⊤}
 use Rattle.mr_tree.specs.Digest.{Scheme, root}
-use Rattle.mr_tree.specs.Nodes.{Standing, IsTop}
+use Rattle.mr_tree.specs.Nodes.{MapModel, IsTop}
 use Rattle.mr_tree.specs.declared.nodes.Top.{Top}
 use Rattle.mr_tree.specs.declared.tree.Tree.{Tree}
 use Rattle.mr_proof.specs.declared.rule.Fault.{Fault}
 use Rattle.mr_proof.specs.Tight.{Question}
 use Rattle.mr_proof.specs.Honest.{opened_of, proof_for}
-use Rattle.mr_proof.specs.Spelling.{Said}
+use Rattle.mr_proof.specs.Spelling.{Parsed}
 use Rattle.mr_proof.specs.Reading.{checked}
 use Rattle.mr_proof.specs.Clash.{Pair, clash_of, IsCollision}
 use Rattle.mr_check.specs.declared.error.CheckErr.{CheckErr}
@@ -26,13 +26,13 @@ use Rattle.mr_clash.specs.declared.error.AuditErr.{AuditErr}
 use Rattle.mr_clash.specs.declared.error.AuditErr.TheVariants as audits
 
 -- what is found of bytes by their verdict and the pair that they show, where they are accepted
-abbrev pub IsQuestionFindingBy : Question → Result Said Fault → Option Pair → QuestionFinding
+abbrev pub IsQuestionFindingBy : Question → Result Parsed Fault → Option Pair → QuestionFinding
     → Type 0
 IsQuestionFindingBy a verdict pair (question_findings.Refused f) = verdict ≡ Err f
 IsQuestionFindingBy a verdict pair (question_findings.Sound o) =
-    (x : Said) × (verdict ≡ Ok x) × IsCollected x a o × (pair ≡ None)
+    (x : Parsed) × (verdict ≡ Ok x) × IsCollected x a o × (pair ≡ None)
 IsQuestionFindingBy a verdict pair (question_findings.Collision owned shown) =
-    (x : Said) × (verdict ≡ Ok x) × (pair ≡ Some (record { owned = owned; shown = shown }))
+    (x : Parsed) × (verdict ≡ Ok x) × (pair ≡ Some (record { owned = owned; shown = shown }))
 
 -- of the map with this tree at this batch, what is asked, and bytes that are offered as a proof
 abbrev pub IsQuestionFinding : Scheme → Tree → (batch : ℕ) → Question → List ℕ → QuestionFinding
@@ -53,7 +53,7 @@ FindsHonestProof s t batch a bytes finding =
     IsSoundProof finding ↔ (bytes ≡ proof_for s a t batch)
 
 -- told or not: by the verdict against the root digest of what a map that stands so says of itself
-abbrev pub QuestionFindingFor : (List ℕ → List ℕ) → Standing → Question → List ℕ → QuestionFinding
+abbrev pub QuestionFindingFor : (List ℕ → List ℕ) → MapModel → Question → List ℕ → QuestionFinding
     → Type 0
 QuestionFindingFor hash s a bytes question_finding = (top : Top) × IsTop hash s top
     × (pair : Option Pair)
@@ -66,7 +66,7 @@ QuestionFindingCollides hash (question_findings.Collision owned shown) =
 QuestionFindingCollides hash _ = ⊤
 
 -- the number of nodes that accepted bytes open; those that are refused open none
-abbrev pub opened_checked : Result Said Fault → ℕ
+abbrev pub opened_checked : Result Parsed Fault → ℕ
 opened_checked (Ok x) = opened_of x.part
 opened_checked (Err f) = 0
 
@@ -75,7 +75,7 @@ opened_checked_by s t batch a bytes = opened_checked (checked s.of (root s t bat
 
 -- told or not, no more nodes are fetched between these counts than accepted bytes open, by the
 -- verdict against the root digest of what a map that stands so says of itself
-abbrev pub FetchesFor : (List ℕ → List ℕ) → Standing → Question → List ℕ → (before after : ℕ)
+abbrev pub FetchesFor : (List ℕ → List ℕ) → MapModel → Question → List ℕ → (before after : ℕ)
     → Type 0
 FetchesFor hash s a bytes before after = (top : Top) × IsTop hash s top
     × (after ≤ before + opened_checked (checked hash (hash (root_at top)) a bytes))
@@ -83,9 +83,9 @@ FetchesFor hash s a bytes before after = (top : Top) × IsTop hash s top
 -- ---- for private functions
 
 -- what is answered where the check of a proof answers this error
-abbrev pub Declines : CheckErr → Result QuestionFinding AuditErr → Type 0
-Declines (errors.Fault f) result = result ≡ Ok (question_findings.Refused f)
-Declines errors.NoMemory result = result ≡ Err audits.NoMemory
+abbrev pub DeclinesCheck : CheckErr → Result QuestionFinding AuditErr → Type 0
+DeclinesCheck (errors.Fault f) result = result ≡ Ok (question_findings.Refused f)
+DeclinesCheck errors.NoMemory result = result ≡ Err audits.NoMemory
 
 -- what is found of accepted bytes that show this, by the pair
 abbrev pub QuestionFindingOf : Collected → Option Pair → QuestionFinding → Type 0

@@ -11,15 +11,15 @@ ghost use Rattle.mr_tree.specs.declared.tree.Tree as trees;
 ghost use Rattle.mr_query.specs.Word.{IsAskable};
 ghost use Rattle.mr_proof.specs.Fields.{version};
 ghost use Rattle.mr_clash.specs.Causes.{AuditCauses, IsHandedOn, of_nodes};
-ghost use Rattle.mr_clash.specs.Finding.{found, opened_accepted, root_at, Collides, FindsFor, FindsHonest, FetchesFew};
+ghost use Rattle.mr_clash.specs.Finding.{found, opened_accepted, root_at, ShowsCollision, FindsFor, FindsHonest, FetchesFew};
 ghost use Rattle.mr_clash.specs.QuestionFindings.{FindsOf};
-ghost use Rattle.mr_clash.specs.Steps.{left, pair_of, ComparesMap, ComparesRoots, FetchesMap, FetchesRoot, PassesRoot, WalksRoot};
+ghost use Rattle.mr_clash.specs.private.Steps.{left, pair_of, ComparesMap, ComparesRoots, FetchesMap, FetchesRoot, PassesRoot, WalksRoot};
 
 use crate::finding::{Clash, clash_of, first_of};
 use crate::items::pass_item;
 use crate::question_finding::{QuestionFinding, audit_question};
 use crate::rest::Rest;
-use crate::root::{Said, read_head, root_string};
+use crate::root::{HeadSays, read_head, root_string};
 use crate::walked::Walked;
 use crate::walking::{digests_are_sized, walk};
 use crate::{AuditErr, Finding};
@@ -43,7 +43,7 @@ pub(crate) fn root_of<H: Hashes>(top: &Top) -> [u8; 32]
 fn compare_roots(
     alloc: Global,
     top: &Top,
-    said: &Said,
+    said: &HeadSays,
     node: &Entry,
 ) -> Result<Option<Clash>, AllocError>
     ensures { (hash : List ℕ → List ℕ) → ComparesRoots hash top.now said.now node.now result }
@@ -93,7 +93,7 @@ fn walk_root<N: Nodes>(
     alloc: Global,
     nodes: &mut N,
     top: &Top,
-    said: &Said,
+    said: &HeadSays,
     from: &mut Rest<'_>,
 ) -> Result<Walked, AuditErr>
     requires { IsTop N.Hash.of (N.stands nodes.old) top.now }
@@ -200,7 +200,7 @@ pub fn audit<N: Nodes>(
     // Told or not, what is found goes by the verdict against the root digest of what `top` says.
     ensures judged { IfOk result (λ v.
         FindsFor N.Hash.of (N.stands nodes.old) q.now proof.now v) }
-    ensures collides { IfOk result (λ v. Collides N.Hash.of v) }
+    ensures collides { IfOk result (λ v. ShowsCollision N.Hash.of v) }
     // No more nodes are fetched than accepted bytes open, and none for bytes that are refused: by
     // the verdict against the root digest of what `top` says, and where the tree is told, of that.
     ensures fetches { FetchesFew N.Hash.of (N.stands nodes.old) q.now proof.now

@@ -5,7 +5,7 @@ ghost use Rattle.mr_tree.specs.Tree.{union_of};
 ghost use Rattle.mr_tree.specs.Digest.{entry_bytes};
 ghost use Rattle.mr_proof.specs.Fields.{version};
 ghost use Rattle.mr_tree.specs.declared.entry.Entry as types;
-ghost use Rattle.mr_clash.specs.Steps.{string_over};
+ghost use Rattle.mr_clash.specs.private.Steps.{string_over};
 
 use mr_geom::{Rect, joined};
 use mr_proof::VERSION;

@@ -2,7 +2,7 @@
 
 ghost use Rattle.std.specs.Prelude.{◌≡◌, IfOk, option_map, Some, bytes_eq};
 ghost use Rattle.mr_proof.specs.Clash.{differ, or_else};
-ghost use Rattle.mr_clash.specs.Steps.{pair_of};
+ghost use Rattle.mr_clash.specs.private.Steps.{pair_of};
 
 use mr_outside::Items;
 use mr_proof::Fault;

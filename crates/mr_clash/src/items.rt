@@ -4,9 +4,9 @@
 ghost use Rattle.std.specs.Prelude.{◌≡◌, ◌≤◌, ◌<◌, ◌++◌, ℕ, List, IfOk, length};
 ghost use Rattle.mr_proof.specs.Cut.{Cut, Pruned, Leaf, Inner, Cuts};
 ghost use Rattle.mr_proof.specs.Spelling.{FitsCut, cut_bytes};
-ghost use Rattle.mr_proof.specs.declared.shown.Shown as shown;
+ghost use Rattle.mr_proof.specs.declared.pruned_entry.PrunedEntry as shown;
 ghost use Rattle.mr_record.specs.declared.record.Record as types;
-ghost use Rattle.mr_clash.specs.Steps.{left, Passes, PassesAll, Passed};
+ghost use Rattle.mr_clash.specs.private.Steps.{left, PassesCut, PassesAll, Passed};
 
 use crate::entry::{digest_of, inner_entry};
 use crate::leaf::leaf_rect;
@@ -16,7 +16,7 @@ use std::alloc::{AllocError, Global};
 
 // The pruned part of this level that stands next.
 pub(crate) fn pass_pruned(level: u8, from: &mut Rest<'_>) -> Entry
-    ensures { (hash : List ℕ → List ℕ) (part : shown.Shown) (rest : List ℕ)
+    ensures { (hash : List ℕ → List ℕ) (part : shown.PrunedEntry) (rest : List ℕ)
         → FitsCut level (Pruned part) → left from.old ≡ cut_bytes (Pruned part) ++ rest
         → Passed hash level (Pruned part) rest result (left from.new) }
 {
@@ -73,7 +73,7 @@ pub(crate) fn pass_items<H: Hashes>(
     from: &mut Rest<'_>,
 ) -> Result<Vec<Entry>, AllocError>
     ensures passed { PassesAll H.of level count (left from.old) (left from.new) result }
-    ensures few { IfOk result (λ v. length v.items ≤ count) }
+    ensures length_at_most { IfOk result (λ v. length v.items ≤ count) }
 {
     let mut list = Vec::new(alloc);
     for _ in 0..count {
@@ -90,7 +90,7 @@ pub(crate) fn pass_item<H: Hashes>(
     level: u8,
     from: &mut Rest<'_>,
 ) -> Result<Entry, AllocError>
-    ensures { Passes H.of level (left from.old) (left from.new) result }
+    ensures { PassesCut H.of level (left from.old) (left from.new) result }
 {
     if is_pruned(from) {
         return Ok(pass_pruned(level, from));

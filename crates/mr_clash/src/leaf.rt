@@ -9,7 +9,7 @@ ghost use Rattle.mr_tree.specs.declared.tree.Tree.TheOpen as node;
 ghost use Rattle.mr_proof.specs.Fields.{version};
 ghost use Rattle.mr_proof.specs.Cut.{Leaf};
 ghost use Rattle.mr_proof.specs.Spelling.{FitsCut, cut_bytes};
-ghost use Rattle.mr_clash.specs.Steps.{left};
+ghost use Rattle.mr_clash.specs.private.Steps.{left};
 
 use crate::rest::{Rest, byte, rect, take};
 use mr_geom::{Rect, joined};

@@ -4,11 +4,11 @@ ghost use Rattle.std.specs.Prelude.{◌≡◌, ◌≤◌, ◌++◌, true, false,
 ghost use Rattle.std.specs.List.{flat_map};
 ghost use Rattle.mr_record.specs.Record.{HasLayer, record_bytes};
 ghost use Rattle.mr_record.specs.declared.version.Version.TheVariants.{Two};
-ghost use Rattle.mr_tree.specs.View.{entry_of};
+ghost use Rattle.mr_tree.specs.View.{child_entry};
 ghost use Rattle.mr_proof.specs.Fields.{version};
 ghost use Rattle.mr_proof.specs.Cut.{Leaf};
 ghost use Rattle.mr_proof.specs.Spelling.{cut_bytes};
-ghost use Rattle.mr_clash.specs.Steps.{left};
+ghost use Rattle.mr_clash.specs.private.Steps.{left};
 ghost use Rattle.mr_tree.specs.Limits.{leaf_limit};
 
 use crate::finding::are_same;
@@ -81,7 +81,7 @@ fn is_rect(rect: &Rect, shown: Option<Rect>) -> bool
 
 // Whether this is what the map holds of the child.
 fn is_own(child: &Child, shown: &Entry) -> bool
-    ensures { result ≡ true → shown.now ≡ entry_of child.now }
+    ensures { result ≡ true → shown.now ≡ child_entry child.now }
 {
     if shown.level != child.level {
         return false;
@@ -100,7 +100,7 @@ fn is_own(child: &Child, shown: &Entry) -> bool
 
 // Whether this is what the map holds of the children.
 pub(crate) fn are_own(children: &[Child], shown: &[Entry]) -> bool
-    ensures { result ≡ true → shown.now ≡ map entry_of children.now }
+    ensures { result ≡ true → shown.now ≡ map child_entry children.now }
 {
     let mut rest = shown;
     for child in children {

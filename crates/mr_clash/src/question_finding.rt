@@ -7,8 +7,8 @@ ghost use Rattle.mr_tree.specs.WellFormed.{HasLayers};
 ghost use Rattle.mr_tree.specs.Nodes.{TellsRefusal};
 ghost use Rattle.mr_proof.specs.Tight.{IsLawful};
 ghost use Rattle.mr_clash.specs.Causes.{AuditCauses, IsHandedOn, of_nodes};
-ghost use Rattle.mr_clash.specs.QuestionFindings.{IsQuestionFinding, QuestionFindingFor, QuestionFindingCollides, QuestionFindingOf, opened_checked_by, FetchesFor, FindsHonestProof, Declines};
-ghost use Rattle.mr_clash.specs.Steps.{pair_of};
+ghost use Rattle.mr_clash.specs.QuestionFindings.{IsQuestionFinding, QuestionFindingFor, QuestionFindingCollides, QuestionFindingOf, opened_checked_by, FetchesFor, FindsHonestProof, DeclinesCheck};
+ghost use Rattle.mr_clash.specs.private.Steps.{pair_of};
 
 use crate::AuditErr;
 use crate::auditing::{are_words, compare_map, root_of};
@@ -33,7 +33,7 @@ pub enum QuestionFinding {
 
 // What is found of bytes that are not accepted.
 fn declined(error: CheckErr) -> Result<QuestionFinding, AuditErr>
-    ensures { Declines error result }
+    ensures { DeclinesCheck error result }
 {
     match error {
         CheckErr::Fault(fault) => Ok(QuestionFinding::Refused(fault)),

@@ -6,7 +6,7 @@ ghost use Rattle.mr_geom.specs.Rectangle.{Rectangle, IsOrdered, FitsMap};
 ghost use Rattle.mr_record.specs.Record.{rectangle_bytes};
 ghost use Rattle.mr_proof.specs.Cut.{Cut};
 ghost use Rattle.mr_proof.specs.Spelling.{cut_bytes};
-ghost use Rattle.mr_clash.specs.Steps.{left, is_pruned as pruned};
+ghost use Rattle.mr_clash.specs.private.Steps.{left, is_pruned as pruned};
 
 use mr_geom::Rect;
 use mr_record::{rect_of_bytes, u64_of_bytes};

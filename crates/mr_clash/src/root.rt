@@ -3,9 +3,9 @@
 ghost use Rattle.std.specs.Prelude.{◌≡◌, ◌++◌, ℕ, List, Option, IfOk};
 ghost use Rattle.std.specs.Int.{w64, to_be_bytes};
 ghost use Rattle.mr_tree.specs.Digest.{root_preimage};
-ghost use Rattle.mr_proof.specs.Spelling.{head_bytes, radius_bytes, level_bytes, FitsHead};
+ghost use Rattle.mr_proof.specs.Spelling.{head_bytes, radius_bytes, level_bytes, FitsProofHead};
 ghost use Rattle.mr_proof.specs.declared.head.Head as heads;
-ghost use Rattle.mr_clash.specs.Steps.{left, SaysOf};
+ghost use Rattle.mr_clash.specs.private.Steps.{left, SaysOf};
 
 use crate::rest::{Rest, byte, number, take};
 use mr_proof::{Kind, VERSION};
@@ -15,7 +15,7 @@ use std::alloc::{AllocError, Global};
 
 // What the head of a proof says of its map.
 #[derive(Clone, Copy)]
-pub(crate) struct Said {
+pub(crate) struct HeadSays {
     pub(crate) version: Version,
     pub(crate) batch: u64,
     pub(crate) count: u64,
@@ -49,8 +49,8 @@ fn read_level(count: u64, from: &mut Rest<'_>) -> u8
 }
 
 // The head of a proof of this kind that stands next.
-pub(crate) fn read_head(kind: Kind, from: &mut Rest<'_>) -> Said
-    ensures { (h : heads.Head) (rest : List ℕ) → h.kind ≡ kind → FitsHead h
+pub(crate) fn read_head(kind: Kind, from: &mut Rest<'_>) -> HeadSays
+    ensures { (h : heads.Head) (rest : List ℕ) → h.kind ≡ kind → FitsProofHead h
         → left from.old ≡ head_bytes h ++ rest → SaysOf h rest result (left from.new) }
 {
     // four bytes of magic, and those of the version, so far the only one, and of the kind
@@ -59,7 +59,7 @@ pub(crate) fn read_head(kind: Kind, from: &mut Rest<'_>) -> Said
     let count = number(from);
     pass_radius(kind, from);
     let level = read_level(count, from);
-    Said {
+    HeadSays {
         version: VERSION,
         batch,
         count,

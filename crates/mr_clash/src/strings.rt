@@ -5,9 +5,9 @@ ghost use Rattle.std.specs.List.{flat_map};
 ghost use Rattle.mr_record.specs.Record.{HasLayer, record_bytes};
 ghost use Rattle.mr_record.specs.declared.version.Version.TheVariants.{Two};
 ghost use Rattle.mr_tree.specs.Digest.{leaf_tag, entry_bytes};
-ghost use Rattle.mr_tree.specs.View.{entry_of, preimage_of};
+ghost use Rattle.mr_tree.specs.View.{child_entry, preimage_of};
 ghost use Rattle.mr_proof.specs.Fields.{version};
-ghost use Rattle.mr_clash.specs.Steps.{string_over};
+ghost use Rattle.mr_clash.specs.private.Steps.{string_over};
 ghost use Rattle.mr_tree.specs.Limits.{leaf_limit};
 
 use mr_proof::VERSION;
@@ -17,7 +17,7 @@ use std::alloc::{AllocError, Global};
 
 // What a node holds of its children.
 fn entries_of(alloc: Global, children: &[Child]) -> Result<Vec<Entry>, AllocError>
-    ensures { IfOk result (λ v. v.items ≡ map entry_of children.now) }
+    ensures { IfOk result (λ v. v.items ≡ map child_entry children.now) }
 {
     children.iter().map(|child| child.entry()).collect(alloc)
 }

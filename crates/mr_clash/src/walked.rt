@@ -8,7 +8,7 @@ ghost use Rattle.mr_proof.specs.Fields.{version};
 ghost use Rattle.mr_proof.specs.Clash.{differ};
 ghost use Rattle.mr_proof.specs.Cut.{Leaf};
 ghost use Rattle.mr_proof.specs.Spelling.{FitsCut, cut_bytes};
-ghost use Rattle.mr_clash.specs.Steps.{left, pair_of, Closed, WalkedLeaf};
+ghost use Rattle.mr_clash.specs.private.Steps.{left, pair_of, Closed, WalkedLeaf};
 
 use crate::entry::{bounds, digest_of};
 use crate::finding::{Clash, clash_of, first_of};

@@ -1,11 +1,11 @@
 //! The nodes of a map of the version of proofs and the items of a proof, side by side.
 
 ghost use Rattle.std.specs.Prelude.{◌≡◌, ◌+◌, ◌^◌, ◌<◌, ◌≤◌, ℕ, List, length, All, OnOk, IfOk, IfErr};
-ghost use Rattle.mr_tree.specs.Nodes.{MayFetch, Shows, TellsRefusal};
+ghost use Rattle.mr_tree.specs.Nodes.{MayFetch, ShowsNode, TellsRefusal};
 ghost use Rattle.mr_tree.specs.declared.child.Child as types;
 ghost use Rattle.mr_proof.specs.Fields.{version};
 ghost use Rattle.mr_clash.specs.Causes.{AuditCauses, IsHandedOn, of_nodes};
-ghost use Rattle.mr_clash.specs.Steps.{left, FetchesChildren, FetchesItem, FetchesItems, Walks, WalksAll, WalksChildren};
+ghost use Rattle.mr_clash.specs.private.Steps.{left, FetchesChildren, FetchesItem, FetchesItems, WalksCut, WalksAll, WalksChildren};
 ghost use Rattle.mr_tree.specs.Limits.{inner_limit};
 
 use crate::AuditErr;
@@ -29,7 +29,7 @@ fn fetch<N: Nodes>(nodes: &mut N, child: &Child, view: &mut NodeView) -> Result<
         result }
     ensures refused { IfErr result (IsHandedOn (N.refusal nodes.new)) }
     ensures answered { TellsRefusal of_nodes (N.refusal nodes.old) (N.refusal nodes.new) result }
-    ensures shows { OnOk result (Shows N.Hash.of (N.stands nodes.old) child.now view.new) }
+    ensures shows { OnOk result (ShowsNode N.Hash.of (N.stands nodes.old) child.now view.new) }
     ensures counted { N.fetches nodes.new ≤ N.fetches nodes.old + 1 }
 {
     nodes.fetch(child, view)?;
@@ -61,7 +61,7 @@ fn walk_children<N: Nodes>(
         (left from.old) (left from.new) result }
     ensures fetched { FetchesChildren level (left from.old) (N.fetches nodes.old)
         (N.fetches nodes.new) }
-    ensures few { IfOk result (λ row. length row.entries.items < 2 ^ 8) }
+    ensures length_at_most { IfOk result (λ row. length row.entries.items < 2 ^ 8) }
 {
     let _tag = byte(from);
     let count = byte(from);
@@ -97,7 +97,7 @@ fn walk_all<N: Nodes>(
         (left from.old) (left from.new) result }
     ensures fetched { FetchesItems level (length children.now) (left from.old)
         (N.fetches nodes.old) (N.fetches nodes.new) }
-    ensures few { IfOk result (λ row. length row.entries.items ≡ length children.now) }
+    ensures length_at_most { IfOk result (λ row. length row.entries.items ≡ length children.now) }
 {
     let mut view = NodeView::new();
     let mut entries = Vec::new(alloc);
@@ -130,7 +130,7 @@ pub(crate) fn walk<N: Nodes>(
         result }
     ensures refused { IfErr result (IsHandedOn (N.refusal nodes.new)) }
     ensures answered { TellsRefusal of_nodes (N.refusal nodes.old) (N.refusal nodes.new) result }
-    ensures walked { Walks N.Hash.of (N.stands nodes.old) child.now (left from.old)
+    ensures walked { WalksCut N.Hash.of (N.stands nodes.old) child.now (left from.old)
         (left from.new) result }
     ensures fetched { FetchesItem child.now.level (left from.old) (N.fetches nodes.old)
         (N.fetches nodes.new) }

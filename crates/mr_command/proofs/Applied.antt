@@ -7,15 +7,15 @@ use Rattle.std.proofs.lemmas.Bool.{cases_Bool, ltb-false}
 use Rattle.mr_outside.specs.Files.{Files, file}
 use Rattle.mr_outside.specs.State.{Shelved}
 use Rattle.mr_outside.specs.declared.shelf.Shelf as shelves
-use Rattle.mr_record.specs.Bytes.{AreBytes}
+use Rattle.mr_record.specs.private.Bytes.{AreBytes}
 use Rattle.mr_record.specs.declared.record.Record.{Record}
-use Rattle.mr_record.specs.Answer.{Refuses}
+use Rattle.mr_record.specs.Answer.{RefusesText}
 use Rattle.mr_record.specs.declared.text_fault.TextErr.{TextErr}
 use Rattle.mr_record.specs.declared.text_fault.TextErr.TheVariants as texts
 use Rattle.mr_record.specs.declared.text_fault.TextFault.{TextFault}
 use Rattle.mr_record.specs.declared.version.Version.{Version}
 use Rattle.mr_record.specs.declared.version.Version.TheVariants.{One, Two}
-use Rattle.mr_tree.specs.Nodes.{Standing, HasSomeCause, subtrees}
+use Rattle.mr_tree.specs.Nodes.{MapModel, HasSomeCause, subtrees}
 use Rattle.mr_tree.specs.Tree.{records}
 use Rattle.mr_tree.specs.WellFormed.{WellFormed}
 use Rattle.mr_tree.specs.declared.hash.Hashes as hashes
@@ -28,7 +28,7 @@ use Rattle.mr_pages.specs.PageBytes.{form_by, form_of}
 use Rattle.mr_pages.specs.declared.error.MapErr.{MapErr}
 use Rattle.mr_pages.specs.declared.head.MapHead.{MapHead}
 use Rattle.mr_pages.specs.declared.opening.Opened.{Opened}
-use Rattle.mr_store.specs.Laws.{keeps_stands}
+use Rattle.mr_store.specs.private.Laws.{keeps_stands}
 use Rattle.mr_store.specs.CachedFile.{name_of, page_form, OfBytes}
 use Rattle.mr_store.specs.Kept.{room}
 use Rattle.mr_store.specs.Opening.{OpensMap, RefusesMap, page_total}
@@ -40,13 +40,13 @@ use Rattle.mr_batch.specs.Admissible.{batch_fault}
 use Rattle.mr_batch.specs.Applied.{IsAdmissible}
 use Rattle.mr_batch.specs.BatchText.{batch_of_text}
 use Rattle.mr_batch.specs.Changes.{Changes}
-use Rattle.mr_batch.specs.Directory.{Entries, IsDirectoryOf, HaveNumbers}
+use Rattle.mr_batch.specs.Directory.{DirectoryEntries, IsDirectoryOf, HaveNumbers}
 use Rattle.mr_batch.specs.declared.admission.BatchFault.{BatchFault}
 use Rattle.mr_batch.proofs.Replaying.{numbers_of}
 use Rattle.mr_plan.specs.First.{pages_by}
-use Rattle.mr_command.specs.Applying.{MayApply, ComesBehind, IsFewOfCopy, IsFewOfChanges, IsFewOfText, IsFewOfFile}
-use Rattle.mr_command.specs.Counting.{nodes_listed, pieces_of, AllowsApply, IsFewApplied, IsFewOfBatch, ReadsFew}
-use Rattle.mr_command.specs.Ending.{map_at, Comes, ComesAsSaid, ComesBut, with_reads, AreJudged, Blames, Came, Ends, GivesOrStops, GivesUp, GoesOn, NoneFalls, Reads, SaysRefusal, printed_of}
+use Rattle.mr_command.specs.private.Applying.{MayApply, ComesBehind, IsFewOfCopy, IsFewOfChanges, IsFewOfText, IsFewOfFile}
+use Rattle.mr_command.specs.Counting.{nodes_listed, pieces_of, AllowsApply, IsFewApplied, IsFewOfBatch, ReadsWithinPlan}
+use Rattle.mr_command.specs.Ending.{map_at, RunsPlan, ComesAsSaid, ComesBut, with_reads, AreJudged, BlamesOutside, Came, EndsPlan, IsEndingOrHalt, GivesUpPlan, GoesOn, NoneFalls, ReadsInput, SaysRefusal, printed_of}
 use Rattle.mr_command.specs.Inputs.{ReadsValue, SaysText}
 use Rattle.mr_plan.specs.Found.{as_map_error}
 use Rattle.mr_plan.specs.Lines.{bad_batch_line, bad_text_line}
@@ -80,7 +80,7 @@ module _ {S H : Type 0} {G : shelves.Ghosts S} {K : hashes.Ghosts H} (hash : Lis
   abbrev mid : Shelved
   mid = shelved p'
 
-  abbrev standing : Standing
+  abbrev standing : MapModel
   standing = stands_for p
 
   -- the map is that of its head
@@ -136,7 +136,7 @@ module _ {S H : Type 0} {G : shelves.Ghosts S} {K : hashes.Ghosts H} (hash : Lis
     few_read = few_listed;
   }
 
-  module _ (well : (t : Tree) → standing.tree ≡ Some t → WellFormed t) (dir : Entries)
+  module _ (well : (t : Tree) → standing.tree ≡ Some t → WellFormed t) (dir : DirectoryEntries)
       (lists : IfSome standing.tree (λ t. IsDirectoryOf dir (records t))) (quiet : mid.faults ≡ before.faults)
       (held : ℕ)
       (held_is : held ≡ standing.batch) where
@@ -149,7 +149,7 @@ module _ {S H : Type 0} {G : shelves.Ghosts S} {K : hashes.Ghosts H} (hash : Lis
     pub unadmitted : (text : List ℕ) (fault : BatchFault) (result : Result Ending Halt) → AreBytes text
         → batch_of_text standing.version text ≡ Ok b → ((rs : List Record) × HaveNumbers dir rs)
         → ((rs : List Record) → HaveNumbers dir rs → batch_fault rs held b ≡ Some fault)
-        → GivesOrStops (ends BadBatch (bad_batch_line fault)) result
+        → IsEndingOrHalt (ends BadBatch (bad_batch_line fault)) result
         → ComesBehind applies_batch standing (λ m. comes (said_of_batch m)) (few_of_batch mid) before mid result
     unadmitted text fault result are is some exact gives =
         behind_given applies_batch standing said_of_batch (few_of_batch mid) before mid counts_listed few_listed
@@ -174,7 +174,7 @@ module _ {S H : Type 0} {G : shelves.Ghosts S} {K : hashes.Ghosts H} (hash : Lis
     pub may_apply : ((rs : List Record) → HaveNumbers dir rs → IsAdmissible rs held b)
         → IfSome (stands_for p').tree (MayApply dir p'.head.batch b)
     may_apply fine =
-        subst (λ (st : Standing). IfSome st.tree (MayApply dir p'.head.batch b))
+        subst (λ (st : MapModel). IfSome st.tree (MayApply dir p'.head.batch b))
         (sym (keeps_stands p p' kept))
         (by_some standing.tree (MayApply dir p'.head.batch b) (λ t told. record {
           directory = at_some standing.tree t (λ t. IsDirectoryOf dir (records t)) told lists;
@@ -202,7 +202,7 @@ module _ {S H : Type 0} {G : shelves.Ghosts S} {K : hashes.Ghosts H} (hash : Lis
           same.told in
           subst (λ o. ComesBut (comes o) before after result)
           (sym (says_applied hash new p.head.pages (map_at standing t) b (admissible fine t told)))
-          (subst (λ w. Comes (comes (say_changed standing.version hash new p.head.pages t b)) w after result)
+          (subst (λ w. RunsPlan (comes (say_changed standing.version hash new p.head.pages t b)) w after result)
           (with_same after.reads before mid kept.files quiet) own));
       untold = λ none.
           untold_from applies_batch before mid after result kept.files quiet (on.untold (kept.files ∙ none));
@@ -220,7 +220,7 @@ module _ {S H : Type 0} {G : shelves.Ghosts S} {K : hashes.Ghosts H} (hash : Lis
         same : ComesBehind applies_batch standing (λ m. comes (say_changed m.version hash new p.head.pages m.tree b))
             (IsFewOfCopy p.head.pages b mid.reads after.reads) mid after result
         same =
-            subst (λ (st : Standing). ComesBehind applies_batch st
+            subst (λ (st : MapModel). ComesBehind applies_batch st
             (λ m. comes (say_changed m.version hash new p.head.pages m.tree b))
             (IsFewOfCopy p.head.pages b mid.reads after.reads) mid after result)
             (keeps_stands p p' kept)
@@ -230,7 +230,7 @@ module _ {S H : Type 0} {G : shelves.Ghosts S} {K : hashes.Ghosts H} (hash : Lis
 
 -- ---- the text of a batch
 
-module _ (hash : List ℕ → List ℕ) (map new batch : List ℕ) (s : Standing) (pages held : ℕ) (text : List ℕ)
+module _ (hash : List ℕ → List ℕ) (map new batch : List ℕ) (s : MapModel) (pages held : ℕ) (text : List ℕ)
     (before : Shelved) where
   abbrev applies_text : Outcome → Type 0
   applies_text = MaySayApply hash map batch new
@@ -264,7 +264,7 @@ module _ (hash : List ℕ → List ℕ) (map new batch : List ℕ) (s : Standing
   few_none = by_some s.tree (few_of_text before) (λ t told. (0, omega arith, inl refl))
 
   batch_bad : (fault : TextFault) (result : Result Ending Halt) → AreBytes text
-      → batch_of_text s.version text ≡ Err fault → GivesOrStops (ends BadText (bad_text_line fault)) result
+      → batch_of_text s.version text ≡ Err fault → IsEndingOrHalt (ends BadText (bad_text_line fault)) result
       → ComesBehind applies_text s (λ m. comes (said_of_text m)) (few_of_text before) before before result
   batch_bad fault result are is gives =
       behind_given applies_text s said_of_text (few_of_text before) before before counts_none few_none
@@ -280,7 +280,7 @@ module _ (hash : List ℕ → List ℕ) (map new batch : List ℕ) (s : Standing
       (λ t told. stays (said_of_text (map_at s t)).written before.files before.files refl) (λ none. refl)
 
   batch_refused : (error : TextErr) (result : Result Ending Halt) → AreBytes text
-      → Refuses error (batch_of_text s.version text) → SaysText error result
+      → RefusesText error (batch_of_text s.version text) → SaysText error result
       → ComesBehind applies_text s (λ m. comes (said_of_text m)) (few_of_text before) before before result
   batch_refused (texts.Text fault) result are is says = batch_bad fault result are is says
   batch_refused texts.NoMemory result are is says =
@@ -297,7 +297,7 @@ module _ {S H : Type 0} {G : shelves.Ghosts S} {K : hashes.Ghosts H} (hash : Lis
   abbrev behind_text : Shelved
   behind_text = shelved p'
 
-  abbrev standing_of_file : Standing
+  abbrev standing_of_file : MapModel
   standing_of_file = stands_for p
 
   stands_same : stands_for p' ≡ stands_for p
@@ -306,7 +306,7 @@ module _ {S H : Type 0} {G : shelves.Ghosts S} {K : hashes.Ghosts H} (hash : Lis
 
   -- what goes by the version of the map goes by it afterwards
   pub version_same : (P : Version → Type 0) → P standing_of_file.version → P (stands_for p').version
-  version_same P has = subst (λ (st : Standing). P st.version) (sym stands_same) has
+  version_same P has = subst (λ (st : MapModel). P st.version) (sym stands_same) has
 
   abbrev applies_file : Outcome → Type 0
   applies_file = MaySayApply hash map batch new
@@ -336,7 +336,7 @@ module _ {S H : Type 0} {G : shelves.Ghosts S} {K : hashes.Ghosts H} (hash : Lis
 
   -- its text was read
   file_read : (text : Vec ℕ) (after : Shelved) (result : Result Ending Halt)
-      → Reads batch before_text behind_text (Ok text)
+      → ReadsInput batch before_text behind_text (Ok text)
       → ComesBehind applies_file (stands_for p') (says_text text.items p'.head.pages)
       (few_behind (stands_for p').version p'.head text.items after) behind_text after result
       → behind_file after result
@@ -363,7 +363,7 @@ module _ {S H : Type 0} {G : shelves.Ghosts S} {K : hashes.Ghosts H} (hash : Lis
       own : ComesBehind applies_file standing_of_file (says_text text.items p.head.pages)
           (few_behind standing_of_file.version p.head text.items after) behind_text after result
       own =
-          subst (λ (st : Standing). ComesBehind applies_file st (says_text text.items p.head.pages)
+          subst (λ (st : MapModel). ComesBehind applies_file st (says_text text.items p.head.pages)
           (few_behind st.version p.head text.items after) behind_text after result) stands_same
           (subst (λ (x : MapHead). ComesBehind applies_file (stands_for p') (says_text text.items x.pages)
           (few_behind (stands_for p').version x text.items after) behind_text after result) same.head on)
@@ -379,7 +379,7 @@ module _ {S H : Type 0} {G : shelves.Ghosts S} {K : hashes.Ghosts H} (hash : Lis
       )
 
   -- nothing is read behind it
-  few_alone : (result : Result (Vec ℕ) (Result Ending Halt)) → Reads batch before_text behind_text result
+  few_alone : (result : Result (Vec ℕ) (Result Ending Halt)) → ReadsInput batch before_text behind_text result
       → IfSome standing_of_file.tree (few_of_file behind_text)
   few_alone result got =
       by_some standing_of_file.tree (few_of_file behind_text) (λ t told. by_files t before_text.files got.once)
@@ -394,14 +394,16 @@ module _ {S H : Type 0} {G : shelves.Ghosts S} {K : hashes.Ghosts H} (hash : Lis
           none_more (Some text) = inl refl
 
   -- it was not read
-  file_unread : (came : Result Ending Halt) → Reads batch before_text behind_text (Err came)
+  file_unread : (came : Result Ending Halt) → ReadsInput batch before_text behind_text (Err came)
       → behind_file behind_text came
   file_unread came got = record {
     counts = got.counts;
     told = by_some standing_of_file.tree
-        (λ t. ComesBut (say_change hash batch new p.head.pages (map_at standing_of_file t)) before_text behind_text came)
+        (λ t. ComesBut (say_change hash batch new p.head.pages (map_at standing_of_file t)) before_text behind_text
+        came)
         (λ t told. goes_needed batch (λ b. comes (said_of_file t b)) (with_reads behind_text.reads before_text)
-        behind_text (says_bytes (said_of_file t) before_text.files) (Err came) (reads_but batch before_text behind_text came got));
+        behind_text (says_bytes (said_of_file t) before_text.files) (Err came) (reads_but batch before_text behind_text
+        came got));
     untold = λ none. says_unread applies_file batch before_text behind_text came (inr (inl refl)) none got;
     few_read = few_alone (Err came) got;
   }
@@ -427,7 +429,7 @@ module _ {S H : Type 0} {G : shelves.Ghosts S} {K : hashes.Ghosts H} (hash : Lis
       file_read none.text behind_text came none.read
       (batch_refused hash map new batch (stands_for p') p'.head.pages p'.head.batch none.text.items behind_text
       none.error came none.read.read.1
-      (version_same (λ v. Refuses none.error (batch_of_text v none.text.items)) none.refuses) none.says)
+      (version_same (λ v. RefusesText none.error (batch_of_text v none.text.items)) none.refuses) none.says)
 
 -- ---- a plan that goes by the size of the map's file
 
@@ -447,18 +449,19 @@ module _ (name : List ℕ) (one other : List ℕ → Plan) (before after : Shelv
     came.0,
     came.1,
     came.2,
-    subst (λ p. Ends p before.files after.files ending.status (printed_of ending)) (at_told came.0 came.1) came.3,
+    subst (λ p. EndsPlan p before.files after.files ending.status (printed_of ending)) (at_told came.0 came.1) came.3,
   )
   like_came n (Err halt) came = (
     came.0,
     elim came.1 [
       | inl same ↦ inl same
-      | inr up ↦ inr (up.0, up.1, subst (λ p. GivesUp p before.files after.files) (at_told up.0 up.1) up.2)
+      | inr up ↦ inr (up.0, up.1, subst (λ p. GivesUpPlan p before.files after.files) (at_told up.0 up.1) up.2)
     ],
   )
 
-  like_blames : (n : ℕ) (result : Result Ending Halt) → Blames (needs name one) (with_reads n before) after result
-      → Blames (needs name other) (with_reads n before) after result
+  like_blames : (n : ℕ) (result : Result Ending Halt) → BlamesOutside (needs name one) (with_reads n before) after
+      result
+      → BlamesOutside (needs name other) (with_reads n before) after result
   like_blames n (Ok ending) blames = λ outside. elim (blames outside) [
     | inl rose ↦ inl rose
     | inr (inl absent) ↦ inr (inl absent)
@@ -532,7 +535,7 @@ module _ (hash : List ℕ → List ℕ) (sized : (xs : List ℕ) → length (has
 
   -- the map was not opened
   few_unopened : (after : Shelved) (e : MapErr) → RefusesMap hash old before after e
-      → ReadsFew allows before after
+      → ReadsWithinPlan allows before after
   few_unopened after e r =
       few_refused before.files old before.reads after.reads
       (λ files bytes n. IsFewApplied hash bytes (file files batch) n) (λ files bytes. inl (omega arith)) r.reads
@@ -559,7 +562,7 @@ module _ (hash : List ℕ → List ℕ) (sized : (xs : List ℕ) → length (has
     abbrev opened : Shelved
     opened = shelved p
 
-    abbrev standing_opened : Standing
+    abbrev standing_opened : MapModel
     standing_opened = stands_for p
 
     module _ (result : Result Ending Halt)
@@ -596,7 +599,7 @@ module _ (hash : List ℕ → List ℕ) (sized : (xs : List ℕ) → length (has
       )
 
       few_applied : (files : Files) → before.files ≡ Some files → HasMap hash sized old before standing_opened opened
-          → ReadsFew allows before end
+          → ReadsWithinPlan allows before end
       few_applied files told has =
           let pages_are = at_input before.files files old has.bytes ⊥ (λ bytes. p.head.pages ≡ page_total bytes) told
           has.input o.pages in

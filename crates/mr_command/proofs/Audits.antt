@@ -8,10 +8,10 @@ use Rattle.mr_outside.specs.Faults.{Rose}
 use Rattle.mr_outside.specs.State.{Shelved}
 use Rattle.mr_outside.specs.Told.{OfFile, OfFiles}
 use Rattle.mr_outside.specs.declared.shelf.Shelf as shelves
-use Rattle.mr_record.specs.Bytes.{AreBytes}
+use Rattle.mr_record.specs.private.Bytes.{AreBytes}
 use Rattle.mr_record.specs.declared.version.Version.TheVariants.{One}
 use Rattle.mr_tree.specs.Digest.{by}
-use Rattle.mr_tree.specs.Nodes.{Standing, HasSomeCause}
+use Rattle.mr_tree.specs.Nodes.{MapModel, HasSomeCause}
 use Rattle.mr_tree.specs.declared.hash.Hashes as hashes
 use Rattle.mr_tree.specs.declared.nodes.NodesErr.{NodesErr}
 use Rattle.mr_tree.specs.declared.tree.Tree.{Tree}
@@ -19,17 +19,17 @@ use Rattle.mr_pages.specs.Opening.{pages_in}
 use Rattle.mr_pages.specs.PageBytes.{form_of}
 use Rattle.mr_pages.specs.declared.opening.Opened.{Opened}
 use Rattle.mr_query.specs.declared.query.Query.{Query}
-use Rattle.mr_clash.specs.Finding.{found, opened_accepted, Collides, FindsFor}
+use Rattle.mr_clash.specs.Finding.{found, opened_accepted, ShowsCollision, FindsFor}
 use Rattle.mr_clash.specs.declared.finding.Finding.{Finding}
 use Rattle.mr_store.specs.Kept.{room}
 use Rattle.mr_store.specs.Opening.{OpensMap}
 use Rattle.mr_store.specs.Paged.{IsSameMap, shelved, stands_for}
 use Rattle.mr_store.specs.Stored.{read_map, told_bytes}
 use Rattle.mr_store.specs.declared.paged.Paged.{Paged}
-use Rattle.mr_command.specs.Counting.{opened_beside, AllowsAudit, IsFewBeside, ReadsFew}
-use Rattle.mr_command.specs.Ending.{Comes, ComesAsSaid, ComesBut, with_reads, map_at, GivesOrStops, IsBeside, IsUnread, NoneFalls, Reads, ReadsBeside, ReadsOpened, SaysRefusal, SaysUntold, Stops}
+use Rattle.mr_command.specs.Counting.{opened_beside, AllowsAudit, IsFewBeside, ReadsWithinPlan}
+use Rattle.mr_command.specs.Ending.{RunsPlan, ComesAsSaid, ComesBut, with_reads, map_at, IsEndingOrHalt, IsBeside, IsUnread, NoneFalls, ReadsInput, ReadsBeside, ReadsOpened, SaysRefusal, SaysUntold, StopsCommand}
 use Rattle.mr_plan.specs.Found.{as_map_error}
-use Rattle.mr_plan.specs.Outcome.{Outcome, Nothing, IsLeft, MayLeave}
+use Rattle.mr_plan.specs.Outcome.{Outcome, Nothing, LeavesWritten, MayLeave}
 use Rattle.mr_plan.specs.First.{first}
 use Rattle.mr_plan.specs.Plan.{Plan, comes, IsAbsent, IsInput}
 use Rattle.mr_plan.specs.Say.{needs, needs_map, say_audit_of, say_finding, says_missing}
@@ -53,16 +53,16 @@ same_stands p p' same =
 
 -- ---- behind the bytes of a proof
 
-module _ (hash : List ℕ → List ℕ) (map : List ℕ) (q : Query) (proof bytes : List ℕ) (old new : Shelved) (s : Standing)
+module _ (hash : List ℕ → List ℕ) (map : List ℕ) (q : Query) (proof bytes : List ℕ) (old new : Shelved) (s : MapModel)
     (first_is : s.version ≡ One) (files : new.files ≡ old.files) (faults : old.faults ≤ new.faults) where
   -- all but what was read
   at_end : (said : Outcome) (result : Result Ending Halt) → said.written ≡ Nothing → new.faults ≡ old.faults
-      → GivesOrStops said result → ComesBut (comes said) old new result
+      → IsEndingOrHalt said result → ComesBut (comes said) old new result
   at_end said result writes quiet gives =
-      subst (λ w. Comes (comes said) w new result) (with_same new.reads old new files quiet)
+      subst (λ w. RunsPlan (comes said) w new result) (with_same new.reads old new files quiet)
       (comes_but said new new result (comes_given said new result writes gives))
 
-  halted : (said : Outcome) (halt : Halt) → said.written ≡ Nothing → Stops old new halt
+  halted : (said : Outcome) (halt : Halt) → said.written ≡ Nothing → StopsCommand old new halt
       → ComesBut (comes said) old new (Err halt)
   halted said halt writes stops = record {
     counts = record { faults = faults; reads = omega arith };
@@ -78,7 +78,7 @@ module _ (hash : List ℕ → List ℕ) (map : List ℕ) (q : Query) (proof byte
 
   pub found_told : (f : Finding) (result : Result Ending Halt)
       → IfSome s.tree (λ t. f ≡ found (by s.version hash) t s.batch q bytes) → new.faults ≡ old.faults
-      → GivesOrStops (say_finding f) result
+      → IsEndingOrHalt (say_finding f) result
       → IfSome s.tree (λ t. ComesBut (comes (say_audit_of hash q (map_at s t) bytes)) old new result)
   found_told f result is quiet gives = by_tree s.tree is
     where
@@ -92,8 +92,8 @@ module _ (hash : List ℕ → List ℕ) (map : List ℕ) (q : Query) (proof byte
           (at_end (say_finding f) result (finding_writes f) quiet gives)
 
   pub found_untold : (f : Finding) (result : Result Ending Halt) → AreBytes bytes → FindsFor hash s q bytes f
-      → Collides hash f → new.faults ≡ old.faults
-      → GivesOrStops (say_finding f) result → SaysUntold (MaySayAudit hash map q proof) old new result
+      → ShowsCollision hash f → new.faults ≡ old.faults
+      → IsEndingOrHalt (say_finding f) result → SaysUntold (MaySayAudit hash map q proof) old new result
   found_untold f result are judged collides quiet gives =
       says_given (MaySayAudit hash map q proof) (say_finding f) old new
       (inr (inr (inr (
@@ -126,7 +126,7 @@ module _ (hash : List ℕ → List ℕ) (map : List ℕ) (q : Query) (proof byte
 -- ---- behind the file of a proof
 
 pub reads_both : (n : ℕ) (name : List ℕ) (before after : Shelved) (bytes : Vec ℕ)
-    → Reads name before after (Ok bytes) → Reads name (with_reads n before) (with_reads n after) (Ok bytes)
+    → ReadsInput name before after (Ok bytes) → ReadsInput name (with_reads n before) (with_reads n after) (Ok bytes)
 reads_both n name before after bytes got = record {
   counts = record { faults = got.counts.faults; reads = omega arith };
   files = got.files;
@@ -135,7 +135,7 @@ reads_both n name before after bytes got = record {
 }
 
 pub reads_but : (name : List ℕ) (before after : Shelved) (came : Result Ending Halt)
-    → Reads name before after (Err came) → Reads name (with_reads after.reads before) after (Err came)
+    → ReadsInput name before after (Err came) → ReadsInput name (with_reads after.reads before) after (Err came)
 reads_but name before after came got = record {
   counts = record { faults = got.counts.faults; reads = omega arith };
   files = got.files;
@@ -150,7 +150,7 @@ reads_but name before after came got = record {
 
 -- what may be said of a file that is not told and was not read
 pub says_unread : (may_say : Outcome → Type 0) (name : List ℕ) (before after : Shelved) (came : Result Ending Halt)
-    → may_say (says_missing name) → before.files ≡ None → Reads name before after (Err came)
+    → may_say (says_missing name) → before.files ≡ None → ReadsInput name before after (Err came)
     → SaysUntold may_say before after came
 says_unread may_say name before after (Ok ending) may none got = (
   says_missing name,
@@ -167,8 +167,8 @@ says_unread may_say name before after (Ok ending) may none got = (
 says_unread may_say name before after (Err halt) may none got = (got.read, got.files)
 
 -- from before a step that counted no fault
-stops_before : (old mid new : Shelved) (halt : Halt) → mid.faults ≡ old.faults → Stops mid new halt
-    → Stops old new halt
+stops_before : (old mid new : Shelved) (halt : Halt) → mid.faults ≡ old.faults → StopsCommand mid new halt
+    → StopsCommand old new halt
 stops_before old mid new halts.Words faults stops = stops
 stops_before old mid new halts.Shelf faults stops = subst (λ n. Rose n new.faults) faults stops
 stops_before old mid new halts.NoMemory faults stops = stops
@@ -181,7 +181,7 @@ untold_from may_say old mid new (Ok ending) files faults says = (
   says.1,
   says.2,
   says.3,
-  subst (λ o. IsLeft says.0.written o new.files) files says.4,
+  subst (λ o. LeavesWritten says.0.written o new.files) files says.4,
   λ outside. subst (λ n. Rose n new.faults) faults (says.5 outside),
   λ settled. says.6 settled ∙ faults,
 )
@@ -198,9 +198,9 @@ all_some (Some x) Q f = f x
 
 -- ---- how many reads
 
-module _ (hash : List ℕ → List ℕ) (q : Query) (s : Standing) (pages : ℕ) (proof : List ℕ) (old mid new : Shelved) where
+module _ (hash : List ℕ → List ℕ) (q : Query) (s : MapModel) (pages : ℕ) (proof : List ℕ) (old mid new : Shelved) where
   -- the proof, and what is read of the map beside it
-  pub read_beside : (bytes : Vec ℕ) → Reads proof old mid (Ok bytes)
+  pub read_beside : (bytes : Vec ℕ) → ReadsInput proof old mid (Ok bytes)
       → ReadsOpened hash q s pages bytes.items mid new → ReadsBeside hash q s pages proof old new
   read_beside bytes is opened =
       if_some s.tree (λ t. (new.reads ≡ mid.reads) ⊎ ((room + 1 < pages)
@@ -220,7 +220,7 @@ module _ (hash : List ℕ → List ℕ) (q : Query) (s : Standing) (pages : ℕ)
           inr (large.0, omega (arith, once, large.1, here))
 
   -- nothing is read beside it
-  pub alone_beside : (result : Result (Vec ℕ) (Result Ending Halt)) → Reads proof old new result
+  pub alone_beside : (result : Result (Vec ℕ) (Result Ending Halt)) → ReadsInput proof old new result
       → ReadsBeside hash q s pages proof old new
   alone_beside result got =
       all_some s.tree (λ t. OfFiles old.files (λ files.
@@ -235,11 +235,11 @@ module _ (hash : List ℕ → List ℕ) (q : Query) (s : Standing) (pages : ℕ)
 -- ---- what is said
 
 module _ (hash : List ℕ → List ℕ) (map : List ℕ) (q : Query) (proof : List ℕ) (old mid new : Shelved)
-    (s : Standing) where
+    (s : MapModel) where
   abbrev said_of : Tree → List ℕ → Outcome
   said_of t bytes = say_audit_of hash q (map_at s t) bytes
 
-  pub read_told : (bytes : Vec ℕ) (result : Result Ending Halt) → Reads proof old mid (Ok bytes)
+  pub read_told : (bytes : Vec ℕ) (result : Result Ending Halt) → ReadsInput proof old mid (Ok bytes)
       → IfSome s.tree (λ t. ComesBut (comes (said_of t bytes.items)) mid new result)
       → IfSome s.tree (λ t. ComesBut (needs proof (λ b. comes (said_of t b))) old new result)
   read_told bytes result got on =
@@ -248,21 +248,21 @@ module _ (hash : List ℕ → List ℕ) (map : List ℕ) (q : Query) (proof : Li
       (λ t on. goes_needed proof (λ b. comes (said_of t b)) (with_reads new.reads old) (with_reads new.reads mid)
       (says_bytes (said_of t) old.files) (Ok bytes) (reads_both new.reads proof old mid bytes got) new result on) on
 
-  pub read_untold : (bytes : Vec ℕ) (result : Result Ending Halt) → Reads proof old mid (Ok bytes)
+  pub read_untold : (bytes : Vec ℕ) (result : Result Ending Halt) → ReadsInput proof old mid (Ok bytes)
       → SaysUntold (MaySayAudit hash map q proof) mid new result
       → SaysUntold (MaySayAudit hash map q proof) old new result
   read_untold bytes result got says =
       untold_from (MaySayAudit hash map q proof) old mid new result got.files got.read.2 says
 
   -- where it was not read
-  pub unread_told : (came : Result Ending Halt) → Reads proof old new (Err came)
+  pub unread_told : (came : Result Ending Halt) → ReadsInput proof old new (Err came)
       → IfSome s.tree (λ t. ComesBut (needs proof (λ b. comes (said_of t b))) old new came)
   unread_told came got =
       all_some s.tree (λ t. ComesBut (needs proof (λ b. comes (said_of t b))) old new came)
       (λ t. goes_needed proof (λ b. comes (said_of t b)) (with_reads new.reads old) new
       (says_bytes (said_of t) old.files) (Err came) (reads_but proof old new came got))
 
-  pub unread_untold : (came : Result Ending Halt) → Reads proof old new (Err came) → old.files ≡ None
+  pub unread_untold : (came : Result Ending Halt) → ReadsInput proof old new (Err came) → old.files ≡ None
       → SaysUntold (MaySayAudit hash map q proof) old new came
   unread_untold came got none =
       says_unread (MaySayAudit hash map q proof) proof old new came (inr (inr (inl refl))) none got
@@ -271,7 +271,7 @@ module _ (hash : List ℕ → List ℕ) (map : List ℕ) (q : Query) (proof : Li
 
 pub auditing_unopened : (hash : List ℕ → List ℕ) (map : List ℕ) (q : Query) (proof : List ℕ) (before after : Shelved)
     → OfFile before.files map (after.reads ≡ before.reads) (λ bytes. after.reads ≤ before.reads + pages_in bytes)
-    → ReadsFew (AllowsAudit hash map q proof) before after
+    → ReadsWithinPlan (AllowsAudit hash map q proof) before after
 auditing_unopened hash map q proof before after few =
     few_refused before.files map before.reads after.reads
     (λ files bytes n. IsFewBeside hash q bytes (file files proof) n) (λ files bytes. inl (omega arith)) few
@@ -293,14 +293,14 @@ module _ {S H : Type 0} {G : shelves.Ghosts S} {K : hashes.Ghosts H} (hash : Lis
   abbrev allows : Files → ℕ → Type 0
   allows = AllowsAudit hash map q proof
 
-  abbrev s : Standing
+  abbrev s : MapModel
   s = stands_for p
 
   abbrev mid : Shelved
   mid = shelved p
 
   few_audited : (files : Files) → before.files ≡ Some files → HasMap hash sized map before s mid
-      → ReadsFew allows before end
+      → ReadsWithinPlan allows before end
   few_audited files told has =
       let is = counted hash sized map before p o first_is files told has in
       few_there before.files files map has.bytes before.reads end.reads

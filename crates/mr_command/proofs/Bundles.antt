@@ -19,7 +19,7 @@ use Rattle.mr_bundle.specs.declared.reading.Part.{Part}
 use Rattle.mr_bundle.specs.declared.verdict.Verdict.{Verdict}
 use Rattle.mr_pages.specs.declared.opening.Opened.{Opened}
 use Rattle.mr_command.specs.Answer.{IsSettled}
-use Rattle.mr_command.specs.Ending.{AreJudged, Comes, Gives, GivesOrStops, printed_of}
+use Rattle.mr_command.specs.Ending.{AreJudged, RunsPlan, IsEndingOf, IsEndingOrHalt, printed_of}
 use Rattle.mr_command.specs.Inputs.{FollowsText}
 use Rattle.mr_plan.specs.Judged.{is_accepted, IsAccepted, accepted_count, bundle_text, bundle_status}
 use Rattle.mr_plan.specs.Lines.{bad_text_line}
@@ -71,8 +71,8 @@ unfolding say_parts_of
 parts_write hash root queries bytes = refl
 
 pub parts_given : (hash : List ℕ → List ℕ) (root : List ℕ) (queries : List Query) (bytes : List ℕ) (at : Shelved)
-    (result : Result Ending Halt) → GivesOrStops (say_parts_of hash root queries bytes) result
-    → Comes (comes (say_parts_of hash root queries bytes)) at at result
+    (result : Result Ending Halt) → IsEndingOrHalt (say_parts_of hash root queries bytes) result
+    → RunsPlan (comes (say_parts_of hash root queries bytes)) at at result
 parts_given hash root queries bytes at result =
     comes_given (say_parts_of hash root queries bytes) at result (parts_write hash root queries bytes)
 
@@ -82,9 +82,9 @@ pub gives_parts : (hash : List ℕ → List ℕ) (root : List ℕ) (queries : Li
     → vs ≡ verdicts_of hash root queries bytes (parts bytes (length queries)).list
     → broken ≡ (parts bytes (length queries)).broken → ending.status ≡ bundle_status vs broken
     → printed_of ending ≡ bundle_text (length queries) vs broken
-    → Gives (say_parts_of hash root queries bytes) ending
+    → IsEndingOf (say_parts_of hash root queries bytes) ending
 gives_parts hash root queries bytes vs broken ending is at status printed =
-    subst (λ said. Gives said ending) (says_parts hash root queries bytes vs broken is at)
+    subst (λ said. IsEndingOf said ending) (says_parts hash root queries bytes vs broken is at)
     (gives (say_verdicts (length queries) vs broken) ending (settled_status vs broken) status printed)
 
 pub verdicts_few : (hash : List ℕ → List ℕ) (root : List ℕ) (queries : List Query) (bytes : List ℕ) (ps : List Part)
@@ -147,7 +147,7 @@ module _ (hash : List ℕ → List ℕ) (root bundle : List ℕ) where
   judged_queries told (Ok queries) = judged_needs bundle (say_parts_of hash root queries) told
   judged_queries told (Err fault) = tt
 
-  no_memory : (at : Shelved) (r : Result (List Query) TextFault) → Comes (on_queries r) at at (Err halts.NoMemory)
+  no_memory : (at : Shelved) (r : Result (List Query) TextFault) → RunsPlan (on_queries r) at at (Err halts.NoMemory)
   no_memory at (Ok queries) =
       comes_halted bundle (λ bytes. comes (say_parts_of hash root queries bytes)) at at halts.NoMemory
       (record { faults = omega arith; reads = omega arith })

@@ -7,7 +7,7 @@ use Rattle.mr_outside.specs.Told.{OfFile, OfFiles}
 use Rattle.mr_record.specs.declared.version.Version.{Version}
 use Rattle.mr_pages.specs.Opening.{pages_in}
 use Rattle.mr_command.specs.Counting.{pieces_of, reads_taken, AllowsReads}
-use Rattle.mr_plan.specs.Found.{Found, Shows}
+use Rattle.mr_plan.specs.Found.{Found, ShowsMap}
 use Rattle.mr_plan.specs.Outcome.{Outcome}
 use Rattle.mr_plan.specs.Plan.{Input, Plan, comes, opens, IsInput}
 use Rattle.mr_plan.specs.Say.{needs, given}
@@ -81,7 +81,7 @@ few_none None said r t same = tt
 few_none (Some files) said r t same = (0, omega (arith, same), refl)
 
 pub few_found : (told : Option Files) (v : Version) (hash : List ℕ → List ℕ) (bytes : List ℕ) (next : Found → Plan)
-    (found : Found) (r t : ℕ) → Shows v hash bytes found → AllowsFrom told (next found) r t
+    (found : Found) (r t : ℕ) → ShowsMap v hash bytes found → AllowsFrom told (next found) r t
     → AllowsFrom told (opens v hash bytes next) r t
 few_found None v hash bytes next found r t is on = tt
 few_found (Some files) v hash bytes next found r t is on = (on.0, on.1, (found, is, on.2))

@@ -9,7 +9,7 @@ use Rattle.mr_outside.specs.declared.shelf.Shelf as shelves
 use Rattle.mr_record.specs.declared.version.Version.{Version}
 use Rattle.mr_record.specs.declared.version.Version.TheVariants.{One, Two}
 use Rattle.mr_tree.specs.Digest.{by, root, root_preimage}
-use Rattle.mr_tree.specs.Nodes.{Standing, root_entry}
+use Rattle.mr_tree.specs.Nodes.{MapModel, root_entry}
 use Rattle.mr_tree.specs.View.{IsChild}
 use Rattle.mr_tree.specs.declared.child.Child.{Child}
 use Rattle.mr_tree.specs.Tree.{records}
@@ -17,7 +17,7 @@ use Rattle.mr_tree.specs.declared.tree.Tree.{Tree}
 use Rattle.mr_pages.specs.Law.{IsMap, IsMapFile, map_in, map_root}
 use Rattle.mr_pages.specs.Page.{Form}
 use Rattle.mr_pages.specs.PageBytes.{form_of, layout_by}
-use Rattle.mr_pages.specs.Saved.{IsUnsealed, Leaves}
+use Rattle.mr_pages.specs.Saved.{IsUnsealed, LeavesFile}
 use Rattle.mr_pages.specs.Source.{told_bytes}
 use Rattle.mr_pages.specs.declared.error.MapErr.TheVariants as errors
 use Rattle.mr_pages.specs.declared.head.MapHead.{MapHead}
@@ -30,22 +30,22 @@ use Rattle.mr_store.specs.Stored.{map_on, read_map}
 use Rattle.mr_store.specs.declared.cached_file.CachedFile.{CachedFile}
 use Rattle.mr_batch.specs.Applied.{IsAdmissible}
 use Rattle.mr_batch.specs.Changes.{Changes}
-use Rattle.mr_batch.specs.Directory.{Entries}
+use Rattle.mr_batch.specs.Directory.{DirectoryEntries}
 use Rattle.mr_batch.specs.Peak.{peak}
 use Rattle.mr_batch.specs.Replay.{replay}
 use Rattle.mr_edit.specs.Causes.{HasEditCause, IsOfPages}
-use Rattle.mr_draft.specs.Draft.{Drawn, DraftOf, IsTop, Copies, CopyFails, CanApply, Applied, Applies, KeepsDraft, MayBeSealed, IsSealed, Seals, SealFails}
+use Rattle.mr_draft.specs.Draft.{DraftState, DraftOf, IsTop, CopiesMap, CopyFails, CanApply, Applied, AppliesBatch, KeepsDraft, MayBeSealed, IsSealed, SealsMap, SealFails}
 use Rattle.mr_draft.proofs.Sizes.{layout_is}
 use Rattle.mr_edit.specs.Outcome.{IsLow}
 use Rattle.mr_edit.specs.Reads.{reads_along}
 use Rattle.mr_edit.specs.Shelves.{HasShelfCause}
 use Rattle.mr_edit.specs.declared.error.EditErr.{EditErr}
 use Rattle.mr_edit.specs.declared.error.EditErr.TheVariants as edits
-use Rattle.mr_command.specs.Applying.{of_copy, of_edit, SaysSealed, MayApply, ComesBehind, IsFewOfCopy}
-use Rattle.mr_command.specs.Ending.{map_at, ComesBut, Gives, GivesOrStops, NoneFalls, SaysRefusal, Stops}
+use Rattle.mr_command.specs.private.Applying.{of_copy, of_edit, SaysSealed, MayApply, ComesBehind, IsFewOfCopy}
+use Rattle.mr_command.specs.Ending.{map_at, ComesBut, IsEndingOf, IsEndingOrHalt, NoneFalls, SaysRefusal, StopsCommand}
 use Rattle.mr_plan.specs.First.{pages_by}
 use Rattle.mr_plan.specs.Lines.{digest_line}
-use Rattle.mr_plan.specs.Outcome.{Outcome, Nothing, IsChangedMap, IsLeft, MayLeave}
+use Rattle.mr_plan.specs.Outcome.{Outcome, Nothing, IsChangedMap, LeavesWritten, MayLeave}
 use Rattle.mr_plan.specs.Plan.{comes}
 use Rattle.mr_plan.specs.Untold.{IsOfAgain, IsRootOfSome, MaySayApply}
 use Rattle.mr_plan.specs.Say.{prints, say_text, say_changed}
@@ -84,7 +84,7 @@ stays_none : (name bytes : List ℕ) (before after : Option Files) → before �
 stays_none name bytes before after none is = is ∙ ap (option_map (with_file name bytes)) none ∙ sym none
 
 left_none : (P : List ℕ → Type 0) (name : List ℕ) (before after : Option Files) → before ≡ None
-    → Leaves P name before after → after ≡ before
+    → LeavesFile P name before after → after ≡ before
 left_none P name before after none (inl same) = same
 left_none P name before after none (inr held) = stays_none name held.0 before after none held.2
 
@@ -95,7 +95,7 @@ record Unsealed (hash : List ℕ → List ℕ) (new : List ℕ) (before after : 
   files : IsChanged (with_file new) bytes before after
 
 copied_on : {S : Type 0} {G : shelves.Ghosts S} (hash : List ℕ → List ℕ) (old : CachedFile S G) (h : MapHead)
-    (new : List ℕ) (d e : Drawn) → Copies hash old h new d → KeepsDraft hash d e
+    (new : List ℕ) (d e : DraftState) → CopiesMap hash old h new d → KeepsDraft hash d e
     → Unsealed hash new (state_of old).files e.shelf.files
 copied_on hash old h new d e copies keeps = elim keeps.left [
   | inl same ↦ record { bytes = copies.bytes; unsealed = copies.unsealed; files = same ∙ copies.files }
@@ -183,7 +183,7 @@ shelf_stopped map edits.NoMemory before after result cause says =
 
 -- it stopped
 pub halts_but : (said : Outcome) (before after : Shelved) (halt : Halt) → NoneFalls before after
-    → Stops before after halt
+    → StopsCommand before after halt
     → MayLeave said.written before.files after.files → ComesBut (comes said) before after (Err halt)
 halts_but said before after halt counts stops may = record {
   counts = record { faults = counts.faults; reads = omega arith };
@@ -196,7 +196,7 @@ halts_but said before after halt counts stops may = record {
 
 -- it came to its end
 pub ends_but : (said : Outcome) (before after : Shelved) (ending : Ending) → NoneFalls before after
-    → after.faults ≡ before.faults → Gives said ending → IsLeft said.written before.files after.files
+    → after.faults ≡ before.faults → IsEndingOf said ending → LeavesWritten said.written before.files after.files
     → ComesBut (comes said) before after (Ok ending)
 ends_but said before after ending counts quiet gives left = record {
   counts = record { faults = counts.faults; reads = omega arith };
@@ -207,12 +207,12 @@ ends_but said before after ending counts quiet gives left = record {
   few = few_none before.files said after.reads after.reads refl;
 }
 
-module _ (may_say : Outcome → Type 0) (s : Standing) (said : Opened → Outcome) (few : Tree → Type 0)
+module _ (may_say : Outcome → Type 0) (s : MapModel) (said : Opened → Outcome) (few : Tree → Type 0)
     (before after : Shelved) (counts : NoneFalls before after) (read : IfSome s.tree few) where
   abbrev behind : Result Ending Halt → Type 0
   behind result = ComesBehind may_say s (λ m. comes (said m)) few before after result
 
-  pub behind_halted : (halt : Halt) → Stops before after halt
+  pub behind_halted : (halt : Halt) → StopsCommand before after halt
       → ((t : Tree) → s.tree ≡ Some t → MayLeave (said (map_at s t)).written before.files after.files)
       → (before.files ≡ None → after.files ≡ before.files) → behind (Err halt)
   behind_halted halt stops may gone = record {
@@ -226,26 +226,26 @@ module _ (may_say : Outcome → Type 0) (s : Standing) (said : Opened → Outcom
   -- no file was written
   pub behind_given : (one : Outcome) (result : Result Ending Halt) → one.written ≡ Nothing
       → ((t : Tree) → s.tree ≡ Some t → said (map_at s t) ≡ one) → (before.files ≡ None → may_say one)
-      → after.files ≡ before.files → after.faults ≡ before.faults → GivesOrStops one result → behind result
+      → after.files ≡ before.files → after.faults ≡ before.faults → IsEndingOrHalt one result → behind result
   behind_given one (Ok ending) writes is may files quiet gives = record {
     counts = counts;
     told = by_some s.tree (λ t. ComesBut (comes (said (map_at s t))) before after (Ok ending))
         (λ t told. subst (λ o. ComesBut (comes o) before after (Ok ending)) (sym (is t told))
         (ends_but one before after ending counts quiet gives
-        (subst (λ w. IsLeft w before.files after.files) (sym writes) files)));
+        (subst (λ w. LeavesWritten w before.files after.files) (sym writes) files)));
     untold = λ none. (
       one,
       may none,
       gives.status,
       gives.printed,
-      subst (λ w. IsLeft w before.files after.files) (sym writes) files,
+      subst (λ w. LeavesWritten w before.files after.files) (sym writes) files,
       λ outside. absurd (gives.settled.0 outside),
       λ settled. quiet,
     );
     few_read = read;
   }
   behind_given one (Err halt) writes is may files quiet none =
-      behind_halted halt (subst (Stops before after) (sym none) tt)
+      behind_halted halt (subst (StopsCommand before after) (sym none) tt)
       (λ t told. subst (λ (o : Outcome). MayLeave o.written before.files after.files) (sym (is t told))
       (subst (λ w. MayLeave w before.files after.files) (sym writes) files))
       (λ none. files)
@@ -274,7 +274,7 @@ module _ {S : Type 0} {G : shelves.Ghosts S} (hash : List ℕ → List ℕ) (map
   abbrev before : Shelved
   before = state_of old
 
-  abbrev s : Standing
+  abbrev s : MapModel
   s = map_on old h
 
   abbrev said : Opened → Outcome
@@ -287,7 +287,7 @@ module _ {S : Type 0} {G : shelves.Ghosts S} (hash : List ℕ → List ℕ) (map
   changes after result =
       ComesBehind (MaySayApply hash map batch new) s (λ m. comes (said m)) (few_of_copy after) before after result
 
-  may_stand : (t : Tree) (after : Option Files) → Leaves (IsUnsealed hash) new before.files after
+  may_stand : (t : Tree) (after : Option Files) → LeavesFile (IsUnsealed hash) new before.files after
       → MayLeave (said (map_at s t)).written before.files after
   may_stand t after (inl same) = inl same
   may_stand t after (inr held) = inr (held.0, inl held.1, held.2)
@@ -325,8 +325,8 @@ module _ {S : Type 0} {G : shelves.Ghosts S} (hash : List ℕ → List ℕ) (map
   uncopied after edits.Fault result fails says = not_copied after edits.Fault result fails says
   uncopied after edits.NoMemory result fails says = not_copied after edits.NoMemory result fails says
 
-  module _ (dir : Entries) (may : IfSome s.tree (MayApply dir h.batch b)) (d : Drawn)
-      (copies : Copies hash old h new d) where
+  module _ (dir : DirectoryEntries) (may : IfSome s.tree (MayApply dir h.batch b)) (d : DraftState)
+      (copies : CopiesMap hash old h new d) where
     can : (t : Tree) → s.tree ≡ Some t → CanApply hash d dir b t
     can t told =
         let fits = at_some s.tree t (MayApply dir h.batch b) told may in
@@ -336,7 +336,7 @@ module _ {S : Type 0} {G : shelves.Ghosts S} (hash : List ℕ → List ℕ) (map
           admissible = subst (λ n. IsAdmissible (records t) n b) (sym copies.at_batch) fits.admissible;
         }
 
-    module _ (e : Drawn) (keeps : KeepsDraft hash d e)
+    module _ (e : DraftState) (keeps : KeepsDraft hash d e)
         (within : (t : Tree) → CanApply hash d dir b t → e.shelf.reads ≤ d.shelf.reads + reads_along t b.list) where
       read : (after : Shelved) → after.reads ≡ e.shelf.reads → IfSome s.tree (few_of_copy after)
       read after same =
@@ -387,7 +387,7 @@ module _ {S : Type 0} {G : shelves.Ghosts S} (hash : List ℕ → List ℕ) (map
         few_read = read e.shelf refl;
       }
 
-      module _ (dir' : Entries) (applies : Applies hash d dir b e dir') (at_batch : e.batch ≡ b.number)
+      module _ (dir' : DirectoryEntries) (applies : AppliesBatch hash d dir b e dir') (at_batch : e.batch ≡ b.number)
           (quiet : e.shelf.faults ≡ d.shelf.faults) (after : Shelved) (unread : after.reads ≡ e.shelf.reads) where
         -- the file of a draft that was sealed
         is_changed : (t : Tree) (bytes : List ℕ) → Applied hash d b t e dir'
@@ -417,8 +417,8 @@ module _ {S : Type 0} {G : shelves.Ghosts S} (hash : List ℕ → List ℕ) (map
         }
 
         -- it was sealed
-        sealed_so : (digest : List ℕ) (result : Result Ending Halt) → Seals hash e digest after
-            → length digest ≡ 32 → IsRootOfSome hash digest → GivesOrStops (prints (digest_line digest)) result
+        sealed_so : (digest : List ℕ) (result : Result Ending Halt) → SealsMap hash e digest after
+            → length digest ≡ 32 → IsRootOfSome hash digest → IsEndingOrHalt (prints (digest_line digest)) result
             → changes after result
         sealed_so digest (Ok ending) seals long some gives = record {
           counts = counts_on (omega (arith, seals.quiet));
@@ -452,7 +452,8 @@ module _ {S : Type 0} {G : shelves.Ghosts S} (hash : List ℕ → List ℕ) (map
             content_of digest bytes = say_text (digest_line digest) new bytes
         sealed_so digest (Err halt) seals long some none =
             behind_halted (MaySayApply hash map batch new) s said (few_of_copy after) before after
-            (counts_on (omega (arith, seals.quiet))) (read after unread) halt (subst (Stops before after) (sym none) tt)
+            (counts_on (omega (arith, seals.quiet))) (read after unread) halt
+            (subst (StopsCommand before after) (sym none) tt)
             (λ t told.
             let a = applies t (can t told) in
             inr (
@@ -476,7 +477,7 @@ module _ {S : Type 0} {G : shelves.Ghosts S} (hash : List ℕ → List ℕ) (map
             (λ none. ends_none none fails.left))
           where
             may_end : (t : Tree) → Applied hash d b t e dir'
-                → Leaves (MayBeSealed hash e) e.name e.shelf.files after.files
+                → LeavesFile (MayBeSealed hash e) e.name e.shelf.files after.files
                 → MayLeave (said (map_at s t)).written before.files after.files
             may_end t a (inl same) =
                 subst (MayLeave (said (map_at s t)).written before.files) (sym same) (may_be t)
@@ -489,14 +490,14 @@ module _ {S : Type 0} {G : shelves.Ghosts S} (hash : List ℕ → List ℕ) (map
               changed_files held.0 held.2,
             )
 
-            ends_none : before.files ≡ None → Leaves (MayBeSealed hash e) e.name e.shelf.files after.files
+            ends_none : before.files ≡ None → LeavesFile (MayBeSealed hash e) e.name e.shelf.files after.files
                 → after.files ≡ before.files
             ends_none none (inl same) = same ∙ gone none
             ends_none none (inr held) =
                 stays_none new held.0 before.files after.files none (changed_files held.0 held.2)
 
         pub sealed : (r : Result (List ℕ) EditErr) (result : Result Ending Halt)
-            → MatchResult r (λ digest. Seals hash e digest after) (SealFails hash e after)
+            → MatchResult r (λ digest. SealsMap hash e digest after) (SealFails hash e after)
             → IfOk r (IsRootOfSome hash) → SaysSealed map r result → changes after result
         sealed (Ok digest) result seals some says = sealed_so digest result seals says.0 some says.1
         sealed (Err error) result fails some says = unsealed_so error result fails says

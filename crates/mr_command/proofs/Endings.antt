@@ -4,9 +4,9 @@ use Rattle.std.specs.Prelude.{Result, Ok, Err, OnOk}
 use Rattle.mr_outside.specs.Causes.{SinkCauses}
 use Rattle.mr_outside.specs.Faults.{Rose}
 use Rattle.mr_outside.specs.State.{Sunk}
-use Rattle.mr_outside.specs.Told.{Takes, TakesFront}
+use Rattle.mr_outside.specs.Told.{TakesBytes, TakesFront}
 use Rattle.mr_outside.specs.declared.sink.SinkErr.{SinkErr}
-use Rattle.mr_outside.proofs.Taking.{Takes-none, Takes-append}
+use Rattle.mr_outside.proofs.Taking.{TakesBytes-none, TakesBytes-append}
 use Rattle.mr_record.specs.declared.record.Record.{Record}
 use Rattle.mr_record.specs.RecordText.{line_of, text_of}
 use Rattle.mr_record.specs.declared.version.Version.{Version}
@@ -32,7 +32,7 @@ text_both v (x ∷ xs) ys =
 
 -- nothing was taken
 pub front_none : (s : Sunk) (text : List ℕ) → TakesFront s s text
-front_none s text = record { front = []; rest = text; whole = refl; takes = Takes-none s }
+front_none s text = record { front = []; rest = text; whole = refl; takes = TakesBytes-none s }
 
 -- a front of the first part
 pub front_before : (before after : Sunk) (first second : List ℕ) → TakesFront before after first
@@ -45,21 +45,21 @@ front_before before after first second part = record {
 }
 
 -- the first part and a front of the second
-pub front_after : (before between after : Sunk) (first second : List ℕ) → Takes before between first
+pub front_after : (before between after : Sunk) (first second : List ℕ) → TakesBytes before between first
     → TakesFront between after second → TakesFront before after (first ++ second)
 front_after before between after first second takes part = record {
   front = first ++ part.front;
   rest = part.rest;
   whole = ap (λ text. first ++ text) part.whole ∙ sym (append_assoc first part.front part.rest);
-  takes = Takes-append before between after first part.front takes part.takes;
+  takes = TakesBytes-append before between after first part.front takes part.takes;
 }
 
 -- both parts, where the second was written
 pub whole_after : (before between after : Sunk) (first second : List ℕ) (result : Result Unit SinkErr)
-    → Takes before between first → OnOk result (Takes between after second)
-    → OnOk result (Takes before after (first ++ second))
+    → TakesBytes before between first → OnOk result (TakesBytes between after second)
+    → OnOk result (TakesBytes before after (first ++ second))
 whole_after before between after first second (Ok done) takes more =
-    Takes-append before between after first second takes more
+    TakesBytes-append before between after first second takes more
 whole_after before between after first second (Err error) takes more = tt
 
 -- a call behind one that counted no fault

@@ -11,22 +11,22 @@ use Rattle.mr_outside.specs.Told.{OfFile, MayMiss}
 use Rattle.mr_outside.specs.Writing.{IsChanged}
 use Rattle.mr_outside.specs.declared.shelf.ShelfErr.{ShelfErr}
 use Rattle.mr_outside.specs.declared.shelf.ShelfErr.TheVariants as shelf
-use Rattle.mr_record.specs.Bytes.{AreBytes}
+use Rattle.mr_record.specs.private.Bytes.{AreBytes}
 use Rattle.mr_record.specs.declared.version.Version.{Version}
 use Rattle.mr_record.specs.declared.version.Version.TheVariants.{One, Two}
 use Rattle.mr_tree.specs.WellFormed.{WellFormed, HasLayers}
 use Rattle.mr_tree.specs.declared.tree.Tree.{Tree}
 use Rattle.mr_pages.specs.Page.{Form}
 use Rattle.mr_pages.specs.PageBytes.{form_by}
-use Rattle.mr_pages.specs.Law.{Agrees, IsMapFile, map_in}
-use Rattle.mr_pages.specs.Saved.{saved, MayStand, Leaves, SaveCauses}
-use Rattle.mr_pages.specs.Opening.{Answers, Fails, MapCauses, OrFails, Tells}
+use Rattle.mr_pages.specs.Law.{AgreesWithFault, IsMapFile, map_in}
+use Rattle.mr_pages.specs.Saved.{saved, MayStand, LeavesFile, SaveCauses}
+use Rattle.mr_pages.specs.Opening.{AnswersMap, FailsWithoutFault, MapCauses, OrFails, TellsBytes}
 use Rattle.mr_pages.specs.declared.error.MapErr.{MapErr}
 use Rattle.mr_pages.specs.declared.error.MapErr.TheVariants as errors
 use Rattle.mr_pages.specs.declared.rule.MapFault.{MapFault}
-use Rattle.mr_command.specs.Ending.{Gives, GivesOrStops, Misses, Comes, Came, Stops, Ends, GivesUp, AreJudged, IsJudged, GoesOn, Blames, IsCalm, NoneFalls, IsWell, WasFound, IsAsRead, IsUnread, Read, Reads, ReadsPages, HoldsMap, Opens, Saves, SaysRefusal, halt_of, printed_of}
-use Rattle.mr_plan.specs.Found.{Found, Shows, bad_map_line}
-use Rattle.mr_plan.specs.Outcome.{Outcome, Content, Nothing, File, map_of, IsLaidOut, IsLeft, MayLeave}
+use Rattle.mr_command.specs.Ending.{IsEndingOf, IsEndingOrHalt, SaysMissing, RunsPlan, Came, StopsCommand, EndsPlan, GivesUpPlan, AreJudged, IsJudged, GoesOn, BlamesOutside, IsCalm, NoneFalls, IsWell, WasFound, IsAsRead, IsUnread, Read, ReadsInput, ReadsPages, HasReadMap, OpensMapOrEnds, SavesFile, SaysRefusal, halt_of, printed_of}
+use Rattle.mr_plan.specs.Found.{Found, ShowsMap, bad_map_line}
+use Rattle.mr_plan.specs.Outcome.{Outcome, Content, Nothing, File, map_of, IsLaidOut, LeavesWritten, MayLeave}
 use Rattle.mr_plan.specs.Plan.{Plan, comes, opens, Input, IsInput, IsAbsent, LacksInput}
 use Rattle.mr_plan.specs.Say.{ends, needs, needs_map_in, given_map, says_missing}
 use Rattle.mr_command.specs.declared.ending.Ending.{Ending}
@@ -44,8 +44,8 @@ pub record IsStep (before between : Shelved) : Type 0 where
   pub files : between.files ≡ before.files
   pub faults : between.faults ≡ before.faults
 
-stops_after : (before between after : Shelved) (halt : Halt) → IsStep before between → Stops between after halt
-    → Stops before after halt
+stops_after : (before between after : Shelved) (halt : Halt) → IsStep before between → StopsCommand between after halt
+    → StopsCommand before after halt
 stops_after before between after halts.Words step stops = stops
 stops_after before between after halts.Shelf step stops = subst (λ n. Rose n after.faults) step.faults stops
 stops_after before between after halts.NoMemory step stops = stops
@@ -82,15 +82,15 @@ module _ (name : List ℕ) (next : List ℕ → Plan) (bytes : List ℕ) (before
     Some bytes,
     input,
     are,
-    subst (λ files. Ends (next bytes) files after.files ending.status (printed_of ending)) step.files came,
+    subst (λ files. EndsPlan (next bytes) files after.files ending.status (printed_of ending)) step.files came,
   )
   came_on (Err halt) came = (
     stops_after before between after halt step came.0,
-    inr (Some bytes, input, subst (λ files. GivesUp (next bytes) files after.files) step.files came.1),
+    inr (Some bytes, input, subst (λ files. GivesUpPlan (next bytes) files after.files) step.files came.1),
   )
 
-  blames_on : (result : Result Ending Halt) → Blames (next bytes) between after result
-      → Blames (needs name next) before after result
+  blames_on : (result : Result Ending Halt) → BlamesOutside (next bytes) between after result
+      → BlamesOutside (needs name next) before after result
   blames_on (Ok ending) blames = λ outside. elim (blames outside) [
     | inl rose ↦ inl (subst (λ n. Rose n after.faults) step.faults rose)
     | inr lacks ↦ inr (inr (Some bytes, input, subst (LacksInput (next bytes)) step.files lacks))
@@ -101,8 +101,8 @@ module _ (name : List ℕ) (next : List ℕ → Plan) (bytes : List ℕ) (before
   calm_on (Ok ending) calm = λ settled. calm settled ∙ step.faults
   calm_on (Err halt) calm = tt
 
-  pub comes_on : (result : Result Ending Halt) → Comes (next bytes) between after result
-      → Comes (needs name next) before after result
+  pub comes_on : (result : Result Ending Halt) → RunsPlan (next bytes) between after result
+      → RunsPlan (needs name next) before after result
   comes_on result on = record {
     counts = record {
       faults = omega (arith, step.counts.faults, on.counts.faults);
@@ -117,15 +117,15 @@ module _ (name : List ℕ) (next : List ℕ → Plan) (bytes : List ℕ) (before
   }
 
 -- an outcome that writes no file, at once
-pub comes_at_once : (said : Outcome) (at : Shelved) (ending : Ending) → said.written ≡ Nothing → Gives said ending
-    → Comes (comes said) at at (Ok ending)
+pub comes_at_once : (said : Outcome) (at : Shelved) (ending : Ending) → said.written ≡ Nothing → IsEndingOf said ending
+    → RunsPlan (comes said) at at (Ok ending)
 comes_at_once said at ending writes gives = record {
   counts = record { faults = omega arith; reads = omega arith };
   judged = tt;
   came = (
     gives.status,
     gives.printed,
-    subst (λ w. IsLeft w at.files at.files) (sym writes) refl,
+    subst (λ w. LeavesWritten w at.files at.files) (sym writes) refl,
   );
   outside = λ e. absurd (gives.settled.0 e);
   quiet = λ settled. refl;
@@ -134,13 +134,13 @@ comes_at_once said at ending writes gives = record {
 
 -- the same where memory may have run out
 pub comes_given : (said : Outcome) (at : Shelved) (result : Result Ending Halt) → said.written ≡ Nothing
-    → GivesOrStops said result → Comes (comes said) at at result
+    → IsEndingOrHalt said result → RunsPlan (comes said) at at result
 comes_given said at (Ok ending) writes gives = comes_at_once said at ending writes gives
 comes_given said at (Err halt) writes is = record {
   counts = record { faults = omega arith; reads = omega arith };
   judged = tt;
   came = (
-    subst (Stops at at) (sym is) tt,
+    subst (StopsCommand at at) (sym is) tt,
     subst (λ w. MayLeave w at.files at.files) (sym writes) refl,
   );
   outside = tt;
@@ -150,7 +150,7 @@ comes_given said at (Err halt) writes is = record {
 
 -- a refusal for want of memory
 pub out_of_memory : (said : Outcome) (result : Result Ending Halt) → IsErrAnd result (λ h. h ≡ halts.NoMemory)
-    → GivesOrStops said result
+    → IsEndingOrHalt said result
 out_of_memory said (Ok ending) is = absurd is
 out_of_memory said (Err halt) is = is
 
@@ -160,7 +160,7 @@ out_of_memory said (Err halt) is = is
 comes_found : (v : Version) (hash : List ℕ → List ℕ) (bytes : List ℕ) (next : Found → Plan) (found : Found)
     (before after : Shelved) (result : Result Ending Halt) → AreJudged (opens v hash bytes next) before.files
     → WasFound before.files v hash bytes found → IsWell found
-    → Comes (next found) before after result → Comes (opens v hash bytes next) before after result
+    → RunsPlan (next found) before after result → RunsPlan (opens v hash bytes next) before after result
 comes_found v hash bytes next found before after (Ok ending) judged is well on = record {
   counts = on.counts;
   judged = judged;
@@ -191,8 +191,8 @@ comes_opened : (version : List ℕ → Version) (hash : List ℕ → List ℕ) (
     (found : Found) (result : Result Ending Halt) → IsStep before between → ReadsPages name before between
     → IsJudged version hash before.files name → GoesOn next before.files → Holds version hash before.files name found
     → IsWell found
-    → Comes (given_map next found) between after result →
-    Comes (needs_map_in version hash name next) before after result
+    → RunsPlan (given_map next found) between after result →
+    RunsPlan (needs_map_in version hash name next) before after result
 comes_opened version hash name next before between after found result step once judged goes holds well on =
     comes_on name (λ bytes. opens (version bytes) hash bytes (given_map next)) holds.bytes before between after step
     (map_taken before.files name version hash (given_map next) before.reads between.reads once) holds.input holds.are
@@ -204,9 +204,9 @@ comes_opened version hash name next before between after found result step once 
 
 pub comes_map : (version : List ℕ → Version) (hash : List ℕ → List ℕ) (name : List ℕ) (next : Opened → Plan)
     (before between after : Shelved)
-    (map : Opened) (result : Result Ending Halt) → HoldsMap version hash name before between map →
+    (map : Opened) (result : Result Ending Halt) → HasReadMap version hash name before between map →
     GoesOn next before.files
-    → Comes (next map) between after result → Comes (needs_map_in version hash name next) before after result
+    → RunsPlan (next map) between after result → RunsPlan (needs_map_in version hash name next) before after result
 comes_map version hash name next before between after map result holds goes on =
     comes_opened version hash name next before between after (Ok map) result
     (record { counts = holds.counts; files = holds.files; faults = holds.quiet }) holds.once holds.judged goes
@@ -218,8 +218,8 @@ comes_bad : (version : List ℕ → Version) (hash : List ℕ → List ℕ) (nam
     (fault : MapFault) (ending : Ending) → IsStep before after → ReadsPages name before after
     → IsJudged version hash before.files name → GoesOn next before.files →
     Holds version hash before.files name (Err fault)
-    → Gives (ends BadMap (bad_map_line fault)) ending →
-    Comes (needs_map_in version hash name next) before after (Ok ending)
+    → IsEndingOf (ends BadMap (bad_map_line fault)) ending →
+    RunsPlan (needs_map_in version hash name next) before after (Ok ending)
 comes_bad version hash name next before after fault ending step once judged goes holds gives =
     comes_opened version hash name next before after after (Err fault) (Ok ending) step once judged goes holds tt
     (comes_at_once (ends BadMap (bad_map_line fault)) after ending refl gives)
@@ -242,9 +242,9 @@ input_is (Some files) name bytes are is = by_found (file files name) is
 -- what is said of a file that is missing
 pub missed_so : (name : List ℕ) (before after : Shelved) (came : Result Ending Halt)
     → IsInput before.files name None × (Rose before.faults after.faults ⊎ IsAbsent before.files name)
-    → Misses name came → IsUnread name before after came
+    → SaysMissing name came → IsUnread name before after came
 missed_so name before after (Ok ending) missing says = (missing.0, missing.1, says.0, says.1)
-missed_so name before after (Err halt) missing says = subst (Stops before after) (sym says) tt
+missed_so name before after (Err halt) missing says = subst (StopsCommand before after) (sym says) tt
 
 -- what was read, by the answer of the call that read it
 module _ (name : List ℕ) (before after : Shelved) (files : after.files ≡ before.files)
@@ -252,7 +252,7 @@ module _ (name : List ℕ) (before after : Shelved) (files : after.files ≡ bef
     (pieces : OfFile before.files name (after.reads ≡ before.reads)
     (λ bytes. after.reads ≤ before.reads + piece_count (length bytes))) where
   reads_so : (result : Result (Vec ℕ) (Result Ending Halt)) → before.faults ≤ after.faults
-      → Read name before after result → Reads name before after result
+      → Read name before after result → ReadsInput name before after result
   reads_so result faults read = record {
     counts = record { faults = faults; reads = more };
     files = files;
@@ -262,18 +262,18 @@ module _ (name : List ℕ) (before after : Shelved) (files : after.files ≡ bef
 
   pub reads_of : (read : Result (Vec ℕ) ShelfErr) (result : Result (Vec ℕ) (Result Ending Halt))
       → IfOk read (λ v. OfFile before.files name ⊥ (λ bytes. v.items ≡ bytes)) → ShelfCauses name before after read
-      → IsAsRead name read result → Reads name before after result
+      → IsAsRead name read result → ReadsInput name before after result
   reads_of (Ok bytes) result held causes is =
-      subst (Reads name before after) (sym is.0)
+      subst (ReadsInput name before after) (sym is.0)
       (reads_so (Ok bytes) causes.faults (input_is before.files name bytes.items is.1 held, is.1, causes.quiet))
   reads_of (Err shelf.Missing) (Ok bytes) held causes is = absurd is
   reads_of (Err shelf.Missing) (Err came) held causes is =
       reads_so (Err came) causes.faults
       (missed_so name before after came (misses before.files name before.faults after.faults (causes.missing refl)) is)
   reads_of (Err shelf.Fault) result held causes is =
-      subst (Reads name before after) (sym is) (reads_so (Err (Err halts.Shelf)) causes.faults (causes.fault refl))
+      subst (ReadsInput name before after) (sym is) (reads_so (Err (Err halts.Shelf)) causes.faults (causes.fault refl))
   reads_of (Err shelf.NoMemory) result held causes is =
-      subst (Reads name before after) (sym is) (reads_so (Err (Err halts.NoMemory)) causes.faults tt)
+      subst (ReadsInput name before after) (sym is) (reads_so (Err (Err halts.NoMemory)) causes.faults tt)
 
 pub comes_missing : (name : List ℕ) (next : List ℕ → Plan) (before after : Shelved) (ending : Ending)
     → NoneFalls before after → TakenFrom before.files name next before.reads after.reads
@@ -281,7 +281,7 @@ pub comes_missing : (name : List ℕ) (next : List ℕ → Plan) (before after :
     → AreJudged (needs name next) before.files
     → IsInput before.files name None × (Rose before.faults after.faults ⊎ IsAbsent before.files name)
     → ending.status ≡ Outside → printed_of ending ≡ (says_missing name).printed
-    → Comes (needs name next) before after (Ok ending)
+    → RunsPlan (needs name next) before after (Ok ending)
 comes_missing name next before after ending counts once files judged misses status printed = record {
   counts = counts;
   judged = judged;
@@ -295,8 +295,8 @@ comes_missing name next before after ending counts once files judged misses stat
 pub comes_halted : (name : List ℕ) (next : List ℕ → Plan) (before after : Shelved) (halt : Halt)
     → NoneFalls before after → TakenFrom before.files name next before.reads after.reads
     → after.files ≡ before.files
-    → AreJudged (needs name next) before.files → Stops before after halt
-    → Comes (needs name next) before after (Err halt)
+    → AreJudged (needs name next) before.files → StopsCommand before after halt
+    → RunsPlan (needs name next) before after (Err halt)
 comes_halted name next before after halt counts once files judged stops = record {
   counts = counts;
   judged = judged;
@@ -311,13 +311,14 @@ comes_halted name next before after halt counts once files judged stops = record
 -- the bytes of a file that is told, read in their version, give this; of one that is not told some bytes do
 abbrev pub SomeIn : (List ℕ → Version) → (List ℕ → List ℕ) → Result Opened MapErr → Type 0
 SomeIn version hash result =
-    (bytes : List ℕ) × AreBytes bytes × Answers (form_by (version bytes)) hash bytes result
+    (bytes : List ℕ) × AreBytes bytes × AnswersMap (form_by (version bytes)) hash bytes result
 
 -- a clause of the call that opens a file, at what it answered
 abbrev pub Answered : (List ℕ → Version) → (List ℕ → List ℕ) → List ℕ → Shelved → Shelved → Result Opened MapErr
     → Type 0
 Answered version hash name before after result =
-    OfFile before.files name (Fails result) (λ bytes. Tells (form_by (version bytes)) hash bytes result)
+    OfFile before.files name (FailsWithoutFault result)
+    (λ bytes. TellsBytes (form_by (version bytes)) hash bytes result)
     × SomeIn version hash result
     × MapCauses name before after result
     × (after.files ≡ before.files)
@@ -329,7 +330,7 @@ version_by One = refl
 version_by Two = refl
 
 shown_by : (v : Version) (hash : List ℕ → List ℕ) (bytes : List ℕ) (map : Opened)
-    → Answers (form_by v) hash bytes (Ok map) → Shows v hash bytes (Ok map)
+    → AnswersMap (form_by v) hash bytes (Ok map) → ShowsMap v hash bytes (Ok map)
 shown_by v hash bytes map a = (a.0 ∙ version_by v, a.1)
 
 -- the answer that is wanted is that map
@@ -341,11 +342,12 @@ wanted v form map result is has =
     subst (λ w. OrFails result (Ok (record { tree = map.tree; version = w; batch = map.batch }))) same
 
 told_bytes : (version : List ℕ → Version) (hash : List ℕ → List ℕ) (files : Files) (name : List ℕ) (found : Found)
-    (result : Result Opened MapErr) → (Fails result → ⊥)
-    → ((bytes : List ℕ) → Answers (form_by (version bytes)) hash bytes result → Shows (version bytes) hash bytes found)
+    (result : Result Opened MapErr) → (FailsWithoutFault result → ⊥)
+    → ((bytes : List ℕ) → AnswersMap (form_by (version bytes)) hash bytes result → ShowsMap (version bytes) hash bytes
+    found)
     → ((map : Opened) → OrFails result (Ok map) → found ≡ Ok map) → (input : Input)
     → file files name ≡ input
-    → MatchOption input (Fails result) (λ bytes. Tells (form_by (version bytes)) hash bytes result)
+    → MatchOption input (FailsWithoutFault result) (λ bytes. TellsBytes (form_by (version bytes)) hash bytes result)
     → Holds version hash (Some files) name found
 told_bytes version hash files name found result not shows only None e is = absurd (not is)
 told_bytes version hash files name found result not shows only (Some bytes) e is =
@@ -362,10 +364,11 @@ told_bytes version hash files name found result not shows only (Some bytes) e is
     }
 
 holds_found : (version : List ℕ → Version) (hash : List ℕ → List ℕ) (told : Option Files) (name : List ℕ)
-    (found : Found) (result : Result Opened MapErr) → (Fails result → ⊥)
-    → ((bytes : List ℕ) → Answers (form_by (version bytes)) hash bytes result → Shows (version bytes) hash bytes found)
+    (found : Found) (result : Result Opened MapErr) → (FailsWithoutFault result → ⊥)
+    → ((bytes : List ℕ) → AnswersMap (form_by (version bytes)) hash bytes result → ShowsMap (version bytes) hash bytes
+    found)
     → ((map : Opened) → OrFails result (Ok map) → found ≡ Ok map)
-    → OfFile told name (Fails result) (λ bytes. Tells (form_by (version bytes)) hash bytes result)
+    → OfFile told name (FailsWithoutFault result) (λ bytes. TellsBytes (form_by (version bytes)) hash bytes result)
     → SomeIn version hash result → Holds version hash told name found
 holds_found version hash None name found result not shows only exact some = record
     { bytes = some.0; input = some.1; are = some.1; is = (shows some.0 some.2, tt) }
@@ -383,18 +386,18 @@ fault_only fault map (inl e) = absurd (cc)
 fault_only fault map (inr fails) = absurd fails
 
 no_fault_rose : (before after : Shelved) (name : List ℕ) (result : Result Opened MapErr)
-    → (Fails result → ⊥) → MapCauses name before after result → after.faults ≡ before.faults
+    → (FailsWithoutFault result → ⊥) → MapCauses name before after result → after.faults ≡ before.faults
 no_fault_rose before after name result not causes = elim causes.quiet
     [ inl same ↦ same | inr fails ↦ absurd (not fails) ]
 
 -- told or not
 pub is_judged : (version : List ℕ → Version) (hash : List ℕ → List ℕ) (told : Option Files) (name : List ℕ)
-    → OfFile told name ⊤ (λ bytes. Agrees (form_by (version bytes)) hash bytes)
-    → ((bytes : List ℕ) → AreBytes bytes → Agrees (form_by (version bytes)) hash bytes)
+    → OfFile told name ⊤ (λ bytes. AgreesWithFault (form_by (version bytes)) hash bytes)
+    → ((bytes : List ℕ) → AreBytes bytes → AgreesWithFault (form_by (version bytes)) hash bytes)
     → IsJudged version hash told name
 is_judged version hash None name agrees law bytes is = law bytes is
 is_judged version hash (Some files) name agrees law bytes is =
-    subst (λ input. MatchOption input ⊤ (λ bytes. Agrees (form_by (version bytes)) hash bytes)) is agrees
+    subst (λ input. MatchOption input ⊤ (λ bytes. AgreesWithFault (form_by (version bytes)) hash bytes)) is agrees
 
 halt_is : (halt other : Halt) → ◌≡◌ {A = Result Ending Halt} (Err halt) (Err other) → halt ≡ other
 halt_is halt other is = cc
@@ -406,7 +409,7 @@ counts_of version hash name before after result on = record { faults = on.2.faul
 module _ (version : List ℕ → Version) (hash : List ℕ → List ℕ) (name : List ℕ) (before after : Shelved)
     (judged : IsJudged version hash before.files name) where
   pub opens_map : (map : Opened) → Answered version hash name before after (Ok map) → WellFormed map.tree
-      → HasLayers map.version map.tree → map.batch < 2 ^ 64 → HoldsMap version hash name before after map
+      → HasLayers map.version map.tree → map.batch < 2 ^ 64 → HasReadMap version hash name before after map
   opens_map map on well layers low =
       let holds = holds_found version hash before.files name (Ok map) (Ok map) (λ f. f)
       (λ bytes a. shown_by (version bytes) hash bytes map a) (found_only map) on.0 on.1 in
@@ -427,7 +430,8 @@ module _ (version : List ℕ → Version) (hash : List ℕ → List ℕ) (name :
 
   pub opens_bad : (fault : MapFault) (ending : Ending) →
       Answered version hash name before after (Err (errors.Map fault))
-      → Gives (ends BadMap (bad_map_line fault)) ending → Opens version hash name before after (Err (Ok ending))
+      → IsEndingOf (ends BadMap (bad_map_line fault)) ending → OpensMapOrEnds version hash name before after
+      (Err (Ok ending))
   opens_bad fault ending on gives next goes =
       comes_bad version hash name next before after fault ending
       (record {
@@ -440,7 +444,7 @@ module _ (version : List ℕ → Version) (hash : List ℕ → List ℕ) (name :
 
   pub opens_missing : (ending : Ending) → Answered version hash name before after (Err errors.Missing)
       → ending.status ≡ Outside → printed_of ending ≡ (says_missing name).printed
-      → Opens version hash name before after (Err (Ok ending))
+      → OpensMapOrEnds version hash name before after (Err (Ok ending))
   opens_missing ending on status printed next goes =
       comes_missing name (λ bytes. opens (version bytes) hash bytes (given_map next)) before after ending
       (counts_of version hash name before after (Err errors.Missing) on)
@@ -449,8 +453,8 @@ module _ (version : List ℕ → Version) (hash : List ℕ → List ℕ) (name :
       (misses before.files name before.faults after.faults (on.2.missing refl)) status printed
 
   pub opens_halted : (halt : Halt) → NoneFalls before after
-      → ReadsPages name before after → after.files ≡ before.files → Stops before after halt
-      → Opens version hash name before after (Err (Err halt))
+      → ReadsPages name before after → after.files ≡ before.files → StopsCommand before after halt
+      → OpensMapOrEnds version hash name before after (Err (Err halt))
   opens_halted halt counts few files stops next goes =
       comes_halted name (λ bytes. opens (version bytes) hash bytes (given_map next)) before after halt counts
       (map_taken before.files name version hash (given_map next) before.reads after.reads few) files
@@ -458,32 +462,35 @@ module _ (version : List ℕ → Version) (hash : List ℕ → List ℕ) (name :
 
   -- by its refusal
   pub opens_refused : (error : MapErr) (ending : Ending) → Answered version hash name before after (Err error)
-      → SaysRefusal name error (Ok ending) → Opens version hash name before after (Err (Ok ending))
+      → SaysRefusal name error (Ok ending) → OpensMapOrEnds version hash name before after (Err (Ok ending))
   opens_refused (errors.Map fault) ending on says = opens_bad fault ending on says
   opens_refused errors.Missing ending on says = opens_missing ending on says.0 says.1
   opens_refused errors.Fault ending on says = absurd (cc)
   opens_refused errors.NoMemory ending on says = absurd (cc)
 
   -- memory ran out, or the shelf failed
-  out : (error : MapErr) (halt : Halt) → Answered version hash name before after (Err error) → Stops before after halt
-      → Opens version hash name before after (Err (Err halt))
+  out : (error : MapErr) (halt : Halt) → Answered version hash name before after (Err error) → StopsCommand before
+      after halt
+      → OpensMapOrEnds version hash name before after (Err (Err halt))
   out error halt on stops =
       opens_halted halt (counts_of version hash name before after (Err error) on) on.5 on.3 stops
 
   pub opens_given_up : (error : MapErr) (halt : Halt) → Answered version hash name before after (Err error)
-      → SaysRefusal name error (Err halt) → Opens version hash name before after (Err (Err halt))
+      → SaysRefusal name error (Err halt) → OpensMapOrEnds version hash name before after (Err (Err halt))
   opens_given_up (errors.Map fault) halt on says =
-      out (errors.Map fault) halt on (subst (Stops before after) (sym says) tt)
-  opens_given_up errors.Missing halt on says = out errors.Missing halt on (subst (Stops before after) (sym says) tt)
+      out (errors.Map fault) halt on (subst (StopsCommand before after) (sym says) tt)
+  opens_given_up errors.Missing halt on says = out errors.Missing halt on
+      (subst (StopsCommand before after) (sym says) tt)
   opens_given_up errors.Fault halt on says =
-      out errors.Fault halt on (subst (Stops before after) (sym (halt_is halt halts.Shelf says)) (on.2.fault refl))
+      out errors.Fault halt on (subst (StopsCommand before after) (sym (halt_is halt halts.Shelf says))
+      (on.2.fault refl))
   opens_given_up errors.NoMemory halt on says =
-      out errors.NoMemory halt on (subst (Stops before after) (sym (halt_is halt halts.NoMemory says)) tt)
+      out errors.NoMemory halt on (subst (StopsCommand before after) (sym (halt_is halt halts.NoMemory says)) tt)
 
   -- what the command comes to without the map
   pub opens_unopened : (error : MapErr) (came : Result Ending Halt)
       → Answered version hash name before after (Err error) → SaysRefusal name error came
-      → Opens version hash name before after (Err came)
+      → OpensMapOrEnds version hash name before after (Err came)
   opens_unopened error (Ok ending) on says = opens_refused error ending on says
   opens_unopened error (Err halt) on says = opens_given_up error halt on says
 
@@ -496,15 +503,15 @@ halted_is (Err h) halt is = ap (λ x. Err x) is
 -- ---- behind a file that was written
 
 pub comes_saved : (name : List ℕ) (content : Content) (said : Outcome) (before after : Shelved) (ending : Ending)
-    (done : Unit) → said.written ≡ File name content → Gives said ending
-    → Saves name content before after (Ok done) → Comes (comes said) before after (Ok ending)
+    (done : Unit) → said.written ≡ File name content → IsEndingOf said ending
+    → SavesFile name content before after (Ok done) → RunsPlan (comes said) before after (Ok ending)
 comes_saved name content said before after ending done writes gives saves = record {
   counts = saves.counts;
   judged = tt;
   came = (
     gives.status,
     gives.printed,
-    subst (λ w. IsLeft w before.files after.files) (sym writes) saves.saved.0,
+    subst (λ w. LeavesWritten w before.files after.files) (sym writes) saves.saved.0,
   );
   outside = λ e. absurd (gives.settled.0 e);
   quiet = λ settled. saves.saved.1;
@@ -512,8 +519,8 @@ comes_saved name content said before after ending done writes gives saves = reco
 }
 
 pub comes_unsaved : (name : List ℕ) (content : Content) (said : Outcome) (before after : Shelved) (halt : Halt)
-    → said.written ≡ File name content → Saves name content before after (Err halt)
-    → Comes (comes said) before after (Err halt)
+    → said.written ≡ File name content → SavesFile name content before after (Err halt)
+    → RunsPlan (comes said) before after (Err halt)
 comes_unsaved name content said before after halt writes saves = record {
   counts = saves.counts;
   judged = tt;
@@ -548,7 +555,7 @@ module _ (v : Version) (hash : List ℕ → List ℕ) (sized : IsSized hash) (na
   pub saved_so : (done : Unit) → before.faults ≤ after.faults → after.reads ≡ before.reads
       → after.faults ≡ before.faults
       → IsChanged (with_file name) (saved (form_by v) hash tree batch) before.files after.files
-      → Saves name (map_of v hash tree batch) before after (Ok done)
+      → SavesFile name (map_of v hash tree batch) before after (Ok done)
   saved_so done faults same quiet changed = record {
     counts = record { faults = faults; reads = omega (arith, same) };
     unread = same;
@@ -558,9 +565,9 @@ module _ (v : Version) (hash : List ℕ → List ℕ) (sized : IsSized hash) (na
     );
   }
 
-  unsaved : (halt : Halt) → before.faults ≤ after.faults → after.reads ≡ before.reads → Stops before after halt
-      → Leaves (MayStand (form_by v) hash tree batch) name before.files after.files
-      → Saves name (map_of v hash tree batch) before after (Err halt)
+  unsaved : (halt : Halt) → before.faults ≤ after.faults → after.reads ≡ before.reads → StopsCommand before after halt
+      → LeavesFile (MayStand (form_by v) hash tree batch) name before.files after.files
+      → SavesFile name (map_of v hash tree batch) before after (Err halt)
   unsaved halt faults same stops left = record {
     counts = record { faults = faults; reads = omega (arith, same) };
     unread = same;
@@ -582,8 +589,8 @@ module _ (v : Version) (hash : List ℕ → List ℕ) (sized : IsSized hash) (na
 
   -- by why the shelf refused
   pub unsaved_by : (error : ShelfErr) → after.reads ≡ before.reads → SaveCauses {A = Unit} before after (Err error)
-      → Leaves (MayStand (form_by v) hash tree batch) name before.files after.files
-      → Saves name (map_of v hash tree batch) before after (Err (halt_of error))
+      → LeavesFile (MayStand (form_by v) hash tree batch) name before.files after.files
+      → SavesFile name (map_of v hash tree batch) before after (Err (halt_of error))
   unsaved_by shelf.Missing same causes left = unsaved halts.Shelf causes.faults same (causes.missing refl) left
   unsaved_by shelf.Fault same causes left = unsaved halts.Shelf causes.faults same (causes.fault refl) left
   unsaved_by shelf.NoMemory same causes left = unsaved halts.NoMemory causes.faults same tt left

@@ -4,12 +4,12 @@ use Rattle.std.specs.Prelude.{Option, Some, None, Result, Ok, Err}
 use Rattle.std.specs.Global.{Vec}
 use Rattle.mr_outside.specs.Files.{Files, file}
 use Rattle.mr_outside.specs.State.{Shelved}
-use Rattle.mr_record.specs.Answer.{Refuses}
+use Rattle.mr_record.specs.Answer.{RefusesText}
 use Rattle.mr_record.specs.declared.text_fault.TextErr.{TextErr}
 use Rattle.mr_record.specs.declared.text_fault.TextErr.TheVariants as texts
 use Rattle.mr_record.specs.declared.text_fault.TextFault.{TextFault}
 use Rattle.mr_command.specs.Counting.{pieces_of, reads_taken}
-use Rattle.mr_command.specs.Ending.{AreJudged, Comes, Reads}
+use Rattle.mr_command.specs.Ending.{AreJudged, RunsPlan, ReadsInput}
 use Rattle.mr_command.specs.Inputs.{FollowsBytes, FollowsText, GoesOnOrEnds, ReadsText, SaysText}
 use Rattle.mr_plan.specs.Lines.{bad_text_line}
 use Rattle.mr_plan.specs.Outcome.{Outcome}
@@ -26,7 +26,7 @@ use Rattle.mr_command.proofs.Plans.{stays}
 -- ---- an outcome that follows
 
 -- memory ran out before it came
-spent : (said : Outcome) (at : Shelved) → Comes (comes said) at at (Err halts.NoMemory)
+spent : (said : Outcome) (at : Shelved) → RunsPlan (comes said) at at (Err halts.NoMemory)
 spent said at = record {
   counts = record { faults = omega arith; reads = omega arith };
   judged = tt;
@@ -70,7 +70,7 @@ module _ (name : List ℕ) (next : List ℕ → Plan) (before after : Shelved)
       by_files None once = tt
       by_files (Some files) once = by_input (file files name) once
 
-  pub goes_needed : (read : Result (Vec ℕ) (Result Ending Halt)) → Reads name before after read
+  pub goes_needed : (read : Result (Vec ℕ) (Result Ending Halt)) → ReadsInput name before after read
       → GoesOnOrEnds (needs name next) (λ (bytes : Vec ℕ). next bytes.items) before after read
   goes_needed (Ok bytes) got = λ later result on.
       comes_on name next bytes.items before after later
@@ -93,23 +93,23 @@ module _ {A : Type 0} (values : List ℕ → Result (List A) TextFault) (name : 
   }
 
   -- its file was not read
-  pub text_unread : (came : Result Ending Halt) → Reads name before mid (Err came)
+  pub text_unread : (came : Result Ending Halt) → ReadsInput name before mid (Err came)
       → ReadsText values name before mid (Err came)
   text_unread came got next follows =
       goes_needed name (λ text. next (values text)) before mid (in_bytes next follows) (Err came) got
 
-  module _ (text : Vec ℕ) (got : Reads name before mid (Ok text)) where
+  module _ (text : Vec ℕ) (got : ReadsInput name before mid (Ok text)) where
     pub text_read : (v : Vec A) → values text.items ≡ Ok v.items → ReadsText values name before mid (Ok v)
     text_read v is next follows later result on =
         goes_needed name (λ bytes. next (values bytes)) before mid (in_bytes next follows) (Ok text) got later result
-        (subst (λ found. Comes (next found) mid later result) (sym is) on)
+        (subst (λ found. RunsPlan (next found) mid later result) (sym is) on)
 
-    pub text_refused : (error : TextErr) (came : Result Ending Halt) → Refuses error (values text.items)
+    pub text_refused : (error : TextErr) (came : Result Ending Halt) → RefusesText error (values text.items)
         → SaysText error came → ReadsText values name before mid (Err came)
     text_refused (texts.Text fault) came is says next follows =
         goes_needed name (λ bytes. next (values bytes)) before mid (in_bytes next follows) (Ok text) got mid came
-        (subst (λ plan. Comes plan mid mid came) (sym (ap next is ∙ follows.fault fault))
+        (subst (λ plan. RunsPlan plan mid mid came) (sym (ap next is ∙ follows.fault fault))
         (comes_given (ends BadText (bad_text_line fault)) mid came refl says))
     text_refused texts.NoMemory came is says next follows =
         goes_needed name (λ bytes. next (values bytes)) before mid (in_bytes next follows) (Ok text) got mid came
-        (subst (Comes (next (values text.items)) mid mid) (sym says) (follows.given_up (values text.items) mid))
+        (subst (RunsPlan (next (values text.items)) mid mid) (sym says) (follows.given_up (values text.items) mid))

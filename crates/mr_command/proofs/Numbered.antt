@@ -11,11 +11,11 @@ use Rattle.mr_record.specs.Sorting.{sorted_by_key}
 use Rattle.mr_record.specs.declared.record.Record.{Record}
 use Rattle.mr_pack.proofs.Natural.{sorted_map}
 use Rattle.mr_query.specs.Scan.{by_number}
-use Rattle.mr_command.specs.Listing.{items_of, seen, numbered}
-use Rattle.mr_command.specs.declared.listing.Numbered.{Numbered}
+use Rattle.mr_command.specs.private.Listing.{items_of, numbered_values, numbered}
+use Rattle.mr_command.specs.declared.list_command.Numbered.{Numbered}
 
 items_seen : (es : List Numbered) → map (λ (e : Numbered). e.item.now) es
-    ≡ map (λ (p : ℕ × Record). p.1) (map seen es)
+    ≡ map (λ (p : ℕ × Record). p.1) (map numbered_values es)
 items_seen [] = refl
 items_seen (e ∷ es) = ap (λ rs. e.item.now ∷ rs) (items_seen es)
 
@@ -30,12 +30,12 @@ items_cut es some others n front back =
     ap items_of (sym (take-append-drop n es)) ∙ map-append (λ (e : Numbered). e.item.now) (take n es) (drop n es)
     ∙ (λ i. items_of (sym front i) ++ items_of (sym back i))
 
-pub sorted_entries : (es : List Numbered) (rs : List Record) → map seen es ≡ map numbered rs
+pub sorted_entries : (es : List Numbered) (rs : List Record) → map numbered_values es ≡ map numbered rs
     → map (λ (e : Numbered). e.item.now) (sorted_by_key (λ (e : Numbered). e.number) es) ≡ by_number rs
 sorted_entries es rs same =
     items_seen (sorted_by_key (λ (e : Numbered). e.number) es)
     ∙ ap (map (λ (p : ℕ × Record). p.1))
-    (sym (sorted_map seen (λ (a b : Numbered). is_lt (nat_cmp a.number b.number))
+    (sym (sorted_map numbered_values (λ (a b : Numbered). is_lt (nat_cmp a.number b.number))
     (λ (a b : ℕ × Record). is_lt (nat_cmp a.0 b.0)) (λ a b. refl) es)
     ∙ ap (sorted_by_key (λ (p : ℕ × Record). p.0)) same
     ∙ sorted_map numbered (λ (a b : Record). is_lt (nat_cmp a.number b.number))

@@ -5,19 +5,19 @@ use Rattle.mr_outside.specs.Files.{Files, file}
 use Rattle.mr_outside.specs.Faults.{last_count}
 use Rattle.mr_outside.specs.State.{Shelved}
 use Rattle.mr_outside.specs.Told.{OfFile, OfFiles, MayMiss}
-use Rattle.mr_record.specs.Bytes.{AreBytes}
+use Rattle.mr_record.specs.private.Bytes.{AreBytes}
 use Rattle.mr_outside.specs.declared.shelf.Shelf as shelves
 use Rattle.mr_record.specs.declared.version.Version.{Version}
 use Rattle.mr_record.specs.declared.version.Version.TheVariants.{One, Two}
 use Rattle.mr_tree.specs.Digest.{by}
-use Rattle.mr_tree.specs.Nodes.{Standing, HasSomeCause}
+use Rattle.mr_tree.specs.Nodes.{MapModel, HasSomeCause}
 use Rattle.mr_tree.specs.WellFormed.{HasLayers}
 use Rattle.mr_tree.specs.declared.hash.Hashes as hashes
 use Rattle.mr_tree.specs.declared.nodes.NodesErr.{NodesErr}
 use Rattle.mr_tree.specs.declared.tree.Tree.{Tree}
 use Rattle.mr_pages.specs.File.{form_at, version_of}
-use Rattle.mr_pages.specs.Law.{Agrees, IsMap, IsMapFile, map_in}
-use Rattle.mr_pages.specs.Opening.{Fails, SomeFile, Tells, pages_in}
+use Rattle.mr_pages.specs.Law.{AgreesWithFault, IsMap, IsMapFile, map_in}
+use Rattle.mr_pages.specs.Opening.{FailsWithoutFault, SomeFile, TellsBytes, pages_in}
 use Rattle.mr_pages.specs.Page.{Form}
 use Rattle.mr_pages.specs.PageBytes.{form_by, page_size}
 use Rattle.mr_pages.specs.declared.error.MapErr.{MapErr}
@@ -37,8 +37,8 @@ use Rattle.mr_store.specs.Opening.{OpensMap, RefusesMap, TellsMap, page_total}
 use Rattle.mr_store.specs.Paged.{Keeps, ReadsFew as FewFetches, shelved, stands_for}
 use Rattle.mr_store.specs.Stored.{read_map, told_bytes}
 use Rattle.mr_store.specs.declared.paged.Paged.{Paged}
-use Rattle.mr_command.specs.Counting.{pieces_of, opened_beside, AllowsProve, IsFewOf, IsFewBeside, ReadsFew}
-use Rattle.mr_command.specs.Ending.{Comes, ComesAsSaid, ComesBut, with_reads, map_at, AreJudged, GivesOrStops, GoesOn, HoldsMap, IsBeside, IsJudged, KeepsProof, NoneFalls, ReadsOpened, SaysRefusal, Stops}
+use Rattle.mr_command.specs.Counting.{pieces_of, opened_beside, AllowsProve, IsFewOf, IsFewBeside, ReadsWithinPlan}
+use Rattle.mr_command.specs.Ending.{RunsPlan, ComesAsSaid, ComesBut, with_reads, map_at, AreJudged, IsEndingOrHalt, GoesOn, HasReadMap, IsBeside, IsJudged, KeepsProof, NoneFalls, ReadsOpened, SaysRefusal, StopsCommand}
 use Rattle.mr_command.specs.Inputs.{HasNoProofs, IsUnprovable, WasOpened}
 use Rattle.mr_plan.specs.First.{first, first_map}
 use Rattle.mr_plan.specs.Lines.{needs_version_2_line}
@@ -154,13 +154,13 @@ was_opened hash name before p o =
 
 module _ (hash : List ℕ → List ℕ) (sized : (xs : List ℕ) → length (hash xs) ≡ 32) (map : List ℕ)
     (before : Shelved) where
-  agreed : (bytes : List ℕ) → AreBytes bytes → Agrees (form_at bytes) hash bytes
+  agreed : (bytes : List ℕ) → AreBytes bytes → AgreesWithFault (form_at bytes) hash bytes
   agreed bytes all = agrees (form_at bytes) (form_by_is (version_of bytes)) hash sized bytes all
 
   judged : OfFile before.files map ⊤ AreBytes → IsJudged version_of hash before.files map
   judged are =
       is_judged version_of hash before.files map
-      (judged_of before.files map (λ bytes. Agrees (form_at bytes) hash bytes) agreed are) agreed
+      (judged_of before.files map (λ bytes. AgreesWithFault (form_at bytes) hash bytes) agreed are) agreed
 
   -- ---- a map that is not opened
 
@@ -181,7 +181,8 @@ module _ (hash : List ℕ → List ℕ) (sized : (xs : List ℕ) → length (has
     )
 
     are_there : OfFile before.files map ⊤ AreBytes
-    are_there = are_of before.files map (Fails (Err e)) (λ bytes. Tells (form_at bytes) hash bytes (Err e))
+    are_there = are_of before.files map (FailsWithoutFault (Err e))
+        (λ bytes. TellsBytes (form_at bytes) hash bytes (Err e))
         (λ bytes tells. tells.are) r.answers
 
     -- over files that are told, what follows on a map is not reached
@@ -200,14 +201,14 @@ module _ (hash : List ℕ → List ℕ) (sized : (xs : List ℕ) → length (has
         inl (subst (λ (x : MapErr). SomeFile hash (Err x)) is r.some),
         elim r.why.quiet [
           | inl same ↦ same
-          | inr fails ↦ absurd (subst (λ (x : MapErr). Fails (Err x)) is fails)
+          | inr fails ↦ absurd (subst (λ (x : MapErr). FailsWithoutFault (Err x)) is fails)
         ],
       );
     }
 
     pub refused : (may_say : Outcome → Type 0) (allows : Files → ℕ → Type 0) (next : Opened → Plan)
         → GoesOn next before.files → ((said : Outcome) → IsRefused hash map said → may_say said)
-        → ReadsFew allows before after → (result : Result Ending Halt) → SaysRefusal map e result
+        → ReadsWithinPlan allows before after → (result : Result Ending Halt) → SaysRefusal map e result
         → ComesAsSaid (needs_any_map hash map next) may_say allows before after result
     refused may_say allows next goes may few result says = by_files before.files refl
       where
@@ -225,7 +226,7 @@ module _ (hash : List ℕ → List ℕ) (sized : (xs : List ℕ) → length (has
   -- ---- a map that is opened
 
   -- what is known of it where its file is told
-  pub record HasMap (s : Standing) (after : Shelved) : Type 0 where
+  pub record HasMap (s : MapModel) (after : Shelved) : Type 0 where
     pub tree : Tree
     pub told : s.tree ≡ Some tree
     pub bytes : List ℕ
@@ -233,9 +234,9 @@ module _ (hash : List ℕ → List ℕ) (sized : (xs : List ℕ) → length (has
     -- it is read in the version that its bytes tell
     pub own : version_of bytes ≡ s.version
     pub stands : IsMapFile hash bytes (map_at s tree)
-    pub holds : (n : ℕ) → HoldsMap version_of hash map (with_reads n before) (with_reads n after) (map_at s tree)
+    pub holds : (n : ℕ) → HasReadMap version_of hash map (with_reads n before) (with_reads n after) (map_at s tree)
 
-  module _ (s : Standing) (after : Shelved) (w : WasOpened hash map before after s) where
+  module _ (s : MapModel) (after : Shelved) (w : WasOpened hash map before after s) where
     are_opened : OfFile before.files map ⊤ AreBytes
     are_opened = are_of before.files map ⊥ (λ bytes. TellsMap (form_at bytes) hash s bytes)
         (λ bytes tells. tells.2.are) w.answers
@@ -245,7 +246,7 @@ module _ (hash : List ℕ → List ℕ) (sized : (xs : List ℕ) → length (has
         let there = file_has before.files files map (λ bytes. TellsMap (form_at bytes) hash s bytes) told w.answers in
         let t = there.has.0 in
         let m : Opened = map_at s t in
-        let tells : Tells (form_at there.bytes) hash there.bytes (Ok m) = there.has.2 in
+        let tells : TellsBytes (form_at there.bytes) hash there.bytes (Ok m) = there.has.2 in
         let own : version_of there.bytes ≡ s.version =
         sym (tells.answers.0 ∙ version_by (version_of there.bytes)) in
         let is : IsMapFile hash there.bytes m =
@@ -259,8 +260,8 @@ module _ (hash : List ℕ → List ℕ) (sized : (xs : List ℕ) → length (has
           stands = is;
           holds = λ n.
               opens_map version_of hash map (with_reads n before) (with_reads n after) (judged are_opened) m (
-                of_input before.files files map there.bytes (Fails (Ok m))
-                    (λ bytes. Tells (form_at bytes) hash bytes (Ok m)) told there.input tells,
+                of_input before.files files map there.bytes (FailsWithoutFault (Ok m))
+                    (λ bytes. TellsBytes (form_at bytes) hash bytes (Ok m)) told there.input tells,
                 (there.bytes, tells.are, tells.answers),
                 record {
                   missing = λ is. absurd (cc);
@@ -277,7 +278,7 @@ module _ (hash : List ℕ → List ℕ) (sized : (xs : List ℕ) → length (has
     module _ (next : Opened → Plan) (goes : GoesOn next before.files) where
       -- what follows on the map
       pub told_on : (has : HasMap s after) (later : Shelved) (result : Result Ending Halt)
-          → Comes (next (map_at s has.tree)) (with_reads later.reads after) later result
+          → RunsPlan (next (map_at s has.tree)) (with_reads later.reads after) later result
           → ComesBut (needs_any_map hash map next) before later result
       told_on has later result on =
           comes_map version_of hash map next (with_reads later.reads before) (with_reads later.reads after) later
@@ -285,7 +286,7 @@ module _ (hash : List ℕ → List ℕ) (sized : (xs : List ℕ) → length (has
 
       -- the store or memory failed
       pub told_halted : (later : Shelved) (halt : Halt) → later.files ≡ after.files → before.faults ≤ later.faults
-          → Stops before later halt → ComesBut (needs_any_map hash map next) before later (Err halt)
+          → StopsCommand before later halt → ComesBut (needs_any_map hash map next) before later (Err halt)
       told_halted later halt kept faults stops =
           opens_halted version_of hash map (with_reads later.reads before) later (judged are_opened) halt
           (record { faults = faults; reads = omega arith }) (same_reads before.files map later.reads)
@@ -294,26 +295,26 @@ module _ (hash : List ℕ → List ℕ) (sized : (xs : List ℕ) → length (has
     -- what follows on a map that has proofs
     module _ (next : Opened → Plan) (goes : GoesOn next before.files) where
       pub first_on : s.version ≡ One → (has : HasMap s after) (later : Shelved) (result : Result Ending Halt)
-          → Comes (next (map_at s has.tree)) (with_reads later.reads after) later result
+          → RunsPlan (next (map_at s has.tree)) (with_reads later.reads after) later result
           → ComesBut (needs_map hash map next) before later result
       first_on first_is has later result on =
           told_on (λ m. at_first m.version (next m)) (goes_first next before.files goes) has later result
-          (subst (λ v. Comes (at_first v (next (map_at s has.tree))) (with_reads later.reads after) later result)
+          (subst (λ v. RunsPlan (at_first v (next (map_at s has.tree))) (with_reads later.reads after) later result)
           (sym first_is) on)
 
       pub first_halted : (later : Shelved) (halt : Halt) → later.files ≡ after.files → before.faults ≤ later.faults
-          → Stops before later halt → ComesBut (needs_map hash map next) before later (Err halt)
+          → StopsCommand before later halt → ComesBut (needs_map hash map next) before later (Err halt)
       first_halted =
           told_halted (λ m. at_first m.version (next m)) (goes_first next before.files goes)
 
       -- of a map of the second version it is said that it has none
       second_on : s.version ≡ Two → (has : HasMap s after) (result : Result Ending Halt)
-          → GivesOrStops (ends NeedsVersion2 needs_version_2_line) result
+          → IsEndingOrHalt (ends NeedsVersion2 needs_version_2_line) result
           → ComesBut (needs_map hash map next) before after result
       second_on second has result gives =
           let said = ends NeedsVersion2 needs_version_2_line in
           told_on (λ m. at_first m.version (next m)) (goes_first next before.files goes) has after result
-          (subst (λ v. Comes (at_first v (next (map_at s has.tree))) (with_reads after.reads after) after result)
+          (subst (λ v. RunsPlan (at_first v (next (map_at s has.tree))) (with_reads after.reads after) after result)
           (sym second)
           (comes_but said after after result (comes_given said after result refl gives)))
 
@@ -322,7 +323,7 @@ module _ (hash : List ℕ → List ℕ) (sized : (xs : List ℕ) → length (has
       (goes : GoesOn next before.files) (refused_may : (said : Outcome) → IsRefused hash map said → may_say said)
       (lacks_may : (said : Outcome) → LacksProofs said → may_say said) (after : Shelved)
       (result : Result Ending Halt) where
-    lacking : HasNoProofs hash map before after result → ReadsFew allows before after
+    lacking : HasNoProofs hash map before after result → ReadsWithinPlan allows before after
         → ComesAsSaid (needs_map hash map next) may_say allows before after result
     lacking is few = by_files before.files refl
       where
@@ -346,7 +347,7 @@ module _ (hash : List ℕ → List ℕ) (sized : (xs : List ℕ) → length (has
 
     pub unprovable : IsUnprovable hash map before after result
         → (OfFile before.files map (after.reads ≡ before.reads) (λ bytes. after.reads ≤ before.reads + pages_in bytes)
-        → ReadsFew allows before after)
+        → ReadsWithinPlan allows before after)
         → ComesAsSaid (needs_map hash map next) may_say allows before after result
     unprovable (inl is) few =
         refused after is.error is.refuses may_say allows (λ m. at_first m.version (next m))
@@ -503,7 +504,7 @@ unread_of told files said r t is few more =
 
 pub proving_unopened : (hash : List ℕ → List ℕ) (map : List ℕ) (q : Query) (before after : Shelved)
     → OfFile before.files map (after.reads ≡ before.reads) (λ bytes. after.reads ≤ before.reads + pages_in bytes)
-    → ReadsFew (AllowsProve hash map q) before after
+    → ReadsWithinPlan (AllowsProve hash map q) before after
 proving_unopened hash map q before after few =
     few_refused before.files map before.reads after.reads (λ files bytes n. IsFewOf hash q bytes n)
     (λ files bytes. inl (omega arith)) few
@@ -526,7 +527,7 @@ module _ {S H : Type 0} {G : shelves.Ghosts S} {K : hashes.Ghosts H} (hash : Lis
   abbrev allows : Files → ℕ → Type 0
   allows = AllowsProve hash map q
 
-  abbrev s : Standing
+  abbrev s : MapModel
   s = stands_for p
 
   abbrev mid : Shelved
@@ -541,7 +542,7 @@ module _ {S H : Type 0} {G : shelves.Ghosts S} {K : hashes.Ghosts H} (hash : Lis
   -- the reads, as nothing is read for the output
   few_proved : after.reads ≡ end.reads → (files : Files) → before.files ≡ Some files
       → HasMap hash sized map before s mid
-      → ReadsFew allows before after
+      → ReadsWithinPlan allows before after
   few_proved unread files told has =
       let is = counted hash sized map before p o first_is files told has in
       let bound = subst (λ o. IfSome o (λ t. p'.fetches ≤ p.fetches + rounds q * opened (by s.version hash) t q))
@@ -588,9 +589,9 @@ module _ {S H : Type 0} {G : shelves.Ghosts S} {K : hashes.Ghosts H} (hash : Lis
           comes_told plan may allows before after files told result counts.reads
           (few_proved unread files told has)
           (first_on hash sized map before s mid w on_map (λ m. tt) first_is has after result
-          (subst (λ o. Comes (comes o) (with_reads after.reads mid) after result)
+          (subst (λ o. RunsPlan (comes o) (with_reads after.reads mid) after result)
           (says_proof hash q proof m text.bytes.items own_first)
-          (subst (λ w. Comes (comes said) w after result) (with_same after.reads mid end kept.files calm)
+          (subst (λ w. RunsPlan (comes said) w after result) (with_same after.reads mid end kept.files calm)
           (comes_but said end after result keeps))))
   proved (Err e) result written cause calm keeps =
       subst (λ w. ComesAsSaid plan may allows before w result) (sym keeps.0)
@@ -614,7 +615,7 @@ module _ {S H : Type 0} {G : shelves.Ghosts S} {K : hashes.Ghosts H} (hash : Lis
           subst (ComesAsSaid plan may allows before end) (sym stop.is)
           (comes_told plan may allows before end files told (Err stop.halt)
           counts.reads
-          (subst (λ w. ReadsFew allows before w) keeps.0
+          (subst (λ w. ReadsWithinPlan allows before w) keeps.0
           (few_proved (ap (λ (w : Shelved). w.reads) keeps.0) files told has))
           (first_halted hash sized map before s mid w on_map (λ m. tt) end stop.halt kept.files
           counts.faults stop.stops))

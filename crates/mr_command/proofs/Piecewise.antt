@@ -9,8 +9,8 @@ use Rattle.mr_outside.specs.Writing.{IsChanged, IsChangedPartly}
 use Rattle.mr_outside.specs.declared.shelf.ShelfErr.{ShelfErr}
 use Rattle.mr_outside.proofs.Changes.{IsChanged-grown}
 use Rattle.mr_bundle.specs.Bundle.{bundle_of, part_bytes}
-use Rattle.mr_command.specs.Bundled.{IsGivenUp, IsMade}
-use Rattle.mr_command.specs.Ending.{Saves, halt_of}
+use Rattle.mr_command.specs.private.Bundled.{IsGivenUp, HasMadeText}
+use Rattle.mr_command.specs.Ending.{SavesFile, halt_of}
 use Rattle.mr_plan.specs.Outcome.{text}
 use Rattle.mr_command.specs.declared.ending.Halt.{Halt}
 use Rattle.mr_command.specs.declared.ending.Halt.TheVariants as halts
@@ -24,9 +24,9 @@ between : (a b c d : List ℕ) → (a ++ (b ++ c)) ++ d ≡ (a ++ b) ++ (c ++ d)
 between a b c d = simp append_assoc
 
 module _ (name : List ℕ) (before : Shelved) where
-  module _ (made waits : List ℕ) (now : Shelved) (is : IsMade name made waits before now) where
+  module _ (made waits : List ℕ) (now : Shelved) (is : HasMadeText name made waits before now) where
     -- more was made, and waits
-    pub more_made : (part more : List ℕ) → more ≡ waits ++ part → IsMade name (made ++ part) more before now
+    pub more_made : (part more : List ℕ) → more ≡ waits ++ part → HasMadeText name (made ++ part) more before now
     more_made part more put = record {
       front = is.front;
       joined = ap (λ w. is.front ++ w) put ∙ sym (append_assoc is.front waits part) ∙ ap (λ m. m ++ part) is.joined;
@@ -43,7 +43,7 @@ module _ (name : List ℕ) (before : Shelved) where
         (IsChanged-grown name is.front waits before.files now.files after.files is.put put)
 
     pub none_waits : (left : List ℕ) (after : Shelved) → IsChanged (grown name) waits now.files after.files
-        → after.faults ≡ now.faults → after.reads ≡ now.reads → left ≡ [] → IsMade name made left before after
+        → after.faults ≡ now.faults → after.reads ≡ now.reads → left ≡ [] → HasMadeText name made left before after
     none_waits left after put faults reads none = record {
       front = made;
       joined = ap (λ w. made ++ w) none ∙ append-nil made;
@@ -89,23 +89,23 @@ module _ (name : List ℕ) (before : Shelved) where
 
     -- so it is, whatever was to follow
     pub unput_all : (after : Shelved) (halt : Halt) → IsGivenUp name made before after halt
-        → Saves name (text made) before after (Err halt)
+        → SavesFile name (text made) before after (Err halt)
     unput_all after halt up =
-        subst (λ bytes. Saves name (text bytes) before after (Err halt)) (append-nil made) (up [])
+        subst (λ bytes. SavesFile name (text bytes) before after (Err halt)) (append-nil made) (up [])
 
   -- ---- the bundle of a list
 
   pub begun : (waits : List ℕ) (now : Shelved) → waits ≡ [] → IsChanged (with_file name) [] before.files now.files
-      → now.faults ≡ before.faults → now.reads ≡ before.reads → IsMade name (bundle_of []) waits before now
+      → now.faults ≡ before.faults → now.reads ≡ before.reads → HasMadeText name (bundle_of []) waits before now
   begun waits now none put faults reads =
       record { front = []; joined = none ∙ sym bundle_none; put = put; faults = faults; reads = reads }
 
   pub all_made : (list : List (List ℕ)) (n : ℕ) (waits bytes : List ℕ) (now : Shelved) → length list ≤ n
-      → bytes ≡ waits → IsMade name (bundle_of (take n list)) waits before now
-      → IsMade name (bundle_of list) bytes before now
+      → bytes ≡ waits → HasMadeText name (bundle_of (take n list)) waits before now
+      → HasMadeText name (bundle_of list) bytes before now
   all_made list n waits bytes now past same is =
-      subst (λ l. IsMade name (bundle_of l) bytes before now) (take_all n list past)
-      (subst (λ b. IsMade name (bundle_of (take n list)) b before now) (sym same) is)
+      subst (λ l. HasMadeText name (bundle_of l) bytes before now) (take_all n list past)
+      (subst (λ b. HasMadeText name (bundle_of (take n list)) b before now) (sym same) is)
 
 -- one proof more
 pub bundle_more : (list : List (List ℕ)) (i : ℕ) (p : List ℕ) → i < length list → p ≡ get_or list i p
@@ -138,6 +138,6 @@ size_more list i p size here is so_far =
 -- what was made, or that it was given up
 pub given_up : (name made waits : List ℕ) (before after : Shelved) (result : Result (Unit {0}) Halt) (halt : Halt)
     → IsErrAnd result (λ h. h ≡ halt) → IsGivenUp name made before after halt
-    → MatchResult result (λ done. IsMade name made waits before after) (IsGivenUp name made before after)
+    → MatchResult result (λ done. HasMadeText name made waits before after) (IsGivenUp name made before after)
 given_up name made waits before after (Ok done) halt is up = absurd is
 given_up name made waits before after (Err h) halt is up = subst (IsGivenUp name made before after) (sym is) up

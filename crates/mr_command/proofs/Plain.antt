@@ -4,7 +4,7 @@ use Rattle.std.specs.Prelude.{All, Option, Some, None, Result, Ok, Err}
 use Rattle.std.specs.List.{AllByRecursion}
 use Rattle.std.proofs.lemmas.List.Elements.{All-nil, All-append, All-filter, All-take, All-drop, recursion_from_All, All-from_recursion}
 use Rattle.mr_record.proofs.Encodings.{IsBytes-from}
-use Rattle.mr_record.specs.Bytes.{AreBytes}
+use Rattle.mr_record.specs.private.Bytes.{AreBytes}
 use Rattle.mr_record.specs.Record.{HasLayer}
 use Rattle.mr_record.specs.declared.record.Record.{Record}
 use Rattle.mr_record.specs.declared.version.Version.TheVariants.{One}
@@ -13,12 +13,12 @@ use Rattle.mr_query.specs.Region.{touches}
 use Rattle.mr_query.specs.Scan.{scan}
 use Rattle.mr_query.specs.declared.query.Query.{Query}
 use Rattle.mr_query.specs.declared.query.Query.TheVariants.{Window, Nearest}
-use Rattle.mr_tree.specs.Nodes.{Standing}
+use Rattle.mr_tree.specs.Nodes.{MapModel}
 use Rattle.mr_proof.specs.Clash.{Pair}
 use Rattle.mr_proof.specs.Cut as cut
 use Rattle.mr_proof.specs.Cut.{Cut, Cuts, Pruned, Leaf, Inner, no_more, first}
 use Rattle.mr_proof.specs.Reading.{◌>>=◌, checked, ending, verdict}
-use Rattle.mr_proof.specs.Spelling.{FitCuts, FitsCut, FitsPart, Said, opened_records}
+use Rattle.mr_proof.specs.Spelling.{FitCuts, FitsCut, FitsPart, Parsed, opened_records}
 use Rattle.mr_proof.specs.Tight.{Question, question}
 use Rattle.mr_proof.specs.declared.head.Head.{Head}
 use Rattle.mr_proof.specs.declared.rule.Fault.{Fault}
@@ -63,21 +63,22 @@ scan_layers rs (Nearest p k) all =
 same_answer : (a b : List Record) → ◌≡◌ {A = Result (List Record) Fault} (Ok a) (Ok b) → a ≡ b
 same_answer a b e = cc
 
-checked_layers : (hash : List ℕ → List ℕ) (root : List ℕ) (a : Question) (bytes : List ℕ) (x : Said) → AreBytes bytes
+checked_layers : (hash : List ℕ → List ℕ) (root : List ℕ) (a : Question) (bytes : List ℕ) (x : Parsed) → AreBytes bytes
     → checked hash root a bytes ≡ Ok x → All (HasLayer One) (opened_records x.part)
 unfolding checked
 checked_layers hash root a bytes x are is =
     let t = take_whole true (ending hash root a) a.kind a.way bytes x
     (IsBytes-from bytes are) is in
     let same = (take_end hash root a t.value t.end x t.rest).3 in
-    subst (λ (y : Said). All (HasLayer One) (opened_records y.part)) same (part_layers t.value.head t.value.part t.part)
+    subst (λ (y : Parsed). All (HasLayer One) (opened_records y.part)) same
+    (part_layers t.value.head t.value.part t.part)
 
 pub answer_layers : (hash : List ℕ → List ℕ) (root : List ℕ) (q : Query) (bytes : List ℕ) (answer : List Record)
     → AreBytes bytes → verdict hash root q bytes ≡ Ok answer → All (HasLayer One) answer
 unfolding verdict
 answer_layers hash root q bytes answer are is = at (checked hash root (question q) bytes) refl is
   where
-    at : (r : Result Said Fault) → checked hash root (question q) bytes ≡ r
+    at : (r : Result Parsed Fault) → checked hash root (question q) bytes ≡ r
         → (r >>= λ x. Ok (scan (opened_records x.part) q)) ≡ Ok answer → All (HasLayer One) answer
     at (Err f) was e = absurd cc
     at (Ok x) was e =
@@ -97,7 +98,7 @@ of_verdict hash root q bytes (Err f) pair are is = tt
 of_verdict hash root q bytes (Ok answer) pair are is =
     by_pair answer pair (answer_layers hash root q bytes answer are is)
 
-pub finding_layers : (hash : List ℕ → List ℕ) (s : Standing) (q : Query) (bytes : List ℕ) (f : Finding)
+pub finding_layers : (hash : List ℕ → List ℕ) (s : MapModel) (q : Query) (bytes : List ℕ) (f : Finding)
     → AreBytes bytes → FindsFor hash s q bytes f → HasPlainAnswer f
 finding_layers hash s q bytes f are finds =
     let root = hash (root_at finds.0) in

@@ -2,10 +2,10 @@
 use Rattle.std.proofs.Common.{◌≡◌, ℕ, List, [], refl, sym, ap, subst, ◌∙◌, inl, inr, rules}
 use Rattle.std.specs.Prelude.{Option, Some, None, option_map}
 use Rattle.mr_outside.specs.Files.{Files, file, with_file}
-use Rattle.mr_record.specs.Bytes.{AreBytes}
-use Rattle.mr_command.specs.Ending.{AreJudged, Ends, GivesUp}
-use Rattle.mr_plan.specs.Outcome.{Outcome, Written, Nothing, File, InPlace, IsLeft, MayLeave}
-use Rattle.mr_plan.specs.Plan.{Plan, comes, reads, opens, seeks, Input, IsInput, IsSought, LacksInput, Leads, IsOutcomeOver}
+use Rattle.mr_record.specs.private.Bytes.{AreBytes}
+use Rattle.mr_command.specs.Ending.{AreJudged, EndsPlan, GivesUpPlan}
+use Rattle.mr_plan.specs.Outcome.{Outcome, Written, Nothing, File, InPlace, LeavesWritten, MayLeave}
+use Rattle.mr_plan.specs.Plan.{Plan, comes, reads, opens, seeks, Input, IsInput, IsSought, LacksInput, LeadsToOutcome, IsOutcomeOver}
 use Rattle.mr_plan.specs.declared.status.Status.{Status}
 use Rattle.mr_plan.proofs.InPlace.{untold_beside}
 use Rattle.mr_command.proofs.Showing.{found_in, one_found}
@@ -24,7 +24,8 @@ sought_of None name = ([], all_none)
 sought_of (Some files) name = (_, refl)
 
 -- each plan leads to an outcome
-pub leads_on : (plan : Plan) (told : Option Files) → AreJudged plan told → (said : Outcome) × Leads plan told said
+pub leads_on : (plan : Plan) (told : Option Files) → AreJudged plan told → (said : Outcome) × LeadsToOutcome plan
+    told said
 leads_on (comes said) told judged = (said, refl)
 leads_on (reads name next) told judged =
     let input = input_of told name in
@@ -41,14 +42,14 @@ leads_on (seeks name next) told judged =
 
 -- and over files that are told, to one
 pub one_outcome : (plan : Plan) (files : Files) → AreJudged plan (Some files) → (said : Outcome)
-    → Leads plan (Some files) said → IsOutcomeOver plan files said
+    → LeadsToOutcome plan (Some files) said → IsOutcomeOver plan files said
 one_outcome (comes meant) files judged said leads = leads
 one_outcome (reads name next) files judged said leads =
     one_outcome (next (file files name)) files (judged (file files name) refl) said
-    (subst (λ input. Leads (next input) (Some files) said) (sym leads.1) leads.2)
+    (subst (λ input. LeadsToOutcome (next input) (Some files) said) (sym leads.1) leads.2)
 one_outcome (opens v hash bytes next) files judged said leads = λ found shown.
     one_outcome (next found) files (judged.1 found shown) said
-    (subst (λ f. Leads (next f) (Some files) said)
+    (subst (λ f. LeadsToOutcome (next f) (Some files) said)
     (one_found v hash bytes judged.0 leads.0 found leads.1 shown) leads.2)
 one_outcome (seeks name next) files judged said leads =
     subst (λ bytes. IsOutcomeOver (next bytes) files said) (sym leads.1)
@@ -58,13 +59,13 @@ one_outcome (seeks name next) files judged said leads =
 pub record HasEnded (plan : Plan) (before after : Option Files) (status : Status) (text : List ℕ)
     : Type 0 where
   pub said : Outcome
-  pub leads : Leads plan before said
+  pub leads : LeadsToOutcome plan before said
   pub status_is : status ≡ said.status
   pub text_is : text ≡ said.printed
-  pub files : IsLeft said.written before after
+  pub files : LeavesWritten said.written before after
 
 pub ended_so : (plan : Plan) (before after : Option Files) (status : Status) (text : List ℕ)
-    → Ends plan before after status text → HasEnded plan before after status text
+    → EndsPlan plan before after status text → HasEnded plan before after status text
 ended_so (comes said) before after status text ends = record
     { said = said; leads = refl; status_is = ends.0; text_is = ends.1; files = ends.2 }
 ended_so (reads name next) before after status text ends =
@@ -98,7 +99,7 @@ ended_so (seeks name next) before after status text ends =
 -- an outcome that was not reached, with the files left as it allows
 pub record HasGivenUp (plan : Plan) (before after : Option Files) : Type 0 where
   pub said : Outcome
-  pub leads : Leads plan before said
+  pub leads : LeadsToOutcome plan before said
   pub files : MayLeave said.written before after
 
 pub stays : (written : Written) (before after : Option Files) → after ≡ before
@@ -118,7 +119,7 @@ last_leaves (InPlace map journal held content) before after none (inl same) = sa
 last_leaves (InPlace map journal held content) before after none (inr beside) =
     untold_beside map journal before after none beside.0
 
-pub given_up : (plan : Plan) (before after : Option Files) → AreJudged plan before → GivesUp plan before after
+pub given_up : (plan : Plan) (before after : Option Files) → AreJudged plan before → GivesUpPlan plan before after
     → HasGivenUp plan before after
 given_up (comes said) before after judged up = record { said = said; leads = refl; files = up }
 given_up (reads name next) before after judged (inl same) =
@@ -148,7 +149,7 @@ lacks_none (opens v hash bytes next) lacks = lacks_none (next lacks.0) lacks.2
 lacks_none (seeks name next) lacks = lacks_none (next lacks.0) lacks.2
 
 -- no file is left otherwise
-pub up_none : (plan : Plan) (after : Option Files) → GivesUp plan None after → after ≡ None
+pub up_none : (plan : Plan) (after : Option Files) → GivesUpPlan plan None after → after ≡ None
 up_none (comes said) after up = last_leaves said.written None after refl up
 up_none (reads name next) after (inl same) = same
 up_none (reads name next) after (inr on) = up_none (next on.0) after on.2

@@ -6,7 +6,7 @@ use Rattle.mr_outside.specs.Faults.{Rose}
 use Rattle.mr_outside.specs.Files.{Files}
 use Rattle.mr_outside.specs.State.{Shelved}
 use Rattle.mr_outside.specs.Told.{OfFiles}
-use Rattle.mr_tree.specs.Nodes.{Standing, HasSomeCause}
+use Rattle.mr_tree.specs.Nodes.{MapModel, HasSomeCause}
 use Rattle.mr_tree.specs.declared.nodes.NodesErr.{NodesErr}
 use Rattle.mr_tree.specs.declared.nodes.NodesErr.TheVariants as nodes
 use Rattle.mr_tree.specs.declared.tree.Tree.{Tree}
@@ -14,11 +14,11 @@ use Rattle.mr_pages.specs.declared.error.MapErr.{MapErr}
 use Rattle.mr_pages.specs.declared.error.MapErr.TheVariants as errors
 use Rattle.mr_pages.specs.declared.rule.MapFault.{MapFault}
 use Rattle.mr_pages.specs.declared.rule.MapRule.TheVariants as rule
-use Rattle.mr_command.specs.Counting.{AllowsReads, MayRead, ReadsFew}
-use Rattle.mr_command.specs.Ending.{Comes, ComesAsSaid, ComesBut, with_reads, Came, CameAsSaid, Ends, EndsAsSaid, GivesOrStops, GivesUp, GivesUpAsSaid, AreJudged, Blames, IsCalm, IsCarriedOut, NoneFalls, Stops, SaysRefusal, SaysUntold, printed_of}
+use Rattle.mr_command.specs.Counting.{AllowsReads, MayRead, ReadsWithinPlan}
+use Rattle.mr_command.specs.Ending.{RunsPlan, ComesAsSaid, ComesBut, with_reads, Came, CameAsSaid, EndsPlan, EndsAsSaid, IsEndingOrHalt, GivesUpPlan, GivesUpAsSaid, AreJudged, BlamesOutside, IsCalm, IsCarriedOut, NoneFalls, StopsCommand, SaysRefusal, SaysUntold, printed_of}
 use Rattle.mr_plan.specs.Found.{as_map_error, bad_map_line}
-use Rattle.mr_plan.specs.Outcome.{Outcome, Nothing, IsLeft, MayLeave}
-use Rattle.mr_plan.specs.Plan.{Plan, comes, LacksInput, Leads}
+use Rattle.mr_plan.specs.Outcome.{Outcome, Nothing, LeavesWritten, MayLeave}
+use Rattle.mr_plan.specs.Plan.{Plan, comes, LacksInput, LeadsToOutcome}
 use Rattle.mr_plan.specs.Say.{ends, needs, say, says_missing}
 use Rattle.mr_plan.specs.Spelling.{AsksAs}
 use Rattle.mr_plan.specs.Untold.{IsSomeFault, IsRefused, MaySayUntold}
@@ -35,14 +35,14 @@ use Rattle.mr_command.proofs.Plans.{ended_so, lacks_none, last_leaves, leads_on,
 
 -- ---- another count of reads
 
-pub stops_with : (n : ℕ) (before after : Shelved) (halt : Halt) → Stops before after halt
-    → Stops (with_reads n before) after halt
+pub stops_with : (n : ℕ) (before after : Shelved) (halt : Halt) → StopsCommand before after halt
+    → StopsCommand (with_reads n before) after halt
 stops_with n before after halts.Words stops = stops
 stops_with n before after halts.Shelf stops = stops
 stops_with n before after halts.NoMemory stops = stops
 
-stops_from : (n : ℕ) (before after : Shelved) (halt : Halt) → Stops (with_reads n before) after halt
-    → Stops before after halt
+stops_from : (n : ℕ) (before after : Shelved) (halt : Halt) → StopsCommand (with_reads n before) after halt
+    → StopsCommand before after halt
 stops_from n before after halts.Words stops = stops
 stops_from n before after halts.Shelf stops = stops
 stops_from n before after halts.NoMemory stops = stops
@@ -53,8 +53,8 @@ module _ (plan : Plan) (n : ℕ) (before after : Shelved) where
   came_with (Ok ending) came = came
   came_with (Err halt) came = (stops_with n before after halt came.0, came.1)
 
-  blames_with : (result : Result Ending Halt) → Blames plan before after result
-      → Blames plan (with_reads n before) after result
+  blames_with : (result : Result Ending Halt) → BlamesOutside plan before after result
+      → BlamesOutside plan (with_reads n before) after result
   blames_with (Ok ending) blames = blames
   blames_with (Err halt) blames = tt
 
@@ -64,7 +64,7 @@ module _ (plan : Plan) (n : ℕ) (before after : Shelved) where
 
 -- the last step, which reads nothing
 pub comes_but : (said : Outcome) (before after : Shelved) (result : Result Ending Halt)
-    → Comes (comes said) before after result → ComesBut (comes said) before after result
+    → RunsPlan (comes said) before after result → ComesBut (comes said) before after result
 comes_but said before after result on = record {
   counts = record { faults = on.counts.faults; reads = omega arith };
   judged = tt;
@@ -76,7 +76,7 @@ comes_but said before after result on = record {
 
 -- the same of a command that reads one file more
 pub needs_but : (name : List ℕ) (next : List ℕ → Plan) (before after : Shelved) (result : Result Ending Halt)
-    → Comes (needs name next) before after result → ComesBut (needs name next) before after result
+    → RunsPlan (needs name next) before after result → ComesBut (needs name next) before after result
 needs_but name next before after result on = record {
   counts = record { faults = on.counts.faults; reads = omega arith };
   judged = on.judged;
@@ -95,15 +95,15 @@ module _ (plan : Plan) (may : Outcome → Type 0) (allows : Files → ℕ → Ty
         → CameAsSaid plan may before after result
     told_came (Ok ending) came =
         subst (λ o. EndsAsSaid plan may o after.files ending.status (printed_of ending)) (sym told)
-        (subst (λ o. Ends plan o after.files ending.status (printed_of ending)) told came)
+        (subst (λ o. EndsPlan plan o after.files ending.status (printed_of ending)) told came)
     told_came (Err halt) came = (
       stops_from after.reads before after halt came.0,
       subst (λ o. GivesUpAsSaid plan may o after.files) (sym told)
-          (subst (λ o. GivesUp plan o after.files) told came.1),
+          (subst (λ o. GivesUpPlan plan o after.files) told came.1),
     )
 
-    told_blames : (result : Result Ending Halt) → Blames plan (with_reads after.reads before) after result
-        → Blames plan before after result
+    told_blames : (result : Result Ending Halt) → BlamesOutside plan (with_reads after.reads before) after result
+        → BlamesOutside plan before after result
     told_blames (Ok ending) blames = blames
     told_blames (Err halt) blames = tt
 
@@ -112,7 +112,7 @@ module _ (plan : Plan) (may : Outcome → Type 0) (allows : Files → ℕ → Ty
     told_calm (Ok ending) calm = calm
     told_calm (Err halt) calm = tt
 
-    pub comes_told : (result : Result Ending Halt) → before.reads ≤ after.reads → ReadsFew allows before after
+    pub comes_told : (result : Result Ending Halt) → before.reads ≤ after.reads → ReadsWithinPlan allows before after
         → ComesBut plan before after result → ComesAsSaid plan may allows before after result
     comes_told result reads few on = record {
       counts = record { faults = on.counts.faults; reads = reads };
@@ -131,12 +131,12 @@ module _ (plan : Plan) (may : Outcome → Type 0) (allows : Files → ℕ → Ty
         → CameAsSaid plan may before after result
     untold_came (Ok ending) says =
         subst (λ o. EndsAsSaid plan may o after.files ending.status (printed_of ending)) (sym none)
-        (says.0, says.1, says.2, says.3, subst (λ o. IsLeft says.0.written o after.files) none says.4)
+        (says.0, says.1, says.2, says.3, subst (λ o. LeavesWritten says.0.written o after.files) none says.4)
     untold_came (Err halt) says =
         (says.0, subst (λ o. GivesUpAsSaid plan may o after.files) (sym none) ((says.1 ∙ none), some))
 
     untold_blames : (result : Result Ending Halt) → SaysUntold may before after result
-        → Blames plan before after result
+        → BlamesOutside plan before after result
     untold_blames (Ok ending) says = λ outside. inl (says.5 outside)
     untold_blames (Err halt) says = tt
 
@@ -160,13 +160,13 @@ module _ (plan : Plan) (may : Outcome → Type 0) (allows : Files → ℕ → Ty
 pub says_last : (may_say : Outcome → Type 0) (said : Outcome) (before between after : Shelved)
     (result : Result Ending Halt) → may_say said → before.files ≡ None → between.files ≡ before.files
     → between.faults ≡ before.faults
-    → Comes (comes said) between after result → SaysUntold may_say before after result
+    → RunsPlan (comes said) between after result → SaysUntold may_say before after result
 says_last may_say said before between after (Ok ending) may none files faults on = (
   said,
   may,
   on.came.0,
   on.came.1,
-  subst (λ o. IsLeft said.written o after.files) files on.came.2,
+  subst (λ o. LeavesWritten said.written o after.files) files on.came.2,
   λ outside. elim (on.outside outside) [
     | inl rose ↦ subst (λ n. Rose n after.faults) faults rose
     | inr lacks ↦ absurd lacks
@@ -179,7 +179,7 @@ says_last may_say said before between after (Err halt) may none files faults on 
       (subst (λ o. MayLeave said.written o after.files) files on.came.1),
 )
   where
-    stops_after : (halt : Halt) → Stops between after halt → Stops before after halt
+    stops_after : (halt : Halt) → StopsCommand between after halt → StopsCommand before after halt
     stops_after halts.Words stops = stops
     stops_after halts.Shelf stops = subst (λ n. Rose n after.faults) faults stops
     stops_after halts.NoMemory stops = stops
@@ -187,23 +187,23 @@ says_last may_say said before between after (Err halt) may none files faults on 
 -- the same of an outcome that writes no file, where no fault was counted
 pub says_given : (may_say : Outcome → Type 0) (said : Outcome) (before after : Shelved) → may_say said
     → said.written ≡ Nothing → after.files ≡ before.files → after.faults ≡ before.faults
-    → (result : Result Ending Halt) → GivesOrStops said result → SaysUntold may_say before after result
+    → (result : Result Ending Halt) → IsEndingOrHalt said result → SaysUntold may_say before after result
 says_given may_say said before after may writes files quiet (Ok ending) gives = (
   said,
   may,
   gives.status,
   gives.printed,
-  subst (λ w. IsLeft w before.files after.files) (sym writes) files,
+  subst (λ w. LeavesWritten w before.files after.files) (sym writes) files,
   λ outside. absurd (gives.settled.0 outside),
   λ settled. quiet,
 )
 says_given may_say said before after may writes files quiet (Err halt) is =
-    (subst (Stops before after) (sym is) tt, files)
+    (subst (StopsCommand before after) (sym is) tt, files)
 
 -- ---- a command that is its plan over any files
 
 module _ (plan : Plan) (before after : Shelved) where
-  but_reads : (result : Result Ending Halt) → Comes plan before after result → ComesBut plan before after result
+  but_reads : (result : Result Ending Halt) → RunsPlan plan before after result → ComesBut plan before after result
   but_reads result on = record {
     counts = record { faults = on.counts.faults; reads = omega arith };
     judged = on.judged;
@@ -220,16 +220,16 @@ module _ (plan : Plan) (before after : Shelved) where
       at_end (Some files) few = (few.0, omega arith, few.2)
 
   -- what it says over files that are not told
-  says_plan : (result : Result Ending Halt) → before.files ≡ None → Comes plan before after result
-      → SaysUntold (Leads plan None) before after result
+  says_plan : (result : Result Ending Halt) → before.files ≡ None → RunsPlan plan before after result
+      → SaysUntold (LeadsToOutcome plan None) before after result
   says_plan (Ok ending) none on =
       let so = ended_so plan None after.files ending.status (printed_of ending)
-      (subst (λ o. Ends plan o after.files ending.status (printed_of ending)) none on.came) in (
+      (subst (λ o. EndsPlan plan o after.files ending.status (printed_of ending)) none on.came) in (
         so.said,
         so.leads,
         so.status_is,
         so.text_is,
-        subst (λ o. IsLeft so.said.written o after.files) (sym none) so.files,
+        subst (λ o. LeavesWritten so.said.written o after.files) (sym none) so.files,
         λ outside. elim (on.outside outside) [
           | inl rose ↦ rose
           | inr lacks ↦ absurd (lacks_none plan (subst (LacksInput plan) none lacks))
@@ -237,12 +237,12 @@ module _ (plan : Plan) (before after : Shelved) where
         on.quiet,
       )
   says_plan (Err halt) none on =
-      (on.came.0, up_none plan after.files (subst (λ o. GivesUp plan o after.files) none on.came.1) ∙ sym none)
+      (on.came.0, up_none plan after.files (subst (λ o. GivesUpPlan plan o after.files) none on.came.1) ∙ sym none)
 
   pub comes_plain : (may : Outcome → Type 0) (allows : Files → ℕ → Type 0) (result : Result Ending Halt)
-      → ((said : Outcome) → Leads plan None said → may said)
+      → ((said : Outcome) → LeadsToOutcome plan None said → may said)
       → ((files : Files) (n : ℕ) → AllowsReads plan files n → allows files n)
-      → Comes plan before after result → ComesAsSaid plan may allows before after result
+      → RunsPlan plan before after result → ComesAsSaid plan may allows before after result
   comes_plain may allows result says few on = by_files before.files refl
     where
       few_so : (o : Option Files)
@@ -251,7 +251,7 @@ module _ (plan : Plan) (before after : Shelved) where
       few_so None allowed = tt
       few_so (Some files) allowed = (allowed.0, allowed.1, few files allowed.0 allowed.2)
 
-      may_so : (result : Result Ending Halt) → SaysUntold (Leads plan None) before after result
+      may_so : (result : Result Ending Halt) → SaysUntold (LeadsToOutcome plan None) before after result
           → SaysUntold may before after result
       may_so (Ok ending) so = (so.0, says so.0 so.1, so.2, so.3, so.4, so.5, so.6)
       may_so (Err halt) so = so
@@ -333,7 +333,7 @@ module _ (hash : List ℕ → List ℕ) (may_say : Outcome → Type 0) (map : Li
     (may : (said : Outcome) → IsRefused hash map said → may_say said)
     (before after : Shelved) (same : after.files ≡ before.files) where
   memory_out : (halt : Halt) → halt ≡ halts.NoMemory → SaysUntold may_say before after (Err halt)
-  memory_out halt is = (subst (Stops before after) (sym is) tt, same)
+  memory_out halt is = (subst (StopsCommand before after) (sym is) tt, same)
 
   pub says_refused : (error : MapErr) (result : Result Ending Halt) → IsBlamed hash before after error
       → SaysRefusal map error result → SaysUntold may_say before after result
@@ -375,7 +375,7 @@ page_blamed hash f before after some same = record {
 }
 
 -- why a node was not fetched
-pub fetch_blamed : (hash : List ℕ → List ℕ) (s : Standing) (e : NodesErr) (before after : Shelved)
+pub fetch_blamed : (hash : List ℕ → List ℕ) (s : MapModel) (e : NodesErr) (before after : Shelved)
     → HasSomeCause s before.faults after.faults e → IsBlamed hash before after (as_map_error e)
 fetch_blamed hash s (nodes.Changed page held found) before after cause =
     page_blamed hash (record { page = page; rule = rule.Changed held found }) before after (inr cause.2) cause.3
@@ -398,9 +398,9 @@ none_told (Some u) t told none = absurd (cc)
 pub record IsStopped (before after : Shelved) (result : Result Ending Halt) : Type 0 where
   pub halt : Halt
   pub is : result ≡ Err halt
-  pub stops : Stops before after halt
+  pub stops : StopsCommand before after halt
 
-pub fetch_stopped : (map : List ℕ) (s : Standing) (t : Tree) (e : NodesErr) (before after : Shelved)
+pub fetch_stopped : (map : List ℕ) (s : MapModel) (t : Tree) (e : NodesErr) (before after : Shelved)
     (result : Result Ending Halt) → s.tree ≡ Some t → HasSomeCause s before.faults after.faults e
     → SaysRefusal map (as_map_error e) result → IsStopped before after result
 fetch_stopped map s t (nodes.Changed page held found) before after result told cause says =

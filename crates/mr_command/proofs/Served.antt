@@ -6,14 +6,14 @@ use Rattle.mr_outside.specs.Files.{Files, file}
 use Rattle.mr_outside.specs.Faults.{Rose, last_count}
 use Rattle.mr_outside.specs.State.{Shelved}
 use Rattle.mr_outside.specs.Told.{OfFile}
-use Rattle.mr_record.specs.Bytes.{AreBytes}
+use Rattle.mr_record.specs.private.Bytes.{AreBytes}
 use Rattle.mr_record.specs.declared.version.Version.{Version}
 use Rattle.mr_record.specs.declared.version.Version.TheVariants.{One}
 use Rattle.mr_plan.specs.First.{first_map}
 use Rattle.mr_outside.specs.declared.shelf.Shelf as shelves
 use Rattle.mr_tree.specs.declared.hash.Hashes as hashes
-use Rattle.mr_tree.specs.Nodes.{Standing, HasSomeCause, subtrees}
-use Rattle.mr_tree.specs.Snapshot.{standing, standing_of, tree_of}
+use Rattle.mr_tree.specs.Nodes.{MapModel, HasSomeCause, subtrees}
+use Rattle.mr_tree.specs.Snapshot.{snapshot_model, tree_model, tree_of}
 use Rattle.mr_tree.specs.WellFormed.{WellFormed}
 use Rattle.mr_tree.specs.declared.nodes.NodesErr.{NodesErr}
 use Rattle.mr_tree.specs.declared.nodes.Top.{Top}
@@ -29,15 +29,15 @@ use Rattle.mr_store.specs.CachedFile.{bytes_of, page_form}
 use Rattle.mr_store.specs.Kept.{room}
 use Rattle.mr_store.specs.Opening.{OpensMap}
 use Rattle.mr_store.specs.Paged.{Keeps, ReadsFew as FewFetches, shelved, stands_for}
-use Rattle.mr_store.specs.Stored.{StandsFor, read_map}
+use Rattle.mr_store.specs.Stored.{IsSnapshotOf, read_map}
 use Rattle.mr_store.specs.declared.paged.Paged.{Paged}
-use Rattle.mr_command.specs.Counting.{pieces_of, AllowsServe, IsFewServed, ReadsFew}
-use Rattle.mr_command.specs.Ending.{map_at, Comes, ComesAsSaid, Ends, GivesUp, GoesOn, NoneFalls, SaysRefusal, SaysUntold, printed_of}
+use Rattle.mr_command.specs.Counting.{pieces_of, AllowsServe, IsFewServed, ReadsWithinPlan}
+use Rattle.mr_command.specs.Ending.{map_at, RunsPlan, ComesAsSaid, EndsPlan, GivesUpPlan, GoesOn, NoneFalls, SaysRefusal, SaysUntold, printed_of}
 use Rattle.mr_plan.specs.Found.{as_map_error}
 use Rattle.mr_plan.specs.Outcome.{Outcome}
 use Rattle.mr_plan.specs.Plan.{Plan, Input, comes, LacksInput}
 use Rattle.mr_plan.specs.Untold.{MaySayServe}
-use Rattle.mr_plan.specs.Say.{given, needs, needs_map, held_in, say_script, say_serve_of, says_missing}
+use Rattle.mr_plan.specs.Say.{given, needs, needs_map, opened_in, say_script, say_serve_of, says_missing}
 use Rattle.mr_command.specs.declared.ending.Ending.{Ending}
 use Rattle.mr_command.specs.declared.ending.Halt.{Halt}
 use Rattle.mr_plan.specs.declared.status.Status.TheVariants.{Outside}
@@ -52,12 +52,12 @@ same_tree : (a b : Tree) → ◌≡◌ {A = Option Tree} (Some a) (Some b) → a
 same_tree a b e = cc
 
 -- it is the one that stands so
-one_map : (s : Standing) (nodes : List Stored) (top : Top) (t : Tree)
-    → standing nodes top ≡ standing_of s.version s.batch t → held_in nodes top ≡ map_at s t
+one_map : (s : MapModel) (nodes : List Stored) (top : Top) (t : Tree)
+    → snapshot_model nodes top ≡ tree_model s.version s.batch t → opened_in nodes top ≡ map_at s t
 one_map s nodes top t e =
-    let trees : tree_of nodes top ≡ t = same_tree (tree_of nodes top) t (ap (λ (x : Standing). x.tree) e) in
-    let versions : top.version ≡ s.version = ap (λ (x : Standing). x.version) e in
-    let batches : top.batch ≡ s.batch = ap (λ (x : Standing). x.batch) e in
+    let trees : tree_of nodes top ≡ t = same_tree (tree_of nodes top) t (ap (λ (x : MapModel). x.tree) e) in
+    let versions : top.version ≡ s.version = ap (λ (x : MapModel). x.version) e in
+    let batches : top.batch ≡ s.batch = ap (λ (x : MapModel). x.batch) e in
     λ i. record { tree = trees i; version = versions i; batch = batches i }
 
 -- its version is that of the layout
@@ -88,25 +88,26 @@ module _ (may_say : Outcome → Type 0) (name : List ℕ) (said : List ℕ → O
       at_end None lacks = lacks
       at_end (Some bytes) lacks = lacks
 
-  stays : GivesUp plan before.files after.files → after.files ≡ before.files
+  stays : GivesUpPlan plan before.files after.files → after.files ≡ before.files
   stays up = elim up [
     | inl same ↦ same
     | inr on ↦ at_end on.0 on.2
   ]
     where
-      at_end : (input : Input) → GivesUp (given name (λ b. comes (said b)) input) before.files after.files
+      at_end : (input : Input) → GivesUpPlan (given name (λ b. comes (said b)) input) before.files after.files
           → after.files ≡ before.files
       at_end None same = same
       at_end (Some bytes) may = last_leaves (said bytes).written before.files after.files none may
 
-  says_needs : (result : Result Ending Halt) → Comes plan before after result → SaysUntold may_say before after result
+  says_needs : (result : Result Ending Halt) → RunsPlan plan before after result → SaysUntold may_say before after
+      result
   says_needs (Ok ending) on = by_input on.came.0 on.came.2 on.came.3
     where
       outside : ending.status ≡ Outside → Rose before.faults after.faults
       outside is = elim (on.outside is) [ inl rose ↦ rose | inr lacks ↦ absurd (no_input lacks) ]
 
       by_input : (input : Input) → IfSome input AreBytes
-          → Ends (given name (λ b. comes (said b)) input) before.files after.files ending.status (printed_of ending)
+          → EndsPlan (given name (λ b. comes (said b)) input) before.files after.files ending.status (printed_of ending)
           → SaysUntold may_say before after (Ok ending)
       by_input None are ends = (says_missing name, may_miss, ends.0, ends.1, ends.2, outside, on.quiet)
       by_input (Some bytes) are ends = (said bytes, may bytes are, ends.0, ends.1, ends.2, outside, on.quiet)
@@ -116,7 +117,7 @@ module _ (may_say : Outcome → Type 0) (name : List ℕ) (said : List ℕ → O
 
 pub serving_unopened : (hash : List ℕ → List ℕ) (map script : List ℕ) (before after : Shelved)
     → OfFile before.files map (after.reads ≡ before.reads) (λ bytes. after.reads ≤ before.reads + pages_in bytes)
-    → ReadsFew (AllowsServe hash map script) before after
+    → ReadsWithinPlan (AllowsServe hash map script) before after
 serving_unopened hash map script before after few =
     few_refused before.files map before.reads after.reads
     (λ files bytes n. IsFewServed hash bytes (file files script) n) (λ files bytes. inl (omega arith)) few
@@ -174,7 +175,7 @@ module _ {S H : Type 0} {G : shelves.Ghosts S} {K : hashes.Ghosts H} (hash : Lis
   abbrev said : Opened → List ℕ → Outcome
   said m text = say_serve_of hash bundle m (queries_of_text text)
 
-  abbrev s : Standing
+  abbrev s : MapModel
   s = stands_for p
 
   abbrev mid : Shelved
@@ -189,7 +190,7 @@ module _ {S H : Type 0} {G : shelves.Ghosts S} {K : hashes.Ghosts H} (hash : Lis
   -- the reads, with those of the script
   few_served : (after : Shelved) (files : Files) → before.files ≡ Some files → HasMap hash sized map before s mid
       → after.reads ≤ end.reads + pieces_of (file files script)
-      → ReadsFew allows before after
+      → ReadsWithinPlan allows before after
   few_served after files told has pieces =
       let is = counted hash sized map before p o first_is files told has in
       let bound = subst (λ o. IfSome o (λ t. p'.fetches ≤ p.fetches + length (subtrees t))) has.told fetched in
@@ -204,8 +205,8 @@ module _ {S H : Type 0} {G : shelves.Ghosts S} {K : hashes.Ghosts H} (hash : Lis
 
   -- the script was read
   pub served : (nodes : List Stored) (top : Top) (after : Shelved) (result : Result Ending Halt)
-      → StandsFor s nodes top → top.version ≡ One → ∥ WellFormed (tree_of nodes top) ∥₁ → end.faults ≡ mid.faults
-      → Comes (on_map (held_in nodes top)) end after result
+      → IsSnapshotOf s nodes top → top.version ≡ One → ∥ WellFormed (tree_of nodes top) ∥₁ → end.faults ≡ mid.faults
+      → RunsPlan (on_map (opened_in nodes top)) end after result
       → ComesAsSaid plan_served may_serve allows before after result
   served nodes top after result stands top_is well calm on = by_files before.files refl
     where
@@ -218,7 +219,7 @@ module _ {S H : Type 0} {G : shelves.Ghosts S} {K : hashes.Ghosts H} (hash : Lis
       by_files : (f : Option Files) → before.files ≡ f
           → ComesAsSaid plan_served may_serve allows before after result
       by_files None none =
-          let m = held_in nodes top in
+          let m = opened_in nodes top in
           comes_untold plan_served may_serve allows before after none (says_missing map, inl (inl refl)) result counts
           (untold_from may_serve before end after result (kept.files ∙ o.files) (calm ∙ o.quiet)
           (says_needs may_serve script (said m) end after (kept.files ∙ o.files ∙ none) (inr (inr (inl refl)))
@@ -228,14 +229,14 @@ module _ {S H : Type 0} {G : shelves.Ghosts S} {K : hashes.Ghosts H} (hash : Lis
           let has = has_map hash sized map before s mid w files told in
           let m : Opened = map_at s has.tree in
           let own = one_map s nodes top has.tree (stands has.tree has.told) in
-          let pieces = few_pieces end.files files script (said (held_in nodes top)) end.reads after.reads
+          let pieces = few_pieces end.files files script (said (opened_in nodes top)) end.reads after.reads
           (kept.files ∙ o.files ∙ told) on.few in
           comes_told plan_served may_serve allows before after files told result counts.reads
           (few_served after files told has pieces)
           (first_on hash sized map before s mid w on_map goes first_is has after result
-          (subst (λ w. Comes (on_map m) w after result) (with_same after.reads mid end kept.files calm)
+          (subst (λ w. RunsPlan (on_map m) w after result) (with_same after.reads mid end kept.files calm)
           (needs_but script (λ b. comes (said m b)) end after result
-          (subst (λ m. Comes (on_map m) end after result) own on))))
+          (subst (λ m. RunsPlan (on_map m) end after result) own on))))
 
   -- a node was not fetched
   pub unserved : (e : NodesErr) (result : Result Ending Halt) → HasSomeCause s mid.faults end.faults e

@@ -7,30 +7,30 @@ use Rattle.mr_outside.specs.Faults.{Rose}
 use Rattle.mr_outside.specs.Files.{Files, file}
 use Rattle.mr_outside.specs.Told.{OfFile, MayMiss}
 use Rattle.mr_outside.proofs.Pieces.{HasFront, FrontOfFile, FrontOfFile-none, FrontOfFile-more, FrontOfFile-short, FrontOfFile-whole, OfFile-map}
-use Rattle.mr_record.specs.Bytes.{AreBytes}
+use Rattle.mr_record.specs.private.Bytes.{AreBytes}
 use Rattle.mr_tree.specs.declared.hash.Hashes.{Ghosts}
 use Rattle.mr_query.specs.declared.query.Query.{Query}
 use Rattle.mr_proof.specs.Feeding.{IsUnsettled}
 use Rattle.mr_proof.specs.Tight.{question}
 use Rattle.mr_proof.specs.Reading.{verdict}
 use Rattle.mr_check.specs.Judged.{IsTaken}
-use Rattle.mr_check.specs.declared.intake.Intake.{Intake}
+use Rattle.mr_check.specs.declared.piece_check.PieceCheck.{PieceCheck}
 use Rattle.mr_plan.specs.Plan.{IsInput, IsAbsent}
 use Rattle.mr_outside.specs.Reading.{FillsFront, GivesFrom}
-use Rattle.mr_check.specs.Answers.{Checks}
+use Rattle.mr_check.specs.Answers.{AnswersVerdict}
 use Rattle.mr_check.specs.Judged.{IsStopped}
 use Rattle.mr_check.proofs.Judging.{refused}
 use Rattle.mr_check.specs.declared.error.CheckErr.{CheckErr}
 use Rattle.mr_check.specs.declared.error.CheckErr.TheVariants as errors
 use Rattle.std.proofs.Common.{length-take-le, length-drop}
 use Rattle.std.proofs.Math.Seq.{take-append_seam}
-use Rattle.mr_command.specs.Taking.{IsPiece, StopsNext, TakesNext, StopsFile, IsAllTaken, stop_of_check}
+use Rattle.mr_command.specs.private.Taking.{IsPiece, StopsNext, TakesNext, StopsFile, IsAllTaken, stop_of_check}
 use Rattle.mr_command.specs.declared.pieces.Stop.{Stop}
 use Rattle.mr_command.specs.declared.pieces.Stop.TheVariants as stops
 
 -- so much of the file was read, from its front, and taken in
 pub record HasTaken {H : Type 0} {G : Ghosts H} (hash : List ℕ → List ℕ) (holds : H → List ℕ → Type 0)
-    (root : List ℕ) (q : Query) (told : Option Files) (name : List ℕ) (size at : ℕ) (i : Intake H G) : Type 0 where
+    (root : List ℕ) (q : Query) (told : Option Files) (name : List ℕ) (size at : ℕ) (i : PieceCheck H G) : Type 0 where
   pub front : List ℕ
   pub long : length front ≡ at
   pub are : AreBytes front
@@ -84,7 +84,7 @@ is_missing (Some files) name before after miss = (miss, inr miss)
 
 module _ {H : Type 0} {G : Ghosts H} (hash : List ℕ → List ℕ) (holds : H → List ℕ → Type 0) (root : List ℕ) (q : Query)
     (told : Option Files) (name : List ℕ) (size : ℕ) where
-  pub nothing_taken : (i : Intake H G) → OfFile told name ⊥ (λ bytes. size ≡ length bytes)
+  pub nothing_taken : (i : PieceCheck H G) → OfFile told name ⊥ (λ bytes. size ≡ length bytes)
       → IsTaken hash holds root q i [] → HasTaken hash holds root q told name size 0 i
   nothing_taken i is taken = record {
     front = [];
@@ -95,7 +95,7 @@ module _ {H : Type 0} {G : Ghosts H} (hash : List ℕ → List ℕ) (holds : H �
   }
 
   -- and the piece that follows
-  pub piece_taken : (i j : Intake H G) (at wanted count : ℕ) (had : HasTaken hash holds root q told name size at i)
+  pub piece_taken : (i j : PieceCheck H G) (at wanted count : ℕ) (had : HasTaken hash holds root q told name size at i)
       → TakesNext hash holds root q told name at wanted had.front (Ok (j, count))
       → HasTaken hash holds root q told name size (at + count) j
   piece_taken i j at wanted count had next =
@@ -116,7 +116,8 @@ module _ {H : Type 0} {G : Ghosts H} (hash : List ℕ → List ℕ) (holds : H �
       }
 
   -- and that no fault is fixed by what was read then
-  pub piece_unsettled : (i j : Intake H G) (at wanted count : ℕ) (had : HasTaken hash holds root q told name size at i)
+  pub piece_unsettled : (i j : PieceCheck H G) (at wanted count : ℕ)
+      (had : HasTaken hash holds root q told name size at i)
       → TakesNext hash holds root q told name at wanted had.front (Ok (j, count))
       → OfFile told name ⊥ (λ bytes. IsUnsettled hash root (question q) (take (at + count) bytes))
   unfolding piece_taken
@@ -127,7 +128,7 @@ module _ {H : Type 0} {G : Ghosts H} (hash : List ℕ → List ℕ) (holds : H �
       now.whole
 
   -- all of it is taken, since it is as long as the file, or since less came than was asked for
-  pub file_taken : (i : Intake H G) (at : ℕ) → size ≤ at → HasTaken hash holds root q told name size at i
+  pub file_taken : (i : PieceCheck H G) (at : ℕ) → size ≤ at → HasTaken hash holds root q told name size at i
       → IsAllTaken hash holds root q told name i
   file_taken i at all had = record {
     bytes = had.front;
@@ -137,7 +138,7 @@ module _ {H : Type 0} {G : Ghosts H} (hash : List ℕ → List ℕ) (holds : H �
     taken = had.taken;
   }
 
-  pub short_taken : (i j : Intake H G) (at wanted count : ℕ) (had : HasTaken hash holds root q told name size at i)
+  pub short_taken : (i j : PieceCheck H G) (at wanted count : ℕ) (had : HasTaken hash holds root q told name size at i)
       → wanted ≤ size - at → count < wanted
       → TakesNext hash holds root q told name at wanted had.front (Ok (j, count))
       → IsAllTaken hash holds root q told name j
@@ -156,7 +157,7 @@ module _ {H : Type 0} {G : Ghosts H} (hash : List ℕ → List ℕ) (holds : H �
       }
 
   -- where the piece that follows stops it
-  pub file_stops : (i : Intake H G) (at wanted : ℕ) (had : HasTaken hash holds root q told name size at i)
+  pub file_stops : (i : PieceCheck H G) (at wanted : ℕ) (had : HasTaken hash holds root q told name size at i)
       → OfFile told name ⊤ AreBytes → (e : Stop) → StopsNext hash root q told name at wanted had.front e
       → StopsFile hash root q told name e
   file_stops i at wanted had bytes (stops.Refused f) next =
@@ -181,8 +182,8 @@ module _ {H : Type 0} {G : Ghosts H} (hash : List ℕ → List ℕ) (holds : H �
   file_stops i at wanted had bytes (stops.Halted halt) next = tt
 
   -- what the client answers at the end of the file
-  pub ended : (i : Intake H G) → (all : IsAllTaken hash holds root q told name i) (e : CheckErr)
-      → Checks (Err e) (verdict hash root q all.bytes) → StopsFile hash root q told name (stop_of_check e)
+  pub ended : (i : PieceCheck H G) → (all : IsAllTaken hash holds root q told name i) (e : CheckErr)
+      → AnswersVerdict (Err e) (verdict hash root q all.bytes) → StopsFile hash root q told name (stop_of_check e)
   ended i all (errors.Fault f) is =
       record { bytes = all.bytes; input = all.input; are = all.are; verdict_is = is }
   ended i all errors.NoMemory is = tt

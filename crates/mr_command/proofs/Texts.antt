@@ -10,7 +10,7 @@ use Rattle.mr_outside.specs.Writing.{IsChanged, IsChangedPartly}
 use Rattle.mr_outside.specs.declared.shelf.ShelfErr.{ShelfErr}
 use Rattle.mr_outside.specs.declared.shelf.ShelfErr.TheVariants as shelf
 use Rattle.mr_outside.proofs.Changes.{IsChanged-grown, OfFile-put}
-use Rattle.mr_command.specs.Ending.{Saves, Stops, halt_of}
+use Rattle.mr_command.specs.Ending.{SavesFile, StopsCommand, halt_of}
 use Rattle.mr_plan.specs.First.{first}
 use Rattle.mr_plan.specs.Outcome.{text}
 use Rattle.mr_record.specs.RecordText.{text_of}
@@ -29,7 +29,7 @@ Refused error other = IsErrOf {T = Unit {0}} {E = ShelfErr} (Err error) other
 -- why a refusal of the shelf halts a command
 stops_by : (before after : Shelved) (error : ShelfErr)
     → (Refused error shelf.Missing → Rose before.faults after.faults)
-    → (Refused error shelf.Fault → Rose before.faults after.faults) → Stops before after (halt_of error)
+    → (Refused error shelf.Fault → Rose before.faults after.faults) → StopsCommand before after (halt_of error)
 stops_by before after shelf.Missing missing fault = missing refl
 stops_by before after shelf.Fault missing fault = fault refl
 stops_by before after shelf.NoMemory missing fault = tt
@@ -44,7 +44,7 @@ miss_rose (Some files) name n m there miss =
 -- a call that was refused once the file stood there
 pub stops_there : (name held : List ℕ) (before made after : Shelved) (error : ShelfErr)
     → IsChanged (with_file name) held before.files made.files → made.faults ≡ before.faults
-    → ShelfCauses {A = Unit} name made after (Err error) → Stops before after (halt_of error)
+    → ShelfCauses {A = Unit} name made after (Err error) → StopsCommand before after (halt_of error)
 stops_there name held before made after error put quiet c =
     stops_by before after error
     (λ e. subst (λ n. Rose n after.faults) quiet (miss_rose made.files name made.faults after.faults
@@ -55,7 +55,7 @@ module _ (name bytes : List ℕ) (before : Shelved) where
   -- it was not made
   pub text_unmade : (after : Shelved) (error : ShelfErr) → after.files ≡ before.files → after.reads ≡ before.reads
       → (Refused error shelf.Missing → before.files ≡ None) → ShelfCauses {A = Unit} name before after (Err error)
-      → Saves name (text bytes) before after (Err (halt_of error))
+      → SavesFile name (text bytes) before after (Err (halt_of error))
   text_unmade after error same reads never c = record {
     counts = record { faults = c.faults; reads = omega (arith, reads) };
     unread = reads;
@@ -72,7 +72,7 @@ module _ (name bytes : List ℕ) (before : Shelved) where
       → IsChanged (with_file name) [] before.files made.files → made.faults ≡ before.faults
       → made.reads ≡ before.reads → IsChangedPartly (grown name) bytes made.files after.files
       → after.reads ≡ made.reads → ShelfCauses {A = Unit} name made after (Err error)
-      → Saves name (text bytes) before after (Err (halt_of error))
+      → SavesFile name (text bytes) before after (Err (halt_of error))
   text_begun made after error create quiet reads part more c = record {
     counts = record { faults = omega (arith, quiet, c.faults); reads = omega (arith, reads, more) };
     unread = more ∙ reads;
@@ -96,7 +96,7 @@ module _ (name bytes : List ℕ) (before : Shelved) where
       → IsChanged (with_file name) bytes before.files full.files → full.faults ≡ before.faults
       → full.reads ≡ before.reads → after.files ≡ full.files → after.reads ≡ full.reads
       → ShelfCauses {A = Unit} name full after (Err error)
-      → Saves name (text bytes) before after (Err (halt_of error))
+      → SavesFile name (text bytes) before after (Err (halt_of error))
   text_unsynced full after error put quiet reads same more c = record {
     counts = record { faults = omega (arith, quiet, c.faults); reads = omega (arith, reads, more) };
     unread = more ∙ reads;
@@ -108,7 +108,7 @@ module _ (name bytes : List ℕ) (before : Shelved) where
 
   pub text_saved : (after : Shelved) (done : Unit) → IsChanged (with_file name) bytes before.files after.files
       → after.faults ≡ before.faults → after.reads ≡ before.reads
-      → Saves name (text bytes) before after (Ok done)
+      → SavesFile name (text bytes) before after (Ok done)
   text_saved after done put quiet reads = record {
     counts = record { faults = omega (arith, quiet); reads = omega (arith, reads) };
     unread = reads;

@@ -10,11 +10,11 @@ use Rattle.mr_query.specs.declared.query.Query.{Query}
 use Rattle.mr_proof.specs.Feeding.{IsUnsettled}
 use Rattle.mr_proof.specs.Tight.{question}
 use Rattle.mr_command.specs.Counting.{pieces_of, reads_taken, AllowsReads, IsToFault}
-use Rattle.mr_command.specs.Ending.{Comes, ComesAsSaid, ReadsOnce}
+use Rattle.mr_command.specs.Ending.{RunsPlan, ComesAsSaid, ReadsFileOnce}
 use Rattle.mr_plan.specs.Outcome.{Outcome}
-use Rattle.mr_plan.specs.Plan.{Input, Leads, Plan, comes}
+use Rattle.mr_plan.specs.Plan.{Input, LeadsToOutcome, Plan, comes}
 use Rattle.mr_plan.specs.Say.{given, needs}
-use Rattle.mr_command.specs.Taking.{ReadsToFault}
+use Rattle.mr_command.specs.private.Taking.{ReadsToFault}
 use Rattle.mr_command.specs.declared.ending.Ending.{Ending}
 use Rattle.mr_command.specs.declared.ending.Halt.{Halt}
 use Rattle.mr_command.proofs.Rereading.{comes_plain}
@@ -32,7 +32,7 @@ none_to_fault hash root q (Some files) name before after same =
 
 -- no piece twice
 pub once_to_fault : (hash : List ℕ → List ℕ) (root : List ℕ) (q : Query) (name : List ℕ) (before after : Shelved)
-    → ReadsToFault hash root q before.files name before.reads after.reads → ReadsOnce name before after
+    → ReadsToFault hash root q before.files name before.reads after.reads → ReadsFileOnce name before after
 once_to_fault hash root q name before after reads = by_files before.files reads
   where
     by_files : (o : Option Files) → ReadsToFault hash root q o name before.reads after.reads
@@ -148,11 +148,11 @@ module _ (hash : List ℕ → List ℕ) (root : List ℕ) (q : Query) (name : Li
 
   -- over any files it is what its plan says, but for the count of its reads
   pub comes_judged : (result : Result Ending Halt)
-      → ReadsToFault hash root q before.files name before.reads after.reads → Comes plan before after result
-      → ComesAsSaid plan (Leads plan None) (λ files n. AllowsReads plan files n × IsToFault hash root q
+      → ReadsToFault hash root q before.files name before.reads after.reads → RunsPlan plan before after result
+      → ComesAsSaid plan (LeadsToOutcome plan None) (λ files n. AllowsReads plan files n × IsToFault hash root q
       (file files name) n) before after result
   comes_judged result reads on =
-      let all = comes_plain plan before after (Leads plan None) (AllowsReads plan) result (λ said leads. leads)
+      let all = comes_plain plan before after (LeadsToOutcome plan None) (AllowsReads plan) result (λ said leads. leads)
       (λ files n few. few) on in
       record {
         counts = all.counts;

@@ -8,7 +8,7 @@ use Rattle.mr_tree.specs.declared.tree.Tree.{Tree}
 use Rattle.mr_query.specs.declared.query.Query.{Query}
 use Rattle.mr_proof.specs.declared.rule.Fault.{Fault}
 use Rattle.mr_check.specs.declared.error.CheckErr.{CheckErr}
-use Rattle.mr_check.specs.Answers.{Checks}
+use Rattle.mr_check.specs.Answers.{AnswersVerdict}
 use Rattle.mr_proof.specs.Halves.{AcceptsHonest}
 use Rattle.mr_proof.specs.Honest.{proof}
 use Rattle.mr_proof.specs.Reading.{verdict}
@@ -21,7 +21,7 @@ use Rattle.mr_clash.specs.declared.finding.Finding.{Finding}
 use Rattle.mr_clash.specs.declared.finding.Finding.TheVariants as findings
 use Rattle.mr_command.specs.Answer.{IsSettled}
 use Rattle.mr_plan.specs.First.{first, first_map}
-use Rattle.mr_command.specs.Ending.{Gives, printed_of}
+use Rattle.mr_command.specs.Ending.{IsEndingOf, printed_of}
 use Rattle.mr_plan.specs.Outcome.{Outcome, Nothing}
 use Rattle.mr_plan.specs.Say.{say_verdict, say_check_of, say_finding, say_audit_of, say_root_of}
 use Rattle.mr_command.specs.declared.ending.Ending.{Ending}
@@ -31,10 +31,10 @@ use Rattle.mr_pages.specs.Law.{map_root}
 -- the error that it answers, as one of these
 pub checks_as : (hash : List ℕ → List ℕ) (root : List ℕ) (q : Query) (bytes : List ℕ)
     (a b : CheckErr) → a ≡ b
-    → Checks (Err a) (verdict hash root q bytes)
-    → Checks (Err b) (verdict hash root q bytes)
+    → AnswersVerdict (Err a) (verdict hash root q bytes)
+    → AnswersVerdict (Err b) (verdict hash root q bytes)
 checks_as hash root q bytes a b e =
-    subst (λ error. Checks (Err error) (verdict hash root q bytes)) e
+    subst (λ error. AnswersVerdict (Err error) (verdict hash root q bytes)) e
 
 pub says_verdict : (hash : List ℕ → List ℕ) (root : List ℕ) (q : Query) (bytes : List ℕ)
     (v : Result (List Record) Fault) → verdict hash root q bytes ≡ v
@@ -44,7 +44,7 @@ says_verdict hash root q bytes v is = ap say_verdict is
 
 -- an ending of this status and text
 pub gives : (said : Outcome) (ending : Ending) → IsSettled said.status → ending.status ≡ said.status
-    → printed_of ending ≡ said.printed → Gives said ending
+    → printed_of ending ≡ said.printed → IsEndingOf said ending
 gives said ending settled status printed = record
     { status = status; printed = printed; settled = subst IsSettled (sym status) settled }
 

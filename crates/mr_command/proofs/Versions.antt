@@ -7,17 +7,17 @@ use Rattle.std.proofs.lemmas.Slice.Eq.{bytes_eq-Decides}
 use Rattle.std.proofs.lemmas.List.{length-replicate, drop_at, drop-replicate, take-append-drop}
 use Rattle.std.proofs.lemmas.List.Elements.{All-nil, All-cons, All-append, All-from_recursion}
 use Rattle.std.proofs.Math.Seq.{drop-append-add}
-use Rattle.mr_record.specs.Bytes.{AreBytes}
+use Rattle.mr_record.specs.private.Bytes.{AreBytes}
 use Rattle.mr_record.specs.Version.{version_byte}
 use Rattle.mr_record.specs.declared.version.Version.{Version}
 use Rattle.mr_record.specs.declared.version.Version.TheVariants.{One, Two}
 use Rattle.mr_tree.specs.declared.tree.Tree.{Tree}
 use Rattle.mr_pages.specs.Faults.{mapfault, file_faults, first_of}
 use Rattle.mr_pages.specs.File.{file_of, form_at, is_odd_size, page_at, version_of}
-use Rattle.mr_pages.specs.Opening.{Answers, SomeFile}
+use Rattle.mr_pages.specs.Opening.{AnswersMap, SomeFile}
 use Rattle.mr_pages.specs.Page.{Form, Head}
 use Rattle.mr_pages.specs.PageBytes.{form_by, layout_by, fields_in, head_bytes, head_in, head_page, is_head, is_sealed, seal, seal_place}
-use Rattle.mr_pages.specs.Stands.{Stands}
+use Rattle.mr_pages.specs.Stands.{StandsForTree}
 use Rattle.mr_pages.specs.declared.error.MapErr.{MapErr}
 use Rattle.mr_pages.specs.declared.error.MapErr.TheVariants as errors
 use Rattle.mr_pages.specs.declared.opening.Opened.{Opened}
@@ -262,14 +262,15 @@ module _ (v : Version) (hash : List ℕ → List ℕ) where
 
 -- what was found in bytes of some version, as found in bytes of their own one
 pub in_own : (hash : List ℕ → List ℕ) (result : Result Opened MapErr)
-    → ((v : Version) (bytes : List ℕ) (t : Tree) (b : ℕ) → Stands (form_by v) hash bytes t b → version_of bytes ≡ v)
+    → ((v : Version) (bytes : List ℕ) (t : Tree) (b : ℕ) → StandsForTree (form_by v) hash bytes t b → version_of
+    bytes ≡ v)
     → SomeFile hash result
-    → (bytes : List ℕ) × AreBytes bytes × Answers (form_at bytes) hash bytes result
+    → (bytes : List ℕ) × AreBytes bytes × AnswersMap (form_at bytes) hash bytes result
 in_own hash (Ok map) own some =
     let v = some.0 in
     let bytes = some.1.0 in
     let same = own v bytes map.tree map.batch some.1.2.1.stands in
-    (bytes, some.1.1, subst (λ u. Answers (form_by u) hash bytes (Ok map)) (sym same) some.1.2)
+    (bytes, some.1.1, subst (λ u. AnswersMap (form_by u) hash bytes (Ok map)) (sym same) some.1.2)
 in_own hash (Err (errors.Map f)) own some = own_fault some.0 hash some.1.0 f some.1.1 some.1.2
 in_own hash (Err errors.Missing) own some = ([], All-nil (λ b. b < 2 ^ 8), tt)
 in_own hash (Err errors.Fault) own some = ([], All-nil (λ b. b < 2 ^ 8), tt)

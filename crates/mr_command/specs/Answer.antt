@@ -2,9 +2,9 @@
 use Rattle.std.specs.Prelude.{◌≡◌, ◌⊎◌, ℕ, ◌≤◌, List, Option}
 use Rattle.mr_outside.specs.Faults.{Rose}
 use Rattle.mr_outside.specs.State.{Shelved, Sunk}
-use Rattle.mr_outside.specs.Told.{OfFiles, Takes, TakesFront}
+use Rattle.mr_outside.specs.Told.{OfFiles, TakesBytes, TakesFront}
 use Rattle.mr_plan.specs.Lines.{shelf_fault_line}
-use Rattle.mr_plan.specs.Outcome.{Outcome, IsLeft, MayLeave}
+use Rattle.mr_plan.specs.Outcome.{Outcome, LeavesWritten, MayLeave}
 use Rattle.mr_plan.specs.Plan.{Plan, LacksInput, IsOutcomeOver}
 use Rattle.mr_plan.specs.Say.{say}
 use Rattle.mr_plan.specs.Untold.{MaySay}
@@ -21,7 +21,7 @@ abbrev pub world : Shelved → Sunk → World
 world shelf sink = record { shelf = shelf; sink = sink }
 
 -- no count falls
-pub record Counts (before after : World) : Type 0 where
+pub record NoCountFalls (before after : World) : Type 0 where
   pub shelf_faults : before.shelf.faults ≤ after.shelf.faults
   pub reads : before.shelf.reads ≤ after.shelf.reads
   pub sink_faults : before.sink.faults ≤ after.sink.faults
@@ -50,8 +50,8 @@ HasOutsideCause plan before after = ShelfFailed before after ⊎ SinkFailed befo
 -- all that was to be done was done
 pub record IsWhole (said : Outcome) (before after : World) (ended : Status) : Type 0 where
   pub status : ended ≡ said.status
-  pub printed : Takes before.sink after.sink said.printed
-  pub files : IsLeft said.written before.shelf.files after.shelf.files
+  pub printed : TakesBytes before.sink after.sink said.printed
+  pub files : LeavesWritten said.written before.shelf.files after.shelf.files
 
 -- what is printed where the shelf failed
 abbrev pub IsStopLine : List ℕ → Type 0
@@ -71,10 +71,10 @@ pub record IsStopped (said : Outcome) (before after : World) (status : Status) :
   pub printed : TakesFront before.sink after.sink text
   -- where the sink did not fail, the line on what failed stands there whole
   pub whole_line : status ≡ Outside → (SinkFailed before after → ⊥) → IsStopLine text
-      × Takes before.sink after.sink text
+      × TakesBytes before.sink after.sink text
   -- printing comes last: where anything was printed but that line, all else was done
   pub last : (after.sink ≡ before.sink) ⊎ IsStopLine text
-      ⊎ IsLeft said.written before.shelf.files after.shelf.files
+      ⊎ LeavesWritten said.written before.shelf.files after.shelf.files
   pub files : MayLeave said.written before.shelf.files after.shelf.files
 
 -- The run answers an outcome that may be said of the command; over files that are told, it is the

@@ -25,7 +25,7 @@ use Rattle.mr_clash.specs.Finding.{opened_accepted}
 use Rattle.mr_edit.specs.Reads.{reads_along}
 use Rattle.mr_store.specs.Kept.{room}
 use Rattle.mr_plan.specs.First.{first, first_map}
-use Rattle.mr_plan.specs.Found.{Found, Shows}
+use Rattle.mr_plan.specs.Found.{Found, ShowsMap}
 use Rattle.mr_plan.specs.Plan.{Input, Plan, comes, reads, opens, seeks}
 use Rattle.mr_plan.specs.Say.{say, say_check}
 use Rattle.mr_plan.specs.declared.words.Command.{Command}
@@ -133,7 +133,7 @@ AllowsReads (comes said) files n = n ≡ 0
 AllowsReads (reads name next) files n = (here : ℕ) × (rest : ℕ) × (n ≡ here + rest)
     × (here ≤ reads_taken (next (file files name)) (file files name))
     × ((rest ≡ 0) ⊎ AllowsReads (next (file files name)) files rest)
-AllowsReads (opens v hash bytes next) files n = (found : Found) × Shows v hash bytes found
+AllowsReads (opens v hash bytes next) files n = (found : Found) × ShowsMap v hash bytes found
     × AllowsReads (next found) files n
 AllowsReads (seeks name next) files n = ⊤
 
@@ -157,6 +157,6 @@ MayRead hash (Some (commands.Check root q proof)) files n =
 MayRead hash command files n = AllowsReads (say hash command) files n
 
 -- what was read in between, where the files are told
-abbrev pub ReadsFew : (Files → ℕ → Type 0) → Shelved → Shelved → Type 0
-ReadsFew allows before after = OfFiles before.files
+abbrev pub ReadsWithinPlan : (Files → ℕ → Type 0) → Shelved → Shelved → Type 0
+ReadsWithinPlan allows before after = OfFiles before.files
     (λ files. (n : ℕ) × (after.reads ≤ before.reads + n) × allows files n)

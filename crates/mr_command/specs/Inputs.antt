@@ -5,18 +5,18 @@ use Rattle.std.specs.Global.{Vec}
 use Rattle.mr_outside.specs.Files.{Files}
 use Rattle.mr_outside.specs.State.{Shelved}
 use Rattle.mr_outside.specs.Told.{OfFile}
-use Rattle.mr_record.specs.Answer.{Refuses}
+use Rattle.mr_record.specs.Answer.{RefusesText}
 use Rattle.mr_record.specs.declared.text_fault.TextErr.{TextErr}
 use Rattle.mr_record.specs.declared.text_fault.TextErr.TheVariants as texts
 use Rattle.mr_record.specs.declared.text_fault.TextFault.{TextFault}
 use Rattle.mr_record.specs.declared.version.Version.TheVariants.{Two}
-use Rattle.mr_tree.specs.Nodes.{Standing}
+use Rattle.mr_tree.specs.Nodes.{MapModel}
 use Rattle.mr_pages.specs.File.{form_at}
 use Rattle.mr_pages.specs.Opening.{pages_in}
 use Rattle.mr_pages.specs.declared.error.MapErr.{MapErr}
 use Rattle.mr_store.specs.Opening.{RefusesMap, TellsMap}
 use Rattle.mr_command.specs.Counting.{pieces_of, reads_taken}
-use Rattle.mr_command.specs.Ending.{AreJudged, Comes, GivesOrStops, Reads, SaysRefusal}
+use Rattle.mr_command.specs.Ending.{AreJudged, RunsPlan, IsEndingOrHalt, ReadsInput, SaysRefusal}
 use Rattle.mr_plan.specs.Lines.{bad_text_line, needs_version_2_line}
 use Rattle.mr_plan.specs.Plan.{Input, Plan, comes}
 use Rattle.mr_plan.specs.Say.{ends, needs}
@@ -30,8 +30,8 @@ use Rattle.mr_plan.specs.declared.status.Status.TheVariants.{BadText, NeedsVersi
 abbrev pub GoesOnOrEnds : {A : Type 0} → Plan → (A → Plan) → Shelved → Shelved
     → Result A (Result Ending Halt) → Type 0
 GoesOnOrEnds plan next before after (Ok x) = (later : Shelved) → (result : Result Ending Halt)
-    → Comes (next x) after later result → Comes plan before later result
-GoesOnOrEnds plan next before after (Err came) = Comes plan before after came
+    → RunsPlan (next x) after later result → RunsPlan plan before later result
+GoesOnOrEnds plan next before after (Err came) = RunsPlan plan before after came
 
 -- what follows on bytes takes them from the file in pieces, and opens none but such as stand for
 -- one map or have one fault
@@ -47,7 +47,7 @@ pub record FollowsText {A : Type 0} (next : Result A TextFault → Plan) : Type 
       → reads_taken (next found) input ≡ pieces_of input
   pub judged : (found : Result A TextFault) (told : Option Files) → AreJudged (next found) told
   pub given_up : (found : Result A TextFault) (at : Shelved)
-      → Comes (next found) at at (Err halts.NoMemory)
+      → RunsPlan (next found) at at (Err halts.NoMemory)
 
 -- the values of the text in a file that has to be there, by how such a text is read
 abbrev pub ReadsText : {A : Type 0} → (List ℕ → Result (List A) TextFault) → List ℕ → Shelved
@@ -59,25 +59,25 @@ ReadsText {A} values name before after result =
 
 -- what is said of a text whose values could not be had
 abbrev pub SaysText : TextErr → Result Ending Halt → Type 0
-SaysText (texts.Text fault) came = GivesOrStops (ends BadText (bad_text_line fault)) came
+SaysText (texts.Text fault) came = IsEndingOrHalt (ends BadText (bad_text_line fault)) came
 SaysText texts.NoMemory came = came ≡ Err halts.NoMemory
 
 -- a text that was read has no value, for this reason
 pub record HasNoValue {A : Type 0} (value : List ℕ → Result A TextFault) (name : List ℕ)
     (before after : Shelved) (came : Result Ending Halt) : Type 0 where
   pub text : Vec ℕ
-  pub read : Reads name before after (Ok text)
+  pub read : ReadsInput name before after (Ok text)
   pub error : TextErr
-  pub refuses : Refuses error (value text.items)
+  pub refuses : RefusesText error (value text.items)
   pub says : SaysText error came
 
 -- the value of the text in a file that has to be there, or why it could not be had
 abbrev pub ReadsValue : {A : Type 0} → (List ℕ → Result A TextFault) → List ℕ → Shelved → Shelved
     → Result A (Result Ending Halt) → Type 0
 ReadsValue value name before after (Ok x) =
-    (text : Vec ℕ) × Reads name before after (Ok text) × (value text.items ≡ Ok x)
+    (text : Vec ℕ) × ReadsInput name before after (Ok text) × (value text.items ≡ Ok x)
 ReadsValue value name before after (Err came) =
-    Reads name before after (Err came) ⊎ HasNoValue value name before after came
+    ReadsInput name before after (Err came) ⊎ HasNoValue value name before after came
 
 -- a map is not opened, for this reason, and what the command comes to says it
 pub record IsUnopened (hash : List ℕ → List ℕ) (name : List ℕ) (before after : Shelved)
@@ -88,7 +88,7 @@ pub record IsUnopened (hash : List ℕ → List ℕ) (name : List ℕ) (before a
 
 -- an opened map stands for this: each of its pages was read once at most, and no fault was counted
 pub record WasOpened (hash : List ℕ → List ℕ) (name : List ℕ) (before after : Shelved)
-    (s : Standing) : Type 0 where
+    (s : MapModel) : Type 0 where
   pub answers : OfFile before.files name ⊥ (λ bytes. TellsMap (form_at bytes) hash s bytes)
   pub files : after.files ≡ before.files
   pub quiet : after.faults ≡ before.faults
@@ -98,10 +98,10 @@ pub record WasOpened (hash : List ℕ → List ℕ) (name : List ℕ) (before af
 -- a map was opened that is of version 2, and what the command comes to says so
 pub record HasNoProofs (hash : List ℕ → List ℕ) (name : List ℕ) (before after : Shelved)
     (came : Result Ending Halt) : Type 0 where
-  pub stands : Standing
+  pub stands : MapModel
   pub second : stands.version ≡ Two
   pub opened : WasOpened hash name before after stands
-  pub says : GivesOrStops (ends NeedsVersion2 needs_version_2_line) came
+  pub says : IsEndingOrHalt (ends NeedsVersion2 needs_version_2_line) came
 
 -- no map is opened that has proofs
 abbrev pub IsUnprovable : (List ℕ → List ℕ) → List ℕ → Shelved → Shelved → Result Ending Halt

@@ -3,7 +3,4 @@ pub mod Answer
 pub mod Shown
 pub mod Ending
 pub mod Inputs
-pub mod Bundled
-pub mod Listing
-pub mod Taking
-pub mod Applying
+pub mod private

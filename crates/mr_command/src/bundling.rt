@@ -5,8 +5,8 @@ ghost use Rattle.std.specs.String.{string_bytes};
 ghost use Rattle.mr_outside.specs.State.{Shelved};
 ghost use Rattle.mr_query.specs.Script.{script_limit};
 ghost use Rattle.mr_bundle.specs.Bundle.{IsShort, bundle_of, part_bytes};
-ghost use Rattle.mr_command.specs.Bundled.{IsGivenUp, IsMade};
-ghost use Rattle.mr_command.specs.Ending.{Comes, Saves};
+ghost use Rattle.mr_command.specs.private.Bundled.{IsGivenUp, HasMadeText};
+ghost use Rattle.mr_command.specs.Ending.{RunsPlan, SavesFile};
 ghost use Rattle.mr_plan.specs.Outcome.{text};
 ghost use Rattle.mr_plan.specs.Plan.{comes};
 ghost use Rattle.mr_plan.specs.Say.{say_text};
@@ -34,9 +34,9 @@ pub(crate) fn bundle_size(list: &[Proof]) -> usize
 fn put_on<S: Shelf>(name: &str, proof: &[u8], waits: &mut Text, shelf: &mut S) -> Result<(), Halt>
     requires { IsShort proof.now }
     ensures { (before : Shelved) (made : List ℕ)
-        → IsMade name.now made waits.old.bytes.items before (S.state shelf.old)
+        → HasMadeText name.now made waits.old.bytes.items before (S.state shelf.old)
         → let more = made ++ part_bytes proof.now in MatchResult result
-        (λ done. IsMade name.now more waits.new.bytes.items before (S.state shelf.new))
+        (λ done. HasMadeText name.now more waits.new.bytes.items before (S.state shelf.new))
         (IsGivenUp name.now more before (S.state shelf.new)) }
 {
     put_part(waits, proof)?;
@@ -56,7 +56,7 @@ fn save_bundle<S: Shelf>(
     shelf: &mut S,
 ) -> Result<(), Halt>
     requires { All IsShort list.now }
-    ensures { Saves name.now (text (bundle_of list.now)) (S.state shelf.old) (S.state shelf.new)
+    ensures { SavesFile name.now (text (bundle_of list.now)) (S.state shelf.old) (S.state shelf.new)
         result }
 {
     shelf.create(name)?;
@@ -78,7 +78,7 @@ pub(crate) fn save_proofs<S: Shelf>(
     shelf: &mut S,
 ) -> Result<Ending, Halt>
     requires { All IsShort list.now }
-    ensures { Comes (comes (say_text (string_bytes line) name.now (bundle_of list.now)))
+    ensures { RunsPlan (comes (say_text (string_bytes line) name.now (bundle_of list.now)))
         (S.state shelf.old) (S.state shelf.new) result }
 {
     save_bundle(alloc, name, list, shelf)?;

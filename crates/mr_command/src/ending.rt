@@ -19,7 +19,7 @@ use std::alloc::{AllocError, Global};
 
 /// The records that are printed.
 #[derive(Drop)]
-pub enum Shown {
+pub enum RecordsOut {
     /// These, in this order.
     Records(Vec<Record>),
     /// Those of a tree, in rising number.
@@ -36,7 +36,7 @@ pub struct Ending {
     pub text: Vec<u8>,
     /// In whose lines the records behind them are printed.
     pub version: Version,
-    pub records: Shown,
+    pub records: RecordsOut,
     ghost layers: { All (HasLayer version) (kept_in records) } by { Prim.hlevel props },
 }
 
@@ -52,7 +52,7 @@ impl Ending {
             status,
             text,
             version: Version::One,
-            records: Shown::Records(Vec::new(alloc)),
+            records: RecordsOut::Records(Vec::new(alloc)),
         }
     }
 
@@ -74,7 +74,7 @@ impl Ending {
             status,
             text: line.into_bytes(),
             version: Version::One,
-            records: Shown::Records(records),
+            records: RecordsOut::Records(records),
         }
     }
 
@@ -88,7 +88,7 @@ impl Ending {
             status,
             text: Vec::new(alloc),
             version: Version::One,
-            records: Shown::Records(records),
+            records: RecordsOut::Records(records),
         }
     }
 
@@ -103,7 +103,7 @@ impl Ending {
             status,
             text: Vec::new(alloc),
             version,
-            records: Shown::OfTree(alloc, tree),
+            records: RecordsOut::OfTree(alloc, tree),
         }
     }
 }

@@ -4,7 +4,7 @@ ghost use Rattle.std.specs.Prelude.{◌≡◌, ◌≤◌, ◌+◌, IfOk, IfErr, 
 ghost use Rattle.mr_tree.specs.Digest.{by};
 ghost use Rattle.mr_tree.specs.Nodes.{HasSomeCause, TellsRefusal};
 ghost use Rattle.mr_query.specs.Word.{IsAskable};
-ghost use Rattle.mr_clash.specs.Finding.{found, opened_accepted, Collides, FetchesFew, FindsFor};
+ghost use Rattle.mr_clash.specs.Finding.{found, opened_accepted, ShowsCollision, FetchesFew, FindsFor};
 ghost use Rattle.mr_bundle.specs.Proofs.{as_given};
 ghost use Rattle.mr_command.specs.Ending.{SaysRefusal};
 ghost use Rattle.mr_plan.specs.Found.{as_map_error};
@@ -31,7 +31,7 @@ pub(crate) fn finding_of_nodes<N: Nodes>(
         query.now bytes.now)) }
     ensures judged { IfOk result (λ f.
         FindsFor N.Hash.of (N.stands nodes.old) query.now bytes.now f) }
-    ensures collides { IfOk result (λ f. Collides N.Hash.of f) }
+    ensures collides { IfOk result (λ f. ShowsCollision N.Hash.of f) }
     ensures fetched { IfSome (N.stands nodes.old).tree (λ t. N.fetches nodes.new ≤
         N.fetches nodes.old + opened_accepted (by (N.stands nodes.old).version N.Hash.of) t
         (N.stands nodes.old).batch query.now bytes.now) }

@@ -1,11 +1,11 @@
 //! Inputs, and what is said of one that is missing or is no text of its kind.
 
 ghost use Rattle.std.specs.Prelude.{◌≤◌, length, All, IfOk};
-ghost use Rattle.mr_record.specs.Bytes.{AreBytes};
+ghost use Rattle.mr_record.specs.private.Bytes.{AreBytes};
 ghost use Rattle.mr_record.specs.RecordText.{IsRecordList, records_of_text};
 ghost use Rattle.mr_query.specs.Script.{queries_of_text, script_limit};
 ghost use Rattle.mr_query.specs.Word.{IsAskable};
-ghost use Rattle.mr_command.specs.Ending.{IsAsRead, Misses, Reads};
+ghost use Rattle.mr_command.specs.Ending.{IsAsRead, SaysMissing, ReadsInput};
 ghost use Rattle.mr_command.specs.Inputs.{ReadsText, SaysText};
 
 use crate::ending::{Ending, Halt, Step};
@@ -37,7 +37,7 @@ pub(crate) fn as_needed(alloc: Global, name: &str, read: Result<Vec<u8>, ShelfEr
 
 // The bytes of an input that has to be there.
 pub(crate) fn needed<S: Shelf>(alloc: Global, name: &str, shelf: &mut S) -> Step<Vec<u8>>
-    ensures { Reads name.now (S.state shelf.old) (S.state shelf.new) result }
+    ensures { ReadsInput name.now (S.state shelf.old) (S.state shelf.new) result }
 {
     as_needed(alloc, name, read_all(alloc, shelf, name))
 }
@@ -66,7 +66,7 @@ pub(crate) fn queries_from<S: Shelf>(alloc: Global, name: &str, shelf: &mut S) -
     ensures reads { ReadsText queries_of_text name.now (S.state shelf.old) (S.state shelf.new)
         result }
     ensures askable { IfOk result (λ v. All IsAskable v.items) }
-    ensures few { IfOk result (λ v. length v.items ≤ script_limit) }
+    ensures length_at_most { IfOk result (λ v. length v.items ≤ script_limit) }
 {
     let text = needed(alloc, name, shelf)?;
     match read_script(alloc, &text) {
@@ -77,7 +77,7 @@ pub(crate) fn queries_from<S: Shelf>(alloc: Global, name: &str, shelf: &mut S) -
 
 // The ending over a file that is missing.
 pub(crate) fn missing(alloc: Global, name: &str) -> Result<Ending, Halt>
-    ensures { Misses name.now result }
+    ensures { SaysMissing name.now result }
 {
     let line = missing_line(alloc, name)?;
     Ok(Ending::line(alloc, Status::Outside, line))

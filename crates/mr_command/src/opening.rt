@@ -5,7 +5,7 @@ ghost use Rattle.mr_record.specs.declared.version.Version.TheVariants.{One};
 ghost use Rattle.mr_pages.specs.File.{version_of};
 ghost use Rattle.mr_store.specs.Opening.{OpensMap};
 ghost use Rattle.mr_store.specs.Paged.{stands_for};
-ghost use Rattle.mr_command.specs.Ending.{GivesOrStops, Opens, SaysRefusal};
+ghost use Rattle.mr_command.specs.Ending.{IsEndingOrHalt, OpensMapOrEnds, SaysRefusal};
 ghost use Rattle.mr_command.specs.Inputs.{IsUnopened, IsUnprovable};
 ghost use Rattle.mr_plan.specs.Lines.{needs_version_2_line as line_of_need};
 ghost use Rattle.mr_plan.specs.Saying.{ends};
@@ -47,7 +47,8 @@ pub(crate) fn open_map<H: Hash32, S: Shelf>(
     name: &str,
     shelf: &mut S,
 ) -> Step<Opened>
-    ensures { Opens version_of H.of name.now (S.state shelf.old) (S.state shelf.new) result }
+    ensures { OpensMapOrEnds version_of H.of name.now (S.state shelf.old) (S.state shelf.new)
+        result }
 {
     match open_plain::<H, S>(alloc, shelf, name) {
         Ok(map) => {
@@ -76,7 +77,7 @@ pub(crate) fn open_paged<H: Hash32, S: Shelf>(
 
 // What a command comes to on a map of version 2, of which there are no proofs yet.
 fn without_proofs(alloc: Global) -> Result<Ending, Halt>
-    ensures { GivesOrStops (ends NeedsVersion2 line_of_need) result }
+    ensures { IsEndingOrHalt (ends NeedsVersion2 line_of_need) result }
 {
     let line = needs_version_2_line(alloc)?;
     Ok(Ending::line(alloc, Status::NeedsVersion2, line))

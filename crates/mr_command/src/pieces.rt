@@ -6,11 +6,11 @@ ghost use Rattle.mr_outside.specs.Told.{OfFile};
 ghost use Rattle.mr_query.specs.Word.{IsAskable};
 ghost use Rattle.mr_query.specs.declared.query.Query as queries;
 ghost use Rattle.mr_check.specs.Judged.{IsTaken};
-ghost use Rattle.mr_command.specs.Taking.{HasCauses, TakesNext, TakesFile, JudgesFile, ReadsToFault};
+ghost use Rattle.mr_command.specs.private.Taking.{HasCauses, TakesNext, TakesFile, JudgesFile, ReadsToFault};
 
 use crate::ending::Halt;
 use crate::input::are_bytes;
-use mr_check::{CheckErr, Intake};
+use mr_check::{CheckErr, PieceCheck};
 use mr_outside::{PIECE, Shelf, ShelfErr};
 use mr_proof::Fault;
 use mr_query::Query;
@@ -28,7 +28,7 @@ pub(crate) enum Stop {
 }
 
 impl From<ShelfErr> for Stop {
-    ghost use Rattle.mr_command.specs.Taking.{stop_of_shelf};
+    ghost use Rattle.mr_command.specs.private.Taking.{stop_of_shelf};
 
     ghost from_gives = { λ e s. s ≡ stop_of_shelf e };
 
@@ -42,7 +42,7 @@ impl From<ShelfErr> for Stop {
 }
 
 impl From<CheckErr> for Stop {
-    ghost use Rattle.mr_command.specs.Taking.{stop_of_check};
+    ghost use Rattle.mr_command.specs.private.Taking.{stop_of_check};
 
     ghost from_gives = { λ e s. s ≡ stop_of_check e };
 
@@ -65,16 +65,16 @@ impl From<AllocError> for Stop {
     }
 }
 
-// Reads so many bytes of a file, from this place on, and takes them in: the intake that took them,
+// Reads so many bytes of a file, from this place on, and takes them in: the check that took them,
 // and how many came.
 fn take_next<H: Hash32, S: Shelf>(
-    intake: Intake<H>,
+    intake: PieceCheck<H>,
     name: &str,
     at: u64,
     wanted: usize,
     buffer: &mut [u8],
     shelf: &mut S,
-) -> Result<(Intake<H>, usize), Stop>
+) -> Result<(PieceCheck<H>, usize), Stop>
     requires { wanted ≤ length buffer.old }
     ensures within { IfOk result (λ next. next.1 ≤ wanted) }
     ensures one { (S.state shelf.new).reads ≤ (S.state shelf.old).reads + 1 }
@@ -94,12 +94,12 @@ fn take_next<H: Hash32, S: Shelf>(
 // Takes in a file of this length, in pieces of as many bytes as the buffer has room for. It stops
 // at the first fault, and at the first read that gives fewer bytes than were asked for.
 fn take_file<H: Hash32, S: Shelf>(
-    intake: Intake<H>,
+    intake: PieceCheck<H>,
     name: &str,
     size: u64,
     buffer: &mut [u8],
     shelf: &mut S,
-) -> Result<Intake<H>, Stop>
+) -> Result<PieceCheck<H>, Stop>
     requires size { OfFile (S.state shelf.old).files name.now ⊥ (λ bytes. size ≡ length bytes) }
     requires bytes { OfFile (S.state shelf.old).files name.now ⊤ AreBytes }
     requires room { length buffer.old ≡ 65536 }
@@ -148,7 +148,7 @@ pub(crate) fn judge_file<H: Hash32, S: Shelf>(
 {
     let size = shelf.size(name)?;
     let mut buffer = zeros(alloc, PIECE)?;
-    let intake = Intake::<H>::new(alloc, root, query)?;
+    let intake = PieceCheck::<H>::new(alloc, root, query)?;
     let taken = take_file::<H, S>(intake, name, size, buffer.as_mut_slice(), shelf)?;
     Ok(taken.end()?)
 }

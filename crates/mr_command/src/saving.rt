@@ -4,7 +4,7 @@ ghost use Rattle.std.specs.Prelude.{◌≡◌};
 ghost use Rattle.std.specs.String.{string_bytes};
 ghost use Rattle.mr_tree.specs.Digest.{by, root as root_digest};
 ghost use Rattle.mr_tree.specs.WellFormed.{WellFormed, HasLayers};
-ghost use Rattle.mr_command.specs.Ending.{Comes, Saves};
+ghost use Rattle.mr_command.specs.Ending.{RunsPlan, SavesFile};
 ghost use Rattle.mr_plan.specs.Outcome.{map_of, text};
 ghost use Rattle.mr_plan.specs.Plan.{comes};
 ghost use Rattle.mr_plan.specs.Say.{say_map, say_text};
@@ -19,7 +19,7 @@ use std::alloc::Global;
 
 // Makes a file of these bytes.
 fn save_bytes<S: Shelf>(name: &str, bytes: &[u8], shelf: &mut S) -> Result<(), Halt>
-    ensures { Saves name.now (text bytes.now) (S.state shelf.old) (S.state shelf.new) result }
+    ensures { SavesFile name.now (text bytes.now) (S.state shelf.old) (S.state shelf.new) result }
 {
     shelf.create(name)?;
     shelf.append(name, bytes)?;
@@ -35,7 +35,7 @@ pub(crate) fn save_text<S: Shelf>(
     bytes: &[u8],
     shelf: &mut S,
 ) -> Result<Ending, Halt>
-    ensures { Comes (comes (say_text (string_bytes line) name.now bytes.now)) (S.state shelf.old)
+    ensures { RunsPlan (comes (say_text (string_bytes line) name.now bytes.now)) (S.state shelf.old)
         (S.state shelf.new) result }
 {
     save_bytes(name, bytes, shelf)?;
@@ -53,7 +53,7 @@ fn save<H: Hash32, S: Shelf>(
 ) -> Result<(), Halt>
     requires well_formed { WellFormed tree.now }
     requires layers { HasLayers version tree.now }
-    ensures { Saves name.now (map_of version H.of tree.now batch) (S.state shelf.old)
+    ensures { SavesFile name.now (map_of version H.of tree.now batch) (S.state shelf.old)
         (S.state shelf.new) result }
 {
     match version {
@@ -75,7 +75,7 @@ pub(crate) fn save_map<H: Hash32, S: Shelf>(
     requires well_formed { WellFormed tree.now }
     requires layers { HasLayers version tree.now }
     requires root { root.now ≡ root_digest (by version H.of) tree.now batch }
-    ensures { Comes (comes (say_map version H.of name.now tree.now batch)) (S.state shelf.old)
+    ensures { RunsPlan (comes (say_map version H.of name.now tree.now batch)) (S.state shelf.old)
         (S.state shelf.new) result }
 {
     let line = digest_line(alloc, root)?;

@@ -14,8 +14,8 @@ use Rattle.mr_outside.specs.declared.shelf.ShelfErr.TheVariants as shelf
 use Rattle.mr_outside.proofs.Changes.{IsChanged-grown, file-with_file, file-with_other}
 use Rattle.mr_pages.specs.Page.{Form}
 use Rattle.mr_pages.specs.Source.{told_bytes}
-use Rattle.mr_draft.specs.Sheets.{zeros, IsMade, WasRead, HasCopied, CopyStops, IsFiled}
-use Rattle.mr_edit.specs.Shelves.{HasShelfCause, Refuses, RefusesMade}
+use Rattle.mr_draft.specs.Sheets.{zeros, HasMadeEmpty, WasRead, HasCopied, CopyStops, IsFiled}
+use Rattle.mr_edit.specs.Shelves.{HasShelfCause, RefusesAsEdit, RefusesMade}
 use Rattle.mr_edit.specs.declared.error.EditErr.{EditErr}
 use Rattle.mr_edit.specs.declared.error.EditErr.TheVariants as errors
 use Rattle.mr_draft.proofs.Filed.{shelf_cause}
@@ -66,7 +66,7 @@ none_before name bytes (Some files) after put none =
 
 -- a file that is there is missing only where no file is told
 not_told : {A : Type 0} (name : List ℕ) (before after : Shelved) (e : ShelfErr) (r : EditErr) →
-    IsFiled before.files name → ShelfCauses {A = A} name before after (Err e) → Refuses e r → r ≡ errors.Missing →
+    IsFiled before.files name → ShelfCauses {A = A} name before after (Err e) → RefusesAsEdit e r → r ≡ errors.Missing →
     before.files ≡ None
 not_told name before after shelf.Missing r there c is missing = at before.files refl there (c.missing refl)
   where
@@ -125,7 +125,7 @@ create_stops {A = A} form new pages s b e r never files reads c is = record {
     at shelf.NoMemory c never is = subst (HasShelfCause s.faults b.faults) (sym is) tt
 
 module _ (form : Form) (new : List ℕ) (pages : ℕ) (page : List ℕ) (zero_page : page ≡ zeros form.size)
-    (s a b : Shelved) (made : IsMade new s a) (same : b.reads ≡ a.reads) where
+    (s a b : Shelved) (made : HasMadeEmpty new s a) (same : b.reads ≡ a.reads) where
   pub first_copied : (old : List ℕ) → b.faults ≡ a.faults → IsChanged (grown new) page a.files b.files →
       HasCopied form old new pages 1 s b
   first_copied old quiet put = record {
@@ -200,7 +200,7 @@ module _ (form : Form) (old new : List ℕ) (pages page count : ℕ) (s a : Shel
       }
 
   pub read_stops : {A : Type 0} (b : Shelved) (e : ShelfErr) (r : EditErr) → IsFiled s.files old → b.files ≡ a.files →
-      CountsRead {A = A} a b (Err e) → ShelfCauses {A = A} old a b (Err e) → Refuses e r →
+      CountsRead {A = A} a b (Err e) → ShelfCauses {A = A} old a b (Err e) → RefusesAsEdit e r →
       CopyStops form new pages s b r
   read_stops b e r there files reads c is = record {
     left = inr (

@@ -24,35 +24,35 @@ use Rattle.mr_pages.proofs.Agreement.{head_read, written_as}
 use Rattle.mr_pages.proofs.Building.{IsRead}
 use Rattle.mr_pages.proofs.Chains.{ReadsChain}
 use Rattle.mr_pages.proofs.HeadLaws.{form_is}
-use Rattle.mr_store.specs.Kept.{Entries, room}
-use Rattle.mr_store.specs.Laws.{opened}
-use Rattle.mr_store.specs.Stored.{IsOpen, IsStored, placed, read_map}
-use Rattle.mr_edit.specs.Book.{Sheet, Book, HasNode, HasFree, Owned, times}
-use Rattle.mr_draft.specs.Draft.{Drawn, DraftOf}
+use Rattle.mr_store.specs.Kept.{CacheEntries, room}
+use Rattle.mr_store.specs.private.Laws.{opened}
+use Rattle.mr_store.specs.Stored.{IsOpen, IsStored, nodes_on_pages, read_map}
+use Rattle.mr_edit.specs.PageMap.{PageContent, PageMap, HasNode, HasFree, OwnsEachOnce, count_in}
+use Rattle.mr_draft.specs.Draft.{DraftState, DraftOf}
 use Rattle.mr_edit.specs.Drafted.{Drafted}
-use Rattle.mr_draft.specs.Sheets.{sheet_of, book_in, book_on, zeros, HasPages, ArePages, AreOn, AreKept, HasCopied, IsFiled}
+use Rattle.mr_draft.specs.Sheets.{content_of, page_map_in, page_map_on, zeros, HasUnsealedPages, ArePages, AreOn, AreKept, HasCopied, IsFiled}
 use Rattle.mr_draft.proofs.Copied.{set_there}
-use Rattle.mr_edit.proofs.Frame.{frame, times-append, times_first, times_rest}
+use Rattle.mr_edit.proofs.Frame.{frame, count_in-append, times_first, times_rest}
 use Rattle.mr_edit.proofs.OwnedOnce.{owned_of_all}
 use Rattle.mr_edit.proofs.Places.{apart}
 use Rattle.mr_draft.proofs.Sizes.{first_page, pages_behind, pages_some}
 use Rattle.mr_draft.proofs.ZeroPages.{length_zeros, bytes_zeros}
 
-pub sheet_node : (form : Form) (page : List ℕ) → (sheet_of form page).node ≡ form.node_in page
-unfolding sheet_of
-sheet_node form page = refl
+pub content_node : (form : Form) (page : List ℕ) → (content_of form page).node ≡ form.node_in page
+unfolding content_of
+content_node form page = refl
 
-pub sheet_free : (form : Form) (page : List ℕ) → (sheet_of form page).free ≡ form.free_in page
-unfolding sheet_of
-sheet_free form page = refl
+pub content_free : (form : Form) (page : List ℕ) → (content_of form page).free ≡ form.free_in page
+unfolding content_of
+content_free form page = refl
 
 -- so many pages of these bytes
-abbrev pub pages_in : Form → ℕ → List ℕ → Book
-pages_in form pages bytes = record { size = pages; sheet = λ p. sheet_of form (page_at form bytes p) }
+abbrev pub pages_in : Form → ℕ → List ℕ → PageMap
+pages_in form pages bytes = record { size = pages; content = λ p. content_of form (page_at form bytes p) }
 
-pub book_whole : (form : Form) (pages : ℕ) (bytes : List ℕ) → length bytes ≡ pages * form.size →
-    book_in form pages bytes ≡ Some (pages_in form pages bytes)
-book_whole form pages bytes whole =
+pub page_map_whole : (form : Form) (pages : ℕ) (bytes : List ℕ) → length bytes ≡ pages * form.size →
+    page_map_in form pages bytes ≡ Some (pages_in form pages bytes)
+page_map_whole form pages bytes whole =
     ap (λ b. if b then Some (pages_in form pages bytes) else None)
     (eq-eqb (length bytes) (pages * form.size) whole)
 
@@ -74,7 +74,7 @@ copy_page form bytes q some =
     ∙ ap (take size) (drop-drop more size bytes)
     ∙ ap (λ k. take size (drop k bytes)) there
 
-module _ (layout : Layout) (fits : IsLayout layout) (hash : List ℕ → List ℕ) (h : MapHead) (es : Entries)
+module _ (layout : Layout) (fits : IsLayout layout) (hash : List ℕ → List ℕ) (h : MapHead) (es : CacheEntries)
     (bytes : List ℕ) (op : IsOpen (form_of layout) hash h es bytes) where
   abbrev form : Form
   form = form_of layout
@@ -116,7 +116,7 @@ module _ (layout : Layout) (fits : IsLayout layout) (hash : List ℕ → List �
     length-drop size bytes,
   )
 
-  pub has_copy : HasPages form h.pages (copy)
+  pub has_copy : HasUnsealedPages form h.pages (copy)
   has_copy = record {
     some = spans.some;
     few = spans.few;
@@ -150,24 +150,24 @@ module _ (layout : Layout) (fits : IsLayout layout) (hash : List ℕ → List �
   reads_as None w = tt
   reads_as (Some P) w =
       written_as scheme (λ p n. (file_of form bytes).node p ≡ Some n) (HasNode (pages_in form h.pages bytes))
-      (λ p n e. sheet_node form (page_at form bytes p) ∙ e) P w
+      (λ p n e. content_node form (page_at form bytes p) ∙ e) P w
 
-  abbrev new : Book
+  abbrev new : PageMap
   new = pages_in form h.pages (copy)
 
-  same_sheet : (q : ℕ) → q ≢ 0 → new.sheet q ≡ (pages_in form h.pages bytes).sheet q
-  same_sheet q some = ap (sheet_of form) (copy_page form bytes q some)
+  same_content : (q : ℕ) → q ≢ 0 → new.content q ≡ (pages_in form h.pages bytes).content q
+  same_content q some = ap (content_of form) (copy_page form bytes q some)
 
-  copied_as : (po : Option Placed) (chain : List ℕ) → Owned h.pages (0 ∷ (whole_pages po ++ chain)) →
+  copied_as : (po : Option Placed) (chain : List ℕ) → OwnsEachOnce h.pages (0 ∷ (whole_pages po ++ chain)) →
       IfSome po (IsWritten scheme (HasNode (pages_in form h.pages bytes))) →
       IfSome po (IsWritten scheme (HasNode new))
   copied_as None chain owned w = tt
   copied_as (Some P) chain owned w =
       frame scheme (pages_in form h.pages bytes) new P
-      (λ q there. same_sheet q (apart h.pages 0 (pages_of P ++ chain) q owned
-      (omega (arith, there, times-append q (pages_of P) chain)))) w
+      (λ q there. same_content q (apart h.pages 0 (pages_of P ++ chain) q owned
+      (omega (arith, there, count_in-append q (pages_of P) chain)))) w
 
-  chain_as : (f : ℕ) (ps : List ℕ) → ((q : ℕ) → 0 < times q ps → q ≢ 0) →
+  chain_as : (f : ℕ) (ps : List ℕ) → ((q : ℕ) → 0 < count_in q ps → q ≢ 0) →
       ReadsChain (file_of form bytes).free f ps → IsChain (HasFree new) f ps
   chain_as f [] low c = c
   chain_as f (p ∷ ps) low c =
@@ -176,22 +176,22 @@ module _ (layout : Layout) (fits : IsLayout layout) (hash : List ℕ → List �
         c.1,
         (
           omega (arith, some),
-          ap (λ (s : Sheet). s.free) (same_sheet p some) ∙ sheet_free form (page_at form bytes p) ∙ c.2,
+          ap (λ (s : PageContent). s.free) (same_content p some) ∙ content_free form (page_at form bytes p) ∙ c.2,
         ),
         chain_as c.0 ps (λ q there. low q (times_rest q p ps there)) c.3,
       )
 
-  pub drafted : (told : Option Book) → told ≡ Some new →
-      Drafted scheme told h.free h.root (whole_tree (placed form h bytes))
+  pub drafted : (told : Option PageMap) → told ≡ Some new →
+      Drafted scheme told h.free h.root (whole_tree (nodes_on_pages form h bytes))
   drafted told is =
       let r = (opened form is_form hash h es bytes op).reads in
       let head = head_read form is_form bytes op.are (head_of h) op.head in
-      let po = placed form h bytes in
-      let owned : Owned h.pages (0 ∷ (whole_pages po ++ r.lies.chain)) =
+      let po = nodes_on_pages form h bytes in
+      let owned : OwnsEachOnce h.pages (0 ∷ (whole_pages po ++ r.lies.chain)) =
       owned_of_all h.pages (whole_pages po ++ r.lies.chain) spans.some
       (subst (λ n. AreAllPages n (whole_pages po ++ r.lies.chain)) (sym head.same) r.lies.all) in
       record {
-        book = new;
+        page_map = new;
         is = is;
         placed = po;
         tree = refl;
@@ -200,7 +200,7 @@ module _ (layout : Layout) (fits : IsLayout layout) (hash : List ℕ → List �
         chain = r.lies.chain;
         linked = chain_as h.free r.lies.chain
             (λ q there. apart h.pages 0 (whole_pages po ++ r.lies.chain) q owned
-            (omega (arith, there, times-append q (whole_pages po) r.lies.chain))) r.lies.linked;
+            (omega (arith, there, count_in-append q (whole_pages po) r.lies.chain))) r.lies.linked;
         owned = owned;
       }
 
@@ -211,7 +211,7 @@ set_bytes : (name bytes : List ℕ) (told after : Option Files) (files : Files) 
 set_bytes name bytes told after files is put =
     ap (λ o. told_bytes o name) (put ∙ ap (option_map (with_file name bytes)) is) ∙ file-with_file name bytes files
 
-module _ (layout : Layout) (fits : IsLayout layout) (hash : List ℕ → List ℕ) (h : MapHead) (es : Entries) (cap : ℕ)
+module _ (layout : Layout) (fits : IsLayout layout) (hash : List ℕ → List ℕ) (h : MapHead) (es : CacheEntries) (cap : ℕ)
     (old name : List ℕ) (before after : Shelved) (store : IsStored (form_of layout) hash before.files old h es cap)
     (c : HasCopied (form_of layout) old name h.pages (max 1 h.pages) before after) where
   abbrev the_form : Form
@@ -247,16 +247,16 @@ module _ (layout : Layout) (fits : IsLayout layout) (hash : List ℕ → List �
   copy_same = same_at (told_bytes before.files old) refl store.open_
 
   have_at : (files : Option Files) → before.files ≡ files → (o : Option (List ℕ)) → told_bytes before.files old ≡ o →
-      IfSome o Opened → IsFiled files old → IfSome (told_bytes after.files name) (HasPages the_form h.pages)
+      IfSome o Opened → IsFiled files old → IfSome (told_bytes after.files name) (HasUnsealedPages the_form h.pages)
   have_at None is o found op there =
-      subst (λ x. IfSome x (HasPages the_form h.pages))
+      subst (λ x. IfSome x (HasUnsealedPages the_form h.pages))
       (sym (ap (λ x. told_bytes x name)
       (c.files ∙ ap (option_map (with_file name (zeros long ++ c.nodes))) is))) tt
   have_at (Some files) is None found op there =
       let none : IsSome {T = List ℕ} None =
       subst (IsSome {T = List ℕ}) (ap (λ x. told_bytes x old) (sym is) ∙ found) there in absurd cc
   have_at (Some files) is (Some bytes) found op there =
-      subst (λ x. IfSome x (HasPages the_form h.pages)) (sym (told_at files is bytes found op).there)
+      subst (λ x. IfSome x (HasUnsealedPages the_form h.pages)) (sym (told_at files is bytes found op).there)
       (has_copy layout fits hash h es bytes op)
 
   pub copy_pages : ArePages the_form after.files name h.pages
@@ -265,7 +265,7 @@ module _ (layout : Layout) (fits : IsLayout layout) (hash : List ℕ → List �
     have = have_at before.files refl (told_bytes before.files old) refl store.open_ store.there;
   }
 
-  abbrev pub the_draft : Drawn
+  abbrev pub the_draft : DraftState
   the_draft = record {
     shelf = after;
     name = name;
@@ -283,13 +283,13 @@ module _ (layout : Layout) (fits : IsLayout layout) (hash : List ℕ → List �
     where
       of_bytes : (files : Files) → before.files ≡ Some files → (bytes : List ℕ) →
           told_bytes before.files old ≡ Some bytes → Opened bytes →
-          DraftOf hash the_draft (whole_tree (placed the_form h bytes))
+          DraftOf hash the_draft (whole_tree (nodes_on_pages the_form h bytes))
       of_bytes files is bytes found op =
           let r = (opened the_form (form_is layout fits) hash h es bytes op).reads in
           record {
-            drafted = drafted layout fits hash h es bytes op (book_on the_form after.files name h.pages)
-                (ap (option_and_then (book_in the_form h.pages)) (told_at files is bytes found op).there
-                ∙ book_whole the_form h.pages (copy_of long bytes) (length_copy layout fits hash h es bytes op));
+            drafted = drafted layout fits hash h es bytes op (page_map_on the_form after.files name h.pages)
+                (ap (option_and_then (page_map_in the_form h.pages)) (told_at files is bytes found op).there
+                ∙ page_map_whole the_form h.pages (copy_of long bytes) (length_copy layout fits hash h es bytes op));
             well = r.well;
             counted = r.count;
           }
@@ -304,7 +304,7 @@ module _ (layout : Layout) (fits : IsLayout layout) (hash : List ℕ → List �
       at (Some files) is (Some bytes) found op there = of_bytes files is bytes found op
 
 -- nothing is kept yet
-pub none_kept : (s : Scheme) (told : Option Book) (es : Entries) (cap : ℕ) → es ≡ [] → cap ≡ room →
+pub none_kept : (s : Scheme) (told : Option PageMap) (es : CacheEntries) (cap : ℕ) → es ≡ [] → cap ≡ room →
     AreKept s told es cap
 none_kept s told es cap none is = record {
   cap_is = is;
@@ -312,6 +312,6 @@ none_kept s told es cap none is = record {
   on = at told;
 }
   where
-    at : (o : Option Book) → IfSome o (AreOn es)
+    at : (o : Option PageMap) → IfSome o (AreOn es)
     at None = tt
     at (Some b) = λ e there. absurd (Contains-nil e (subst (λ xs. Contains xs e) none there))

@@ -8,7 +8,7 @@ use Rattle.mr_outside.specs.Writing.{IsChanged}
 use Rattle.mr_outside.proofs.Changes.{file-with_file}
 use Rattle.mr_pages.specs.declared.layout.Layout.{Layout}
 use Rattle.mr_pages.specs.PageBytes.{form_of, layout_by}
-use Rattle.mr_pages.specs.Saved.{IsUnsealed, Leaves}
+use Rattle.mr_pages.specs.Saved.{IsUnsealed, LeavesFile}
 use Rattle.mr_pages.specs.Source.{told_bytes}
 use Rattle.mr_pages.specs.declared.head.MapHead.{MapHead}
 use Rattle.mr_tree.specs.Digest.{Scheme, by}
@@ -22,24 +22,24 @@ use Rattle.mr_pages.specs.Stands as stands
 use Rattle.mr_pages.specs.Stands.{Placed, tree_of, trees_of, link_of, whole_tree}
 use Rattle.mr_pages.specs.Walking.{child_link}
 use Rattle.mr_batch.specs.Changes.{Changes}
-use Rattle.mr_batch.specs.Directory.{Entries as Directed}
-use Rattle.mr_store.specs.Kept.{Entries}
+use Rattle.mr_batch.specs.Directory.{DirectoryEntries as Directed}
+use Rattle.mr_store.specs.Kept.{CacheEntries}
 use Rattle.mr_store.specs.Stored.{IsRootOf, IsStored}
 use Rattle.mr_edit.specs.Causes.{HasEditCause}
 use Rattle.mr_edit.specs.Changing.{CanReplay}
-use Rattle.mr_draft.specs.Draft.{Drawn, DraftOf, IsTop, IsOff, CopyFails, CanApply, Applies, KeepsDraft}
+use Rattle.mr_draft.specs.Draft.{DraftState, DraftOf, IsTop, IsOff, CopyFails, CanApply, AppliesBatch, KeepsDraft}
 use Rattle.mr_edit.specs.Outcome.{NeverMap, IsLow}
-use Rattle.mr_edit.specs.Replayed.{Replays}
+use Rattle.mr_edit.specs.Replayed.{ReplaysBatch}
 use Rattle.mr_edit.specs.Shelves.{HasShelfCause}
-use Rattle.mr_draft.specs.Sheets.{zeros, book_on, HasPages, ArePages, CopyStops}
-use Rattle.mr_edit.specs.Book.{Book}
+use Rattle.mr_draft.specs.Sheets.{zeros, page_map_on, HasUnsealedPages, ArePages, CopyStops}
+use Rattle.mr_edit.specs.PageMap.{PageMap}
 use Rattle.mr_edit.specs.Drafted.{Drafted}
 use Rattle.mr_batch.specs.Replay.{replay}
 use Rattle.mr_edit.specs.declared.error.EditErr.{EditErr}
 use Rattle.mr_edit.specs.Counted.{ReplaysWithin}
 use Rattle.mr_edit.specs.Reads.{reads_along}
 use Rattle.mr_edit.specs.declared.error.EditErr.TheVariants as errors
-use Rattle.mr_draft.proofs.ReadPages.{book_size}
+use Rattle.mr_draft.proofs.ReadPages.{page_map_size}
 use Rattle.mr_edit.proofs.Room.{few_nodes}
 use Rattle.mr_draft.proofs.Seals.{unsealed_front, unsealed_none, unsealed_pages}
 
@@ -55,7 +55,7 @@ low_at v count pages (Some c) r = r.low
 
 module _ (layout : Layout) (sized : layout.size ≡ (layout_by layout.version).size) (hash : List ℕ → List ℕ)
     (h : MapHead) (old name : List ℕ) (before after : Shelved) where
-  pub copy_low : (es : Entries) (cap : ℕ) → IsStored (form_of layout) hash before.files old h es cap → IsLow h.root
+  pub copy_low : (es : CacheEntries) (cap : ℕ) → IsStored (form_of layout) hash before.files old h es cap → IsLow h.root
   copy_low es cap store = low_at layout.version h.count h.pages h.root store.root
 
   pub copy_unsealed : (nodes : List ℕ) → IsUnsealed hash (zeros layout.size ++ nodes)
@@ -80,7 +80,7 @@ module _ (layout : Layout) (sized : layout.size ≡ (layout_by layout.version).s
 
 unsealed_at : (layout : Layout) → layout.size ≡ (layout_by layout.version).size → (hash : List ℕ → List ℕ)
     (name bytes : List ℕ) (pages : ℕ) (before after : Option Files) → IsChanged (with_file name) bytes before after →
-    ArePages (form_of layout) after name pages → Leaves (IsUnsealed hash) name before after
+    ArePages (form_of layout) after name pages → LeavesFile (IsUnsealed hash) name before after
 unsealed_at layout sized hash name bytes pages None after put are = inr ([], unsealed_none layout sized hash, put)
 unsealed_at layout sized hash name bytes pages (Some files) after put are =
     let there : told_bytes after name ≡ Some bytes = ap (λ o. told_bytes o name) put
@@ -88,12 +88,12 @@ unsealed_at layout sized hash name bytes pages (Some files) after put are =
     inr (
       bytes,
       unsealed_pages layout sized hash pages bytes
-          (subst (λ o. IfSome o (HasPages (form_of layout) pages)) there are.have),
+          (subst (λ o. IfSome o (HasUnsealedPages (form_of layout) pages)) there are.have),
       put,
     )
 
-pub keeps_draft : (hash : List ℕ → List ℕ) (d e : Drawn) → e.layout.size ≡ (layout_by e.layout.version).size →
-    e.name ≡ d.name → d.pages ≤ e.pages → Leaves (λ bytes. ⊤) d.name d.shelf.files e.shelf.files →
+pub keeps_draft : (hash : List ℕ → List ℕ) (d e : DraftState) → e.layout.size ≡ (layout_by e.layout.version).size →
+    e.name ≡ d.name → d.pages ≤ e.pages → LeavesFile (λ bytes. ⊤) d.name d.shelf.files e.shelf.files →
     d.shelf.faults ≤ e.shelf.faults → d.shelf.reads ≤ e.shelf.reads → e.layout ≡ d.layout →
     ArePages (form_of e.layout) e.shelf.files e.name e.pages → KeepsDraft hash d e
 keeps_draft hash d e sized name pages files faults reads layout are = record {
@@ -118,12 +118,12 @@ blames_none P before after errors.Missing p cause never = cause
 blames_none P before after errors.Fault p cause never = cause
 blames_none P before after errors.NoMemory p cause never = tt
 
-module _ (hash : List ℕ → List ℕ) (d : Drawn) (dir : Directed) (b : Changes) where
+module _ (hash : List ℕ → List ℕ) (d : DraftState) (dir : Directed) (b : Changes) where
   abbrev scheme : Scheme
   scheme = by d.layout.version hash
 
-  abbrev told : Option Book
-  told = book_on (form_of d.layout) d.shelf.files d.name d.pages
+  abbrev told : Option PageMap
+  told = page_map_on (form_of d.layout) d.shelf.files d.name d.pages
 
   pub can_replay : (t : Tree) → CanApply hash d dir b t →
       CanReplay scheme told d.free d.root dir b
@@ -133,11 +133,12 @@ module _ (hash : List ℕ → List ℕ) (d : Drawn) (dir : Directed) (b : Change
     admissible = can.admissible;
   }
 
-  pub applied : (e : Drawn) (dir' : Directed) → e.layout ≡ d.layout →
-      Replays scheme told d.free d.root dir (book_on (form_of e.layout) e.shelf.files e.name e.pages) e.free e.root
-      dir' b → e.count ≡ length dir' → Applies hash d dir b e dir'
+  pub applied : (e : DraftState) (dir' : Directed) → e.layout ≡ d.layout →
+      ReplaysBatch scheme told d.free d.root dir (page_map_on (form_of e.layout) e.shelf.files e.name e.pages) e.free
+      e.root
+      dir' b → e.count ≡ length dir' → AppliesBatch hash d dir b e dir'
   applied e dir' same replays counted t can =
-      let size = book_size d.layout d.shelf.files d.name d.pages can.draft.drafted.book can.draft.drafted.is in
+      let size = page_map_size d.layout d.shelf.files d.name d.pages can.draft.drafted.page_map can.draft.drafted.is in
       let n = replays t d.batch d.pages d.pages (nodes t) (record {
         reaches = record {
           draft = can.draft.drafted;
@@ -147,11 +148,12 @@ module _ (hash : List ℕ → List ℕ) (d : Drawn) (dir : Directed) (b : Change
         well = can.draft.well;
         directory = can.directory;
       }) can.admissible in
-      let after = book_size e.layout e.shelf.files e.name e.pages n.reaches.draft.book n.reaches.draft.is in
+      let after = page_map_size e.layout e.shelf.files e.name e.pages n.reaches.draft.page_map n.reaches.draft.is in
       record {
         draft = record {
           drafted = subst (λ (l : Layout). Drafted (by l.version hash)
-              (book_on (form_of e.layout) e.shelf.files e.name e.pages) e.free e.root (replay t (b ∷ []))) (sym same)
+              (page_map_on (form_of e.layout) e.shelf.files e.name e.pages) e.free e.root (replay t (b ∷ [])))
+              (sym same)
               n.reaches.draft;
           well = n.well;
           counted = counted ∙ n.directory.count;
@@ -165,7 +167,7 @@ module _ (hash : List ℕ → List ℕ) (d : Drawn) (dir : Directed) (b : Change
   pub applied_within : (r r' : ℕ) → ReplaysWithin scheme told d.free d.root dir b r r' → (t : Tree) →
       CanApply hash d dir b t → r' ≤ r + reads_along t b.list
   applied_within r r' within t can =
-      let size = book_size d.layout d.shelf.files d.name d.pages can.draft.drafted.book can.draft.drafted.is in
+      let size = page_map_size d.layout d.shelf.files d.name d.pages can.draft.drafted.page_map can.draft.drafted.is in
       within t d.batch d.pages d.pages (nodes t) (record {
         reaches = record {
           draft = can.draft.drafted;
@@ -181,7 +183,7 @@ some_node (stands.Leaf p rs) = omega (arith, fold-Leaf ℕ nodes_step rs)
 some_node (stands.Inner p Ps) = omega (arith, fold-Inner ℕ nodes_step (trees_of Ps))
 
 -- a draft's count fits its root
-pub is_top : (hash : List ℕ → List ℕ) (d : Drawn) (t : Tree) → DraftOf hash d t → IsTop d.count d.root
+pub is_top : (hash : List ℕ → List ℕ) (d : DraftState) (t : Tree) → DraftOf hash d t → IsTop d.count d.root
 is_top hash d t of = at d.root of.drafted.placed of.drafted.root_is of.drafted.tree
   where
     at : (r : Option Child) (po : Option Placed) →

@@ -3,7 +3,7 @@ use Rattle.std.proofs.Common.{◌≡◌, ℕ, ◌+◌, ◌*◌, ◌<◌, ◌≤�
 use Rattle.std.specs.Prelude.{⊤, Option, Some, None, option_map, IfSome, IsSome, MatchOption, Err}
 use Rattle.std.specs.Option.{option_and_then}
 use Rattle.std.specs.String.{string_bytes}
-use Rattle.mr_record.specs.Bytes.{AreBytes}
+use Rattle.mr_record.specs.private.Bytes.{AreBytes}
 use Rattle.mr_outside.specs.Faults.{Rose}
 use Rattle.mr_outside.specs.Files.{Files, file, with_file, with_change, grown, replaced, overwritten}
 use Rattle.mr_outside.specs.State.{Shelved}
@@ -16,19 +16,19 @@ use Rattle.mr_outside.specs.declared.shelf.Shelf.{Ghosts}
 use Rattle.mr_pages.specs.declared.layout.Layout.{Layout}
 use Rattle.mr_pages.specs.PageBytes.{form_of}
 use Rattle.mr_pages.specs.Page.{Form, page_limit}
-use Rattle.mr_pages.specs.Saved.{Leaves}
+use Rattle.mr_pages.specs.Saved.{LeavesFile}
 use Rattle.mr_pages.specs.Source.{told_bytes}
 use Rattle.mr_store.specs.CachedFile.{IsSameFile, name_of, state_of}
 use Rattle.mr_store.specs.declared.cached_file.CachedFile.{CachedFile}
-use Rattle.mr_edit.specs.Book.{with_sheet, longer}
+use Rattle.mr_edit.specs.PageMap.{with_content, longer}
 use Rattle.mr_edit.specs.Causes.{HasEditCause}
 use Rattle.mr_edit.specs.Outcome.{NeverMap}
-use Rattle.mr_edit.specs.Shelves.{HasShelfCause, Refuses}
-use Rattle.mr_draft.specs.Sheets.{sheet_of, book_in, book_on, zeros, HasPages, ArePages, KeepsSheets, ChangesPage, LosesPages}
+use Rattle.mr_edit.specs.Shelves.{HasShelfCause, RefusesAsEdit}
+use Rattle.mr_draft.specs.Sheets.{content_of, page_map_in, page_map_on, zeros, HasUnsealedPages, ArePages, KeepsSheets, ChangesPage, LosesPages}
 use Rattle.mr_edit.specs.declared.error.EditErr.{EditErr}
 use Rattle.mr_edit.specs.declared.error.EditErr.TheVariants as errors
-use Rattle.mr_draft.proofs.Overwrites.{has_replaced, book_put, book_others}
-use Rattle.mr_draft.proofs.ZeroPages.{has_grown, has_more, book_more, book_loses}
+use Rattle.mr_draft.proofs.Overwrites.{has_replaced, page_map_put, page_map_others}
+use Rattle.mr_draft.proofs.ZeroPages.{has_grown, has_more, page_map_more, page_map_loses}
 
 -- ---- why it refuses
 
@@ -40,7 +40,7 @@ absent_rose (Some files) name before after there miss =
 
 pub shelf_cause : {A : Type 0} (name : List ℕ) (before after : Shelved) (e : ShelfErr) (r : EditErr) →
     MatchOption before.files ⊤ (λ files. IsSome (file files name)) →
-    ShelfCauses {A = A} name before after (Err e) → Refuses e r → HasShelfCause before.faults after.faults r
+    ShelfCauses {A = A} name before after (Err e) → RefusesAsEdit e r → HasShelfCause before.faults after.faults r
 shelf_cause name before after shelf.Missing r there c is =
     subst (HasShelfCause before.faults after.faults) (sym is)
     (absent_rose before.files name before.faults after.faults there (c.missing refl))
@@ -66,7 +66,7 @@ never_map P before after errors.NoMemory h = tt
 pub record Changed (change : List ℕ → List ℕ) (name : List ℕ) (told after : Option Files) : Type 0 where
   pub bytes : told_bytes after name ≡ option_map change (told_bytes told name)
   pub there : MatchOption after ⊤ (λ files. IsSome (file files name))
-  pub left : Leaves (λ bytes. ⊤) name told after
+  pub left : LeavesFile (λ bytes. ⊤) name told after
 
 pub changed : (change : List ℕ → List ℕ) (name : List ℕ) (told after : Option Files) →
     MatchOption told ⊤ (λ files. IsSome (file files name)) → after ≡ option_map (with_change name change) told →
@@ -109,37 +109,38 @@ module _ (layout : Layout) (told after : Option Files) (name : List ℕ) (pages 
   pub put_pages : ArePages form after name pages
   put_pages = record {
     there = made.there;
-    have = subst (λ o. IfSome o (HasPages form pages)) (sym made.bytes) (at (told_bytes told name) are.have);
+    have = subst (λ o. IfSome o (HasUnsealedPages form pages)) (sym made.bytes) (at (told_bytes told name) are.have);
   }
     where
-      at : (o : Option (List ℕ)) → IfSome o (HasPages form pages) →
-          IfSome (option_map (replaced (page * size) front) o) (HasPages form pages)
+      at : (o : Option (List ℕ)) → IfSome o (HasUnsealedPages form pages) →
+          IfSome (option_map (replaced (page * size) front) o) (HasUnsealedPages form pages)
       at None have = tt
       at (Some held) have = has_replaced layout pages page held front have low within short new
 
-  pub put_others : ChangesPage page (book_on form told name pages) (book_on form after name pages)
+  pub put_others : ChangesPage page (page_map_on form told name pages) (page_map_on form after name pages)
   put_others =
-      subst (λ o. ChangesPage page (book_on form told name pages) (option_and_then (book_in form pages) o))
+      subst (λ o. ChangesPage page (page_map_on form told name pages) (option_and_then (page_map_in form pages) o))
       (sym made.bytes)
       (at (told_bytes told name) are.have)
     where
-      at : (o : Option (List ℕ)) → IfSome o (HasPages form pages) →
-          ChangesPage page (option_and_then (book_in form pages) o)
-          (option_and_then (book_in form pages) (option_map (replaced (page * size) front) o))
+      at : (o : Option (List ℕ)) → IfSome o (HasUnsealedPages form pages) →
+          ChangesPage page (option_and_then (page_map_in form pages) o)
+          (option_and_then (page_map_in form pages) (option_map (replaced (page * size) front) o))
       at None have = tt
-      at (Some held) have = book_others layout pages page held front have low within short
+      at (Some held) have = page_map_others layout pages page held front have low within short
 
   pub put_whole : length front ≡ size →
-      book_on form after name pages ≡ option_map (with_sheet page (sheet_of form front)) (book_on form told name pages)
-  put_whole whole = ap (option_and_then (book_in form pages)) made.bytes ∙ at (told_bytes told name) are.have
+      page_map_on form after name pages ≡ option_map (with_content page (content_of form front))
+      (page_map_on form told name pages)
+  put_whole whole = ap (option_and_then (page_map_in form pages)) made.bytes ∙ at (told_bytes told name) are.have
     where
-      at : (o : Option (List ℕ)) → IfSome o (HasPages form pages) →
-          option_and_then (book_in form pages) (option_map (replaced (page * size) front) o)
-          ≡ option_map (with_sheet page (sheet_of form front)) (option_and_then (book_in form pages) o)
+      at : (o : Option (List ℕ)) → IfSome o (HasUnsealedPages form pages) →
+          option_and_then (page_map_in form pages) (option_map (replaced (page * size) front) o)
+          ≡ option_map (with_content page (content_of form front)) (option_and_then (page_map_in form pages) o)
       at None have = refl
-      at (Some held) have = book_put layout pages page held front have low within short whole
+      at (Some held) have = page_map_put layout pages page held front have low within short whole
 
-  pub put_left : Leaves (λ bytes. ⊤) name told after
+  pub put_left : LeavesFile (λ bytes. ⊤) name told after
   put_left = made.left
 
 -- ---- a page is added
@@ -158,54 +159,58 @@ module _ (layout : Layout) (told after : Option Files) (name : List ℕ) (pages 
   pub add_pages : AreBytes front → ArePages form2 after name pages
   add_pages new = record {
     there = longer_.there;
-    have = subst (λ o. IfSome o (HasPages form2 pages)) (sym longer_.bytes) (at (told_bytes told name) are.have);
+    have = subst (λ o. IfSome o (HasUnsealedPages form2 pages)) (sym longer_.bytes)
+        (at (told_bytes told name) are.have);
   }
     where
-      at : (o : Option (List ℕ)) → IfSome o (HasPages form2 pages) →
-          IfSome (option_map (λ held. held ++ front) o) (HasPages form2 pages)
+      at : (o : Option (List ℕ)) → IfSome o (HasUnsealedPages form2 pages) →
+          IfSome (option_map (λ held. held ++ front) o) (HasUnsealedPages form2 pages)
       at None have = tt
       at (Some held) have = has_grown layout held pages have front new
 
-  pub add_loses : LosesPages (book_on form2 told name pages) (book_on form2 after name pages)
+  pub add_loses : LosesPages (page_map_on form2 told name pages) (page_map_on form2 after name pages)
   add_loses =
-      subst (λ o. LosesPages (book_on form2 told name pages) (option_and_then (book_in form2 pages) o))
+      subst (λ o. LosesPages (page_map_on form2 told name pages) (option_and_then (page_map_in form2 pages) o))
       (sym longer_.bytes)
       (at (told_bytes told name) are.have)
     where
-      at : (o : Option (List ℕ)) → IfSome o (HasPages form2 pages) →
-          LosesPages (option_and_then (book_in form2 pages) o)
-          (option_and_then (book_in form2 pages) (option_map (λ held. held ++ front) o))
+      at : (o : Option (List ℕ)) → IfSome o (HasUnsealedPages form2 pages) →
+          LosesPages (option_and_then (page_map_in form2 pages) o)
+          (option_and_then (page_map_in form2 pages) (option_map (λ held. held ++ front) o))
       at None have = inl refl
-      at (Some held) have = book_loses layout held pages front have.long
+      at (Some held) have = page_map_loses layout held pages front have.long
 
   pub add_more : pages < page_limit → front ≡ zeros size2 → ArePages form2 after name (pages + 1)
   add_more few whole = record {
     there = longer_.there;
-    have = subst (λ o. IfSome o (HasPages form2 (pages + 1))) (sym longer_.bytes) (at (told_bytes told name) are.have);
+    have = subst (λ o. IfSome o (HasUnsealedPages form2 (pages + 1))) (sym longer_.bytes)
+        (at (told_bytes told name) are.have);
   }
     where
-      at : (o : Option (List ℕ)) → IfSome o (HasPages form2 pages) →
-          IfSome (option_map (λ held. held ++ front) o) (HasPages form2 (pages + 1))
+      at : (o : Option (List ℕ)) → IfSome o (HasUnsealedPages form2 pages) →
+          IfSome (option_map (λ held. held ++ front) o) (HasUnsealedPages form2 (pages + 1))
       at None have = tt
       at (Some held) have =
-          subst (λ xs. HasPages form2 (pages + 1) (held ++ xs)) (sym whole) (has_more layout held pages have few)
+          subst (λ xs. HasUnsealedPages form2 (pages + 1) (held ++ xs)) (sym whole)
+          (has_more layout held pages have few)
 
   pub add_longer : front ≡ zeros size2 →
-      book_on form2 after name (pages + 1) ≡ option_map longer (book_on form2 told name pages)
-  add_longer whole = ap (option_and_then (book_in form2 (pages + 1))) longer_.bytes ∙ at (told_bytes told name)
+      page_map_on form2 after name (pages + 1) ≡ option_map longer (page_map_on form2 told name pages)
+  add_longer whole = ap (option_and_then (page_map_in form2 (pages + 1))) longer_.bytes ∙ at (told_bytes told name)
     where
-      at : (o : Option (List ℕ)) → option_and_then (book_in form2 (pages + 1)) (option_map (λ held. held ++ front) o)
-          ≡ option_map longer (option_and_then (book_in form2 pages) o)
+      at : (o : Option (List ℕ)) → option_and_then (page_map_in form2 (pages + 1))
+          (option_map (λ held. held ++ front) o)
+          ≡ option_map longer (option_and_then (page_map_in form2 pages) o)
       at None = refl
-      at (Some held) = ap (λ xs. book_in form2 (pages + 1) (held ++ xs)) whole ∙ book_more layout held pages
+      at (Some held) = ap (λ xs. page_map_in form2 (pages + 1) (held ++ xs)) whole ∙ page_map_more layout held pages
 
-  pub add_left : Leaves (λ bytes. ⊤) name told after
+  pub add_left : LeavesFile (λ bytes. ⊤) name told after
   add_left = longer_.left
 
 -- ---- what a call leaves
 
 pub keeps : {S : Type 0} {G : Ghosts S} (f f' : CachedFile S G) → IsSameFile f f' →
-    Leaves (λ bytes. ⊤) (name_of f) (state_of f).files (state_of f').files →
+    LeavesFile (λ bytes. ⊤) (name_of f) (state_of f).files (state_of f').files →
     (state_of f).faults ≤ (state_of f').faults → (state_of f).reads ≤ (state_of f').reads → KeepsSheets f f'
 keeps f f' same left faults reads = record {
   name = ap string_bytes same.name;

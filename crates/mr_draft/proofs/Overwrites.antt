@@ -5,14 +5,14 @@ use Rattle.std.proofs.lemmas.Bool.{cases_lt, eq-eqb, eqb-true}
 use Rattle.std.proofs.lemmas.List.{take-append-le, drop-append-le, drop-drop, take_at, drop_at, length-take-le}
 use Rattle.std.proofs.lemmas.List.Elements.{All-append, All-take, All-drop}
 use Rattle.std.proofs.Math.Seq.{drop-append-add}
-use Rattle.mr_record.specs.Bytes.{AreBytes}
+use Rattle.mr_record.specs.private.Bytes.{AreBytes}
 use Rattle.mr_outside.specs.Files.{replaced}
 use Rattle.mr_pages.specs.declared.layout.Layout.{Layout}
 use Rattle.mr_pages.specs.Page.{Form}
 use Rattle.mr_pages.specs.PageBytes.{form_of}
 use Rattle.mr_pages.specs.File.{page_at}
-use Rattle.mr_edit.specs.Book.{Book, with_sheet}
-use Rattle.mr_draft.specs.Sheets.{sheet_of, book_in, zeros, HasPages, ChangesPage}
+use Rattle.mr_edit.specs.PageMap.{PageMap, with_content}
+use Rattle.mr_draft.specs.Sheets.{content_of, page_map_in, zeros, HasUnsealedPages, ChangesPage}
 use Rattle.mr_draft.proofs.Sizes.{pages_within}
 use Rattle.mr_draft.proofs.ZeroPages.{bytes_zeros}
 
@@ -77,7 +77,7 @@ bytes_replaced n front held new old =
 
 -- ---- a page is written
 
-module _ (layout : Layout) (pages page : ℕ) (held front : List ℕ) (have : HasPages (form_of layout) pages held)
+module _ (layout : Layout) (pages page : ℕ) (held front : List ℕ) (have : HasUnsealedPages (form_of layout) pages held)
     (low : 1 ≤ page) (within : page < pages) (short : length front ≤ layout.size) where
   abbrev form : Form
   form = form_of layout
@@ -112,7 +112,7 @@ module _ (layout : Layout) (pages page : ℕ) (held front : List ℕ) (have : Ha
         (omega (arith, pages_within page q size behind, short)) start)
   ]
 
-  pub has_replaced : AreBytes front → HasPages form pages after
+  pub has_replaced : AreBytes front → HasUnsealedPages form pages after
   has_replaced new = record {
     some = have.some;
     few = have.few;
@@ -129,46 +129,48 @@ module _ (layout : Layout) (pages page : ℕ) (held front : List ℕ) (have : Ha
   same_test : (length after == pages * size) ≡ (length held == pages * size)
   same_test = ap (λ n. n == pages * size) same_length
 
-  sheet_after : length front ≡ size → (q : ℕ) → sheet_of form (page_at form after q)
-      ≡ (if q == page then sheet_of form front else sheet_of form (page_at form held q))
-  sheet_after whole q = at (q == page) refl
+  content_after : length front ≡ size → (q : ℕ) → content_of form (page_at form after q)
+      ≡ (if q == page then content_of form front else content_of form (page_at form held q))
+  content_after whole q = at (q == page) refl
     where
-      at : (b : Bool) → (q == page) ≡ b → sheet_of form (page_at form after q)
-          ≡ (if b then sheet_of form front else sheet_of form (page_at form held q))
+      at : (b : Bool) → (q == page) ≡ b → content_of form (page_at form after q)
+          ≡ (if b then content_of form front else content_of form (page_at form held q))
       at true e =
-          ap (λ p. sheet_of form (page_at form after p)) (eqb-true q page e)
-          ∙ ap (sheet_of form) (this_page whole)
-      at false e = ap (sheet_of form) (other_page q (λ same. no (sym e ∙ eq-eqb q page same)))
+          ap (λ p. content_of form (page_at form after p)) (eqb-true q page e)
+          ∙ ap (content_of form) (this_page whole)
+      at false e = ap (content_of form) (other_page q (λ same. no (sym e ∙ eq-eqb q page same)))
         where
           no : false ≡ true → ⊥
           no h = cc
 
   -- the pages as they are read then
-  pub book_put : length front ≡ size →
-      book_in form pages after ≡ option_map (with_sheet page (sheet_of form front)) (book_in form pages held)
-  book_put whole =
-      ap (λ b. if b then Some (told_book after) else None) same_test ∙ at (length held == pages * size)
+  pub page_map_put : length front ≡ size →
+      page_map_in form pages after ≡ option_map (with_content page (content_of form front))
+      (page_map_in form pages held)
+  page_map_put whole =
+      ap (λ b. if b then Some (told_page_map after) else None) same_test ∙ at (length held == pages * size)
     where
-      told_book : List ℕ → Book
-      told_book bytes = record { size = pages; sheet = λ p. sheet_of form (page_at form bytes p) }
+      told_page_map : List ℕ → PageMap
+      told_page_map bytes = record { size = pages; content = λ p. content_of form (page_at form bytes p) }
 
-      at : (b : Bool) → (if b then Some (told_book after) else None)
-          ≡ option_map (with_sheet page (sheet_of form front)) (if b then Some (told_book held) else None)
-      at true = λ i. Some (record { size = pages; sheet = λ q. sheet_after whole q i })
+      at : (b : Bool) → (if b then Some (told_page_map after) else None)
+          ≡ option_map (with_content page (content_of form front)) (if b then Some (told_page_map held) else None)
+      at true = λ i. Some (record { size = pages; content = λ q. content_after whole q i })
       at false = refl
 
   -- and whatever was written of it
-  pub book_others : ChangesPage page (book_in form pages held) (book_in form pages after)
-  book_others = at (length held == pages * size) same_test
+  pub page_map_others : ChangesPage page (page_map_in form pages held) (page_map_in form pages after)
+  page_map_others = at (length held == pages * size) same_test
     where
-      told_book : List ℕ → Book
-      told_book bytes = record { size = pages; sheet = λ p. sheet_of form (page_at form bytes p) }
+      told_page_map : List ℕ → PageMap
+      told_page_map bytes = record { size = pages; content = λ p. content_of form (page_at form bytes p) }
 
       at : (b : Bool) → (length after == pages * size) ≡ b →
-          ChangesPage page (if b then Some (told_book held) else None) (book_in form pages after)
-      at true e = subst (λ t. ChangesPage page (Some (told_book held)) (if t then Some (told_book after) else None))
-          (sym e) (told_book held, refl, λ q other. ap (sheet_of form) (other_page q other))
-      at false e = subst (λ t. ChangesPage page None (if t then Some (told_book after) else None)) (sym e) tt
+          ChangesPage page (if b then Some (told_page_map held) else None) (page_map_in form pages after)
+      at true e = subst (λ t. ChangesPage page (Some (told_page_map held))
+          (if t then Some (told_page_map after) else None))
+          (sym e) (told_page_map held, refl, λ q other. ap (content_of form) (other_page q other))
+      at false e = subst (λ t. ChangesPage page None (if t then Some (told_page_map after) else None)) (sym e) tt
 
 -- ---- a front of what was to be written
 

@@ -6,43 +6,47 @@ use Rattle.mr_record.specs.declared.version.Version.{Version}
 use Rattle.mr_tree.specs.Digest.{Scheme, by}
 use Rattle.mr_tree.specs.declared.child.Child.{Child}
 use Rattle.mr_batch.specs.Changes.{Changes}
-use Rattle.mr_batch.specs.Directory.{Entries}
+use Rattle.mr_batch.specs.Directory.{DirectoryEntries}
 use Rattle.mr_store.specs.CachedFile.{state_of}
 use Rattle.mr_store.specs.declared.cached_file.CachedFile.{CachedFile}
 use Rattle.mr_edit.specs.Counted.{ReplaysWithin}
-use Rattle.mr_edit.specs.Replayed.{Replays}
-use Rattle.mr_draft.specs.Sheets.{book_of}
+use Rattle.mr_edit.specs.Replayed.{ReplaysBatch}
+use Rattle.mr_draft.specs.Sheets.{page_map_of}
 
-module _ {S : Type 0} {G : Ghosts S} (s : Scheme) (root : Option Child) (dir : Entries) (b : Changes)
+module _ {S : Type 0} {G : Ghosts S} (s : Scheme) (root : Option Child) (dir : DirectoryEntries) (b : Changes)
     (f g f' g' : CachedFile S G) (m n : ℕ) (before : f ≡ g) (free : m ≡ n) (after : f' ≡ g') where
-  pub replays_on : (m' : ℕ) (root' : Option Child) (dir' : Entries) →
-      Replays s (book_of f) m root dir (book_of f') m' root' dir' b →
-      Replays s (book_of g) n root dir (book_of g') m' root' dir' b
+  pub replays_on : (m' : ℕ) (root' : Option Child) (dir' : DirectoryEntries) →
+      ReplaysBatch s (page_map_of f) m root dir (page_map_of f') m' root' dir' b →
+      ReplaysBatch s (page_map_of g) n root dir (page_map_of g') m' root' dir' b
   replays_on m' root' dir' x =
-      subst (λ (y : CachedFile S G). Replays s (book_of y) n root dir (book_of g') m' root' dir' b) before
-      (subst (λ k. Replays s (book_of f) k root dir (book_of g') m' root' dir' b) free
-      (subst (λ (y : CachedFile S G). Replays s (book_of f) m root dir (book_of y) m' root' dir' b) after x))
+      subst (λ (y : CachedFile S G). ReplaysBatch s (page_map_of y) n root dir (page_map_of g') m' root' dir' b) before
+      (subst (λ k. ReplaysBatch s (page_map_of f) k root dir (page_map_of g') m' root' dir' b) free
+      (subst (λ (y : CachedFile S G). ReplaysBatch s (page_map_of f) m root dir (page_map_of y) m' root' dir' b)
+      after x))
 
-  pub within_on : ReplaysWithin s (book_of f) m root dir b (state_of f).reads (state_of f').reads →
-      ReplaysWithin s (book_of g) n root dir b (state_of g).reads (state_of g').reads
+  pub within_on : ReplaysWithin s (page_map_of f) m root dir b (state_of f).reads (state_of f').reads →
+      ReplaysWithin s (page_map_of g) n root dir b (state_of g).reads (state_of g').reads
   within_on x =
-      subst (λ (y : CachedFile S G). ReplaysWithin s (book_of y) n root dir b (state_of y).reads (state_of g').reads)
+      subst (λ (y : CachedFile S G). ReplaysWithin s (page_map_of y) n root dir b (state_of y).reads
+      (state_of g').reads)
       before
-      (subst (λ k. ReplaysWithin s (book_of f) k root dir b (state_of f).reads (state_of g').reads) free
-      (subst (λ (y : CachedFile S G). ReplaysWithin s (book_of f) m root dir b (state_of f).reads (state_of y).reads)
+      (subst (λ k. ReplaysWithin s (page_map_of f) k root dir b (state_of f).reads (state_of g').reads) free
+      (subst (λ (y : CachedFile S G). ReplaysWithin s (page_map_of f) m root dir b (state_of f).reads
+      (state_of y).reads)
       after x))
 
 -- in the file's version
 module _ {S : Type 0} {G : Ghosts S} (hash : List ℕ → List ℕ) (v w : Version) (same : v ≡ w) (root : Option Child)
-    (dir : Entries) (b : Changes) (f f' : CachedFile S G) (m : ℕ) where
-  pub replays_in : {E : Type 0} (r : Result (ℕ × Option Child) E) (dir' : Entries) →
-      IfOk r (λ x. Replays (by w hash) (book_of f) m root dir (book_of f') x.0 x.1 dir' b) →
-      IfOk r (λ x. Replays (by v hash) (book_of f) m root dir (book_of f') x.0 x.1 dir' b)
+    (dir : DirectoryEntries) (b : Changes) (f f' : CachedFile S G) (m : ℕ) where
+  pub replays_in : {E : Type 0} (r : Result (ℕ × Option Child) E) (dir' : DirectoryEntries) →
+      IfOk r (λ x. ReplaysBatch (by w hash) (page_map_of f) m root dir (page_map_of f') x.0 x.1 dir' b) →
+      IfOk r (λ x. ReplaysBatch (by v hash) (page_map_of f) m root dir (page_map_of f') x.0 x.1 dir' b)
   replays_in r dir' x =
-      subst (λ u. IfOk r (λ x. Replays (by u hash) (book_of f) m root dir (book_of f') x.0 x.1 dir' b)) (sym same) x
+      subst (λ u. IfOk r (λ x. ReplaysBatch (by u hash) (page_map_of f) m root dir (page_map_of f') x.0 x.1 dir' b))
+      (sym same) x
 
-  pub within_in : ReplaysWithin (by w hash) (book_of f) m root dir b (state_of f).reads (state_of f').reads →
-      ReplaysWithin (by v hash) (book_of f) m root dir b (state_of f).reads (state_of f').reads
+  pub within_in : ReplaysWithin (by w hash) (page_map_of f) m root dir b (state_of f).reads (state_of f').reads →
+      ReplaysWithin (by v hash) (page_map_of f) m root dir b (state_of f).reads (state_of f').reads
   within_in x =
-      subst (λ u. ReplaysWithin (by u hash) (book_of f) m root dir b (state_of f).reads (state_of f').reads)
+      subst (λ u. ReplaysWithin (by u hash) (page_map_of f) m root dir b (state_of f).reads (state_of f').reads)
       (sym same) x

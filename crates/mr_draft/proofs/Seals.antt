@@ -6,7 +6,7 @@ use Rattle.std.proofs.lemmas.Bool.{cases_lt, eqb-true}
 use Rattle.std.proofs.lemmas.List.{take_at}
 use Rattle.std.specs.List.{flat_map, AllByRecursion}
 use Rattle.std.proofs.lemmas.List.Elements.{All-take, All-drop, All-from_recursion, recursion_from_All}
-use Rattle.mr_record.specs.Bytes.{AreBytes}
+use Rattle.mr_record.specs.private.Bytes.{AreBytes}
 use Rattle.mr_record.specs.Record.{HasLayer}
 use Rattle.mr_record.specs.declared.version.Version.{Version}
 use Rattle.mr_outside.specs.Files.{Files, file, with_file, replaced, overwritten}
@@ -16,7 +16,7 @@ use Rattle.mr_outside.proofs.Changes.{with_change-found, overwritten-none}
 use Rattle.mr_tree.specs.Digest.{Scheme, by, entry, root, root_preimage, no_entry}
 use Rattle.mr_tree.specs.Nodes.{root_entry}
 use Rattle.mr_tree.specs.Tree.{records}
-use Rattle.mr_tree.specs.View.{entry_of}
+use Rattle.mr_tree.specs.View.{child_entry}
 use Rattle.mr_tree.specs.WellFormed.{WellFormed, HasLayers}
 use Rattle.mr_tree.specs.declared.child.Child.{Child}
 use Rattle.mr_tree.specs.declared.tree.Tree.{Tree}
@@ -32,24 +32,24 @@ use Rattle.mr_pages.specs.File.{page_at}
 use Rattle.mr_pages.specs.Saved.{IsUnsealed}
 use Rattle.mr_pages.specs.Source.{told_bytes}
 use Rattle.mr_pages.specs.Stands as stands
-use Rattle.mr_pages.specs.Stands.{Placed, Row, no_more, first, tree_of, trees_of, IsWritten, AreWritten, IsChain, AreAllPages, link_of, whole_tree, whole_pages, Stands}
+use Rattle.mr_pages.specs.Stands.{Placed, Row, no_more, first, tree_of, trees_of, IsWritten, AreWritten, IsChain, AreAllPages, link_of, whole_tree, whole_pages, StandsForTree}
 use Rattle.mr_pages.specs.Walking.{child_link, head_of}
 use Rattle.mr_pages.specs.declared.head.MapHead.{MapHead}
 use Rattle.mr_pages.proofs.Agreement.{written_as, chain_as}
 use Rattle.mr_pages.proofs.HeadLaws.{form_is}
 use Rattle.mr_pages.proofs.Imaged.{front_unsealed, head_front_says, part_unsealed}
 use Rattle.mr_pages.proofs.Lists.{all_append}
-use Rattle.mr_edit.specs.Book.{Sheet, Book, HasNode, HasFree, Owned}
-use Rattle.mr_draft.specs.Draft.{Drawn, DraftOf, head_in_draft, IsSealed, Seals, MayBeSealed, SealFails}
+use Rattle.mr_edit.specs.PageMap.{PageContent, PageMap, HasNode, HasFree, OwnsEachOnce}
+use Rattle.mr_draft.specs.Draft.{DraftState, DraftOf, head_in_draft, IsSealed, SealsMap, MayBeSealed, SealFails}
 use Rattle.mr_edit.specs.Drafted.{Drafted}
 use Rattle.mr_edit.specs.Shelves.{HasShelfCause}
-use Rattle.mr_draft.specs.Sheets.{sheet_of, book_in, zeros, HasPages, ArePages, IsFront}
+use Rattle.mr_draft.specs.Sheets.{content_of, page_map_in, zeros, HasUnsealedPages, ArePages, IsFrontOfZeros}
 use Rattle.mr_edit.specs.declared.error.EditErr.{EditErr}
-use Rattle.mr_draft.proofs.Copies.{sheet_node, sheet_free, pages_in}
+use Rattle.mr_draft.proofs.Copies.{content_node, content_free, pages_in}
 use Rattle.mr_draft.proofs.Overwrites.{piece_behind, length_replaced}
 use Rattle.mr_draft.proofs.Sizes.{first_page, layout_fits, layout_is, page_large, pages_some}
 use Rattle.mr_edit.proofs.OwnedOnce.{all_of_owned}
-use Rattle.mr_draft.proofs.ZeroPages.{no_sheet, sheet_in_zeros, length_zeros}
+use Rattle.mr_draft.proofs.ZeroPages.{no_content, content_in_zeros, length_zeros}
 
 -- ---- a page of zeros in front
 
@@ -71,13 +71,13 @@ module _ (layout : Layout) (sized : layout.size ≡ (layout_by layout.version).s
       part_unsealed layout (layout_is layout sized) (layout_fits layout sized) hash (replaced 0 front held) front held
       nodes e short (head_front_says layout h front rest whole) refl
 
-  pub unsealed_front : (bytes : List ℕ) → IsFront layout.size bytes → IsUnsealed hash bytes
+  pub unsealed_front : (bytes : List ℕ) → IsFrontOfZeros layout.size bytes → IsUnsealed hash bytes
   unsealed_front bytes f = front_of bytes f.1 f.0 f.2
 
   pub unsealed_none : IsUnsealed hash []
   unsealed_none = unsealed_front [] ([], zeros layout.size ++ [], refl)
 
-  pub unsealed_pages : (pages : ℕ) (held : List ℕ) → HasPages (form_of layout) pages held → IsUnsealed hash held
+  pub unsealed_pages : (pages : ℕ) (held : List ℕ) → HasUnsealedPages (form_of layout) pages held → IsUnsealed hash held
   unsealed_pages pages held have =
       unsealed_front held (
         drop layout.size held,
@@ -107,9 +107,9 @@ mutual
 
 -- ---- the pages are those of a map
 
-book_is : (form : Form) (pages : ℕ) (held : List ℕ) (b : Book) → book_in form pages held ≡ Some b →
+page_map_is : (form : Form) (pages : ℕ) (held : List ℕ) (b : PageMap) → page_map_in form pages held ≡ Some b →
     (length held ≡ pages * form.size) × (pages_in form pages held ≡ b)
-book_is form pages held b e = at (length held == pages * form.size) refl e
+page_map_is form pages held b e = at (length held == pages * form.size) refl e
   where
     at : (t : Bool) → (length held == pages * form.size) ≡ t →
         (if t then Some (pages_in form pages held) else None) ≡ Some b →
@@ -118,8 +118,8 @@ book_is form pages held b e = at (length held == pages * form.size) refl e
     at false test e = absurd cc
 
 module _ (layout : Layout) (room : IsLayout layout) (hash : List ℕ → List ℕ) (pages free : ℕ) (top : Option Child)
-    (count batch : ℕ) (t : Tree) (held page : List ℕ) (have : HasPages (form_of layout) pages held)
-    (d : Drafted (by layout.version hash) (book_in (form_of layout) pages held) free top t)
+    (count batch : ℕ) (t : Tree) (held page : List ℕ) (have : HasUnsealedPages (form_of layout) pages held)
+    (d : Drafted (by layout.version hash) (page_map_in (form_of layout) pages held) free top t)
     (well : WellFormed t) (counted : count ≡ length (records t)) (low : batch < 2 ^ 64) where
   abbrev form : Form
   form = form_of layout
@@ -150,10 +150,10 @@ module _ (layout : Layout) (room : IsLayout layout) (hash : List ℕ → List �
     after = replaced 0 page held
 
     whole : length held ≡ pages * size
-    whole = (book_is form pages held d.book d.is).0
+    whole = (page_map_is form pages held d.page_map d.is).0
 
-    book : pages_in form pages held ≡ d.book
-    book = (book_is form pages held d.book d.is).1
+    page_map : pages_in form pages held ≡ d.page_map
+    page_map = (page_map_is form pages held d.page_map d.is).1
 
     size_after : length after ≡ pages * size
     size_after = length_replaced 0 page held
@@ -164,48 +164,49 @@ module _ (layout : Layout) (room : IsLayout layout) (hash : List ℕ → List �
         (piece_behind held page (q * size) 0 (omega (arith, whole_page, pages_some q size (omega (arith, some))))
         (omega arith))
 
-    node_held : (p : ℕ) (n : Node) → HasNode d.book p n → form.node_in (page_at form held p) ≡ Some n
+    node_held : (p : ℕ) (n : Node) → HasNode d.page_map p n → form.node_in (page_at form held p) ≡ Some n
     node_held p n e =
-        sym (sheet_node form (page_at form held p)) ∙ ap (λ (b : Book). (b.sheet p).node) book ∙ e
+        sym (content_node form (page_at form held p)) ∙ ap (λ (b : PageMap). (b.content p).node) page_map ∙ e
 
-    free_held : (p g : ℕ) → (d.book.sheet p).free ≡ Some g → form.free_in (page_at form held p) ≡ Some g
+    free_held : (p g : ℕ) → (d.page_map.content p).free ≡ Some g → form.free_in (page_at form held p) ≡ Some g
     free_held p g e =
-        sym (sheet_free form (page_at form held p)) ∙ ap (λ (b : Book). (b.sheet p).free) book ∙ e
+        sym (content_free form (page_at form held p)) ∙ ap (λ (b : PageMap). (b.content p).free) page_map ∙ e
 
     bytes_of : (p : ℕ) → AreBytes (page_at form held p)
     bytes_of p = All-take (λ b. b < 2 ^ 8) size (drop (p * size) held) (All-drop (λ b. b < 2 ^ 8)
         (p * size) held have.are)
 
     -- no node stands on page 0
-    no_first : (n : Node) → HasNode d.book 0 n → ⊥
+    no_first : (n : Node) → HasNode d.page_map 0 n → ⊥
     no_first n e =
-        let none : sheet_of form (page_at form held 0) ≡ no_sheet = ap (sheet_of form) have.blank ∙ zero_sheet in
+        let none : content_of form (page_at form held 0) ≡ no_content = ap (content_of form) have.blank ∙
+        zero_content in
         let both : None ≡ Some n =
-        sym (ap (λ (s : Sheet). s.node) none) ∙ ap (λ (b : Book). (b.sheet 0).node) book ∙ e in
+        sym (ap (λ (s : PageContent). s.node) none) ∙ ap (λ (b : PageMap). (b.content 0).node) page_map ∙ e in
         absurd cc
       where
-        zero_sheet : sheet_of form (zeros size) ≡ no_sheet
-        zero_sheet = ap (sheet_of form) (sym (take_at (zeros size) [] size (length_zeros size))
-            ∙ ap (take size) (append-nil (zeros size))) ∙ sheet_in_zeros layout size 0 size
+        zero_content : content_of form (zeros size) ≡ no_content
+        zero_content = ap (content_of form) (sym (take_at (zeros size) [] size (length_zeros size))
+            ∙ ap (take size) (append-nil (zeros size))) ∙ content_in_zeros layout size 0 size
 
-    node_as : (p : ℕ) (n : Node) → HasNode d.book p n → stands.HasNode form after p n
+    node_as : (p : ℕ) (n : Node) → HasNode d.page_map p n → stands.HasNode form after p n
     node_as zero n e = absurd (no_first n e)
     node_as (suc p) n e =
         page_after (suc p) (λ same. omega (arith, same))
         ∙ sym (is_form.nodes.spelled (page_at form held (suc p)) n (bytes_of (suc p)) (node_held
         (suc p) n e)).1
 
-    free_as : (p g : ℕ) → HasFree d.book p g → stands.HasFree form after p g
+    free_as : (p g : ℕ) → HasFree d.page_map p g → stands.HasFree form after p g
     free_as p g e =
         page_after p (λ same. omega (arith, same, e.0))
         ∙ sym (is_form.frees.spelled (page_at form held p) g (bytes_of p) (free_held p g e.1)).1
 
-    written : (po : Option Placed) → IfSome po (IsWritten scheme (HasNode d.book)) →
+    written : (po : Option Placed) → IfSome po (IsWritten scheme (HasNode d.page_map)) →
         IfSome po (IsWritten scheme (stands.HasNode form after))
     written None w = tt
-    written (Some P) w = written_as scheme (HasNode d.book) (stands.HasNode form after) node_as P w
+    written (Some P) w = written_as scheme (HasNode d.page_map) (stands.HasNode form after) node_as P w
 
-    sealed_stands : Stands form hash after t batch
+    sealed_stands : StandsForTree form hash after t batch
     sealed_stands = record {
       head = head;
       size = size_after;
@@ -222,23 +223,24 @@ module _ (layout : Layout) (room : IsLayout layout) (hash : List ℕ → List �
       lies = record {
         written = written d.placed d.written;
         chain = d.chain;
-        linked = chain_as (HasFree d.book) (stands.HasFree form after) free_as free d.chain d.linked;
+        linked = chain_as (HasFree d.page_map) (stands.HasFree form after) free_as free d.chain d.linked;
         all = all_of_owned pages (whole_pages d.placed ++ d.chain)
-            (subst (λ (b : Book). Owned b.size (0 ∷ (whole_pages d.placed ++ d.chain))) (sym book) d.owned);
+            (subst (λ (b : PageMap). OwnsEachOnce b.size (0 ∷ (whole_pages d.placed ++ d.chain))) (sym page_map)
+            d.owned);
       };
     }
 
     -- and their records have the layers of its version
-    fits_held : (p : ℕ) (n : Node) → HasNode d.book p n → IsNode v n
+    fits_held : (p : ℕ) (n : Node) → HasNode d.page_map p n → IsNode v n
     fits_held p n e =
         (is_form.nodes.spelled (page_at form held p) n (bytes_of p) (node_held p n e)).0
 
-    layered : (po : Option Placed) → IfSome po (IsWritten scheme (HasNode d.book)) →
+    layered : (po : Option Placed) → IfSome po (IsWritten scheme (HasNode d.page_map)) →
         HasLayers v (whole_tree po)
     layered None w = All-from_recursion (HasLayer v) (records tree.Empty)
         (subst (AllByRecursion (HasLayer v)) (sym records-Empty) tt)
     layered (Some P) w = All-from_recursion (HasLayer v) (records (tree_of P))
-        (layers_on v scheme (HasNode d.book) fits_held P w)
+        (layers_on v scheme (HasNode d.page_map) fits_held P w)
 
     pub sealed_map : IsMap form hash after t batch
     sealed_map = record {
@@ -268,7 +270,7 @@ root_said s None (Some P) t count batch said same counted =
 root_said s (Some c) None t count batch said same counted =
     let no : ◌≡◌ {A = Option Link} (Some (child_link c)) None = said in absurd cc
 root_said s (Some c) (Some P) t count batch said same counted =
-    let known : entry_of c ≡ entry s t =
+    let known : child_entry c ≡ entry s t =
     ap (λ (l : Link). l.entry) (some_link c (link_of s P) said) ∙ ap (entry s) same in
     λ i. s.of (root_preimage s.version batch (counted i) (known i))
 
@@ -301,7 +303,7 @@ first_put (Some files) after name front there put = at (file files name) refl th
       none = λ e. let no : ◌≡◌ {A = Option Files} (Some files) None = e in absurd cc;
     }
 
-module _ (hash : List ℕ → List ℕ) (d : Drawn) (sized : d.layout.size ≡ (layout_by d.layout.version).size)
+module _ (hash : List ℕ → List ℕ) (d : DraftState) (sized : d.layout.size ≡ (layout_by d.layout.version).size)
     (page : List ℕ) (low : d.batch < 2 ^ 64) (is : page ≡ (form_of d.layout).head_page (head_in_draft d))
     (size : length page ≡ d.layout.size) (are : ArePages (form_of d.layout) d.shelf.files d.name d.pages) where
   abbrev of_form : Form
@@ -313,15 +315,16 @@ module _ (hash : List ℕ → List ℕ) (d : Drawn) (sized : d.layout.size ≡ (
   fits : IsLayout d.layout
   fits = layout_fits d.layout sized
 
-  pages_told : (xs : List ℕ) → told_bytes d.shelf.files d.name ≡ Some xs → HasPages of_form d.pages xs
-  pages_told xs e = subst (λ o. IfSome o (HasPages of_form d.pages)) e are.have
+  pages_told : (xs : List ℕ) → told_bytes d.shelf.files d.name ≡ Some xs → HasUnsealedPages of_form d.pages xs
+  pages_told xs e = subst (λ o. IfSome o (HasUnsealedPages of_form d.pages)) e are.have
 
   sealed_at : (xs : List ℕ) → told_bytes d.shelf.files d.name ≡ Some xs → (t : Tree) → DraftOf hash d t →
       IsSealed hash d t (replaced 0 page xs)
   sealed_at xs e t of =
       let have = pages_told xs e in
-      let draft : Drafted of_scheme (book_in of_form d.pages xs) d.free d.root t =
-      subst (λ o. Drafted of_scheme o d.free d.root t) (ap (option_and_then (book_in of_form d.pages)) e) of.drafted in
+      let draft : Drafted of_scheme (page_map_in of_form d.pages xs) d.free d.root t =
+      subst (λ o. Drafted of_scheme o d.free d.root t) (ap (option_and_then (page_map_in of_form d.pages)) e)
+      of.drafted in
       record {
         map = sealed_map d.layout fits hash d.pages d.free d.root d.count d.batch t xs page have draft of.well
             of.counted
@@ -334,8 +337,8 @@ module _ (hash : List ℕ → List ℕ) (d : Drawn) (sized : d.layout.size ≡ (
   -- a file that is not told has no draft on it
   none_told : (t : Tree) → DraftOf hash d t → told_bytes d.shelf.files d.name ≡ None → ⊥
   none_told t of e =
-      let no : None ≡ Some of.drafted.book =
-      sym (ap (option_and_then (book_in of_form d.pages)) e) ∙ of.drafted.is in
+      let no : None ≡ Some of.drafted.page_map =
+      sym (ap (option_and_then (page_map_in of_form d.pages)) e) ∙ of.drafted.is in
       absurd cc
 
   sealed_any : (o : Option (List ℕ)) → told_bytes d.shelf.files d.name ≡ o → (bytes : List ℕ) →
@@ -348,7 +351,7 @@ module _ (hash : List ℕ → List ℕ) (d : Drawn) (sized : d.layout.size ≡ (
   pub seals : (digest : List ℕ) (after : Shelved) → IsChanged (overwritten d.name 0) page d.shelf.files after.files →
       after.faults ≡ d.shelf.faults →
       digest ≡ hash (root_preimage d.layout.version d.batch d.count (root_entry d.root)) →
-      Seals hash d digest after
+      SealsMap hash d digest after
   seals digest after put quiet said =
       let f = first_put d.shelf.files after.files d.name page are.there put in
       record {

@@ -13,10 +13,10 @@ use Rattle.mr_store.specs.CachedFile.{state_of, name_of, page_form, entries_of}
 use Rattle.mr_store.specs.Kept.{room}
 use Rattle.mr_store.specs.Stored.{IsStore}
 use Rattle.mr_store.specs.declared.cached_file.CachedFile.{CachedFile}
-use Rattle.mr_store.specs.declared.kept.Kept.{Kept}
+use Rattle.mr_store.specs.declared.cached_node.CachedNode.{CachedNode}
 use Rattle.mr_edit.specs.declared.error.EditErr.{EditErr}
-use Rattle.mr_draft.specs.Draft.{Copies, CopyFails, Drawn, drawn}
-use Rattle.mr_draft.specs.Sheets.{CopyStops, HasCopied, IsFiled, IsSheets, OnlyWrites, book_on, zeros}
+use Rattle.mr_draft.specs.Draft.{CopiesMap, CopyFails, DraftState, draft_state}
+use Rattle.mr_draft.specs.Sheets.{CopyStops, HasCopied, IsFiled, IsSheets, OnlyWrites, page_map_on, zeros}
 use Rattle.mr_draft.proofs.Copies.{copy_draft, copy_pages, copy_same, none_kept}
 use Rattle.mr_draft.proofs.Ends.{copy_fails, copy_low, copy_unsealed}
 use Rattle.mr_draft.proofs.Objects.{moved_sheets}
@@ -67,8 +67,8 @@ module _ {S : Type 0} {G : Ghosts S} (hash : List ℕ → List ℕ) (old : Cache
 
       pub sheets : entries_of made ≡ [] → made.cache.cap ≡ room → IsSheets hash after
       sheets none cap =
-          let none_after : entries_of after ≡ [] = ap (λ (m : LruCache ℕ Kept). m.entries) only.cache ∙ none in
-          let cap_after : after.cache.cap ≡ room = ap (λ (m : LruCache ℕ Kept). m.cap) only.cache ∙ cap in
+          let none_after : entries_of after ≡ [] = ap (λ (m : LruCache ℕ CachedNode). m.entries) only.cache ∙ none in
+          let cap_after : after.cache.cap ≡ room = ap (λ (m : LruCache ℕ CachedNode). m.cap) only.cache ∙ cap in
           moved_sheets hash old.layout after.layout (state_of after).files (state_of after).files new (name_of after)
           h.pages after.pages (entries_of after) (entries_of after) after.cache.cap after.cache.cap after_layout refl
           after_name after_pages refl refl
@@ -78,11 +78,11 @@ module _ {S : Type 0} {G : Ghosts S} (hash : List ℕ → List ℕ) (old : Cache
             file_ = copy_pages old.layout (layout_fits old.layout sized) hash h (entries_of old) old.cache.cap
                 (name_of old) new (state_of old) (state_of after) store.is copied;
             kept = none_kept (by old.layout.version hash)
-                (book_on (form_of old.layout) (state_of after).files new h.pages) (entries_of after) after.cache.cap
+                (page_map_on (form_of old.layout) (state_of after).files new h.pages) (entries_of after) after.cache.cap
                 none_after cap_after;
           })
 
-      abbrev of_parts : Drawn
+      abbrev of_parts : DraftState
       of_parts = record {
         shelf = state_of after;
         name = new;
@@ -94,7 +94,7 @@ module _ {S : Type 0} {G : Ghosts S} (hash : List ℕ → List ℕ) (old : Cache
         batch = h.batch;
       }
 
-      copies_at : Copies hash old h new of_parts
+      copies_at : CopiesMap hash old h new of_parts
       copies_at = record {
         of_tree = copy_draft old.layout (layout_fits old.layout sized) hash h (entries_of old) old.cache.cap
             (name_of old) new (state_of old) (state_of after) store.is copied;
@@ -120,11 +120,11 @@ module _ {S : Type 0} {G : Ghosts S} (hash : List ℕ → List ℕ) (old : Cache
         few = omega (arith, copied.few);
       }
 
-      pub copies : (k : MapHead) → k ≡ h → (d : Drawn) → d ≡ drawn after k.free k.root k.count k.batch →
-          Copies hash old h new d
+      pub copies : (k : MapHead) → k ≡ h → (d : DraftState) → d ≡ draft_state after k.free k.root k.count k.batch →
+          CopiesMap hash old h new d
       copies k same d is_drawn =
-          subst (Copies hash old h new)
-          (sym (is_drawn ∙ ap (λ (m : MapHead). drawn after m.free m.root m.count m.batch) same
+          subst (CopiesMap hash old h new)
+          (sym (is_drawn ∙ ap (λ (m : MapHead). draft_state after m.free m.root m.count m.batch) same
           ∙ (λ i. record {
             shelf = state_of after;
             name = after_name i;

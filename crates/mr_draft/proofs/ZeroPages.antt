@@ -5,7 +5,7 @@ use Rattle.std.proofs.lemmas.Bool.{cases_lt, eq-eqb, eqb-true, ne_eqb}
 use Rattle.std.proofs.lemmas.List.{take-append-le, drop-append-le, drop-replicate, drop_all, length-replicate}
 use Rattle.std.proofs.lemmas.List.Elements.{All-append, All-nil, All-cons}
 use Rattle.std.proofs.Math.Seq.{drop-append-add}
-use Rattle.mr_record.specs.Bytes.{AreBytes}
+use Rattle.mr_record.specs.private.Bytes.{AreBytes}
 use Rattle.mr_tree.specs.declared.tree.Tree.TheOpen.{Empty, Leaf, Inner}
 use Rattle.mr_pages.specs.declared.layout.Layout.{Layout}
 use Rattle.mr_pages.specs.Page.{Form, Node, IsNode, page_limit}
@@ -13,13 +13,13 @@ use Rattle.mr_pages.specs.PageBytes.{form_of, IsLayout, node_in, node_page, free
 use Rattle.mr_pages.specs.File.{page_at}
 use Rattle.mr_pages.proofs.HeadLaws.{free_again}
 use Rattle.mr_pages.proofs.PageLaws.{node_again}
-use Rattle.mr_edit.specs.Book.{Sheet, Book, node_sheet, free_sheet, longer}
-use Rattle.mr_draft.specs.Sheets.{sheet_of, book_in, zeros, HasPages, LosesPages}
+use Rattle.mr_edit.specs.PageMap.{PageContent, PageMap, node_content, free_content, longer}
+use Rattle.mr_draft.specs.Sheets.{content_of, page_map_in, zeros, HasUnsealedPages, LosesPages}
 use Rattle.mr_draft.proofs.Sizes.{no_pages, pages_most, pages_next, pages_some, pages_within}
 
 -- what is neither
-abbrev pub no_sheet : Sheet
-no_sheet = record { node = None; free = None }
+abbrev pub no_content : PageContent
+no_content = record { node = None; free = None }
 
 none_both : (b : Bool) → ◌≡◌ {A = Option Node} (if b then None else None) None
 none_both true = refl
@@ -48,26 +48,26 @@ free_of_node size layout Empty is = absurd is
 free_of_node size layout (Leaf rs) is = refl
 free_of_node size layout (Inner links) is = refl
 
-sheet_of_zeros : (layout : Layout) (n : ℕ) → sheet_of (form_of layout) (replicate n 0) ≡ no_sheet
-unfolding sheet_of
-sheet_of_zeros layout zero = λ i. record { node = node_of_none layout i; free = free_of_none layout.size i }
-sheet_of_zeros layout (suc n) = λ i. record {
+content_of_zeros : (layout : Layout) (n : ℕ) → content_of (form_of layout) (replicate n 0) ≡ no_content
+unfolding content_of
+content_of_zeros layout zero = λ i. record { node = node_of_none layout i; free = free_of_none layout.size i }
+content_of_zeros layout (suc n) = λ i. record {
   node = node_of_zero layout (replicate n 0) i;
   free = free_of_zero layout.size (replicate n 0) i;
 }
 
-pub sheet_of_node : (layout : Layout) → IsLayout layout → (n : Node) → IsNode layout.version n →
-    sheet_of (form_of layout) ((form_of layout).node_page n) ≡ node_sheet n
-unfolding sheet_of
-sheet_of_node layout fits n is = λ i. record {
+pub content_of_node : (layout : Layout) → IsLayout layout → (n : Node) → IsNode layout.version n →
+    content_of (form_of layout) ((form_of layout).node_page n) ≡ node_content n
+unfolding content_of
+content_of_node layout fits n is = λ i. record {
   node = node_again layout n fits.room is i;
   free = free_of_node layout.size layout n is i;
 }
 
-pub sheet_of_free : (layout : Layout) (next : ℕ) → next < 2 ^ 32 →
-    sheet_of (form_of layout) ((form_of layout).free_page next) ≡ free_sheet next
-unfolding sheet_of
-sheet_of_free layout next low = λ i. record {
+pub content_of_free : (layout : Layout) (next : ℕ) → next < 2 ^ 32 →
+    content_of (form_of layout) ((form_of layout).free_page next) ≡ free_content next
+unfolding content_of
+content_of_free layout next low = λ i. record {
   node = node_of_free layout layout.size next i;
   free = free_again layout.size next low i;
 }
@@ -90,18 +90,18 @@ piece_of_zeros n k m =
     let z = take_zeros n (m - k) in
     record { count = z.count; is = ap (take n) (drop-replicate {X = ℕ} k m 0) ∙ z.is }
 
-pub sheet_in_zeros : (layout : Layout) (n k m : ℕ) →
-    sheet_of (form_of layout) (take n (drop k (zeros m))) ≡ no_sheet
+pub content_in_zeros : (layout : Layout) (n k m : ℕ) →
+    content_of (form_of layout) (take n (drop k (zeros m))) ≡ no_content
 unfolding zeros
-sheet_in_zeros layout n k m =
-    let z = piece_of_zeros n k m in ap (sheet_of (form_of layout)) z.is ∙ sheet_of_zeros layout z.count
+content_in_zeros layout n k m =
+    let z = piece_of_zeros n k m in ap (content_of (form_of layout)) z.is ∙ content_of_zeros layout z.count
 
 take_none : (n : ℕ) → take {A = ℕ} n [] ≡ []
 take_none zero = refl
 take_none (suc n) = refl
 
-pub sheet_none : (layout : Layout) → sheet_of (form_of layout) [] ≡ no_sheet
-sheet_none layout = sheet_of_zeros layout 0
+pub content_none : (layout : Layout) → content_of (form_of layout) [] ≡ no_content
+content_none layout = content_of_zeros layout 0
 
 pub length_zeros : (n : ℕ) → length (zeros n) ≡ n
 unfolding zeros
@@ -131,31 +131,31 @@ module _ (layout : Layout) (held : List ℕ) (pages : ℕ) where
       ap (take size) (drop-append-le (q * size) held more (omega (arith, within)))
       ∙ take-append-le size (drop (q * size) held) more (omega (arith, within, length-drop (q * size) held))
 
-  pub sheet_behind : length held ≡ pages * size → (q : ℕ) → pages ≤ q →
-      sheet_of form (page_at form held q) ≡ no_sheet
-  sheet_behind exact q past =
-      ap (λ xs. sheet_of form (take size xs))
+  pub content_behind : length held ≡ pages * size → (q : ℕ) → pages ≤ q →
+      content_of form (page_at form held q) ≡ no_content
+  content_behind exact q past =
+      ap (λ xs. content_of form (take size xs))
       (drop_all (q * size) held (omega (arith, exact, pages_most pages q size past)))
-      ∙ ap (sheet_of form) (take_none size) ∙ sheet_none layout
+      ∙ ap (content_of form) (take_none size) ∙ content_none layout
 
-  sheet_more : length held ≡ pages * size → (q : ℕ) → sheet_of form (page_at form (held ++ zeros size) q)
-      ≡ sheet_of form (page_at form held q)
-  sheet_more exact q = elim (cases_lt q pages) [
+  content_more : length held ≡ pages * size → (q : ℕ) → content_of form (page_at form (held ++ zeros size) q)
+      ≡ content_of form (page_at form held q)
+  content_more exact q = elim (cases_lt q pages) [
     | inl within ↦
-        ap (sheet_of form) (page_of_front (zeros size) q (omega (arith, exact, pages_within q pages size within)))
+        ap (content_of form) (page_of_front (zeros size) q (omega (arith, exact, pages_within q pages size within)))
     | inr past ↦
         let more : ℕ = q * size - length held in
         let at : q * size ≡ length held + more = omega (arith, exact, pages_most pages q size past) in
-        ap (λ k. sheet_of form (take size (drop k (held ++ zeros size)))) at
-        ∙ ap (λ xs. sheet_of form (take size xs)) (drop-append-add held (zeros size) more)
-        ∙ sheet_in_zeros layout size more size ∙ sym (sheet_behind exact q past)
+        ap (λ k. content_of form (take size (drop k (held ++ zeros size)))) at
+        ∙ ap (λ xs. content_of form (take size xs)) (drop-append-add held (zeros size) more)
+        ∙ content_in_zeros layout size more size ∙ sym (content_behind exact q past)
   ]
 
-  module _ (have : HasPages form pages held) where
+  module _ (have : HasUnsealedPages form pages held) where
     first_within : 0 * size + size ≤ length held
     first_within = omega (arith, have.long, no_pages size, pages_some pages size have.some)
 
-    pub has_grown : (front : List ℕ) → AreBytes front → HasPages form pages (held ++ front)
+    pub has_grown : (front : List ℕ) → AreBytes front → HasUnsealedPages form pages (held ++ front)
     has_grown front new = record {
       some = have.some;
       few = have.few;
@@ -164,7 +164,7 @@ module _ (layout : Layout) (held : List ℕ) (pages : ℕ) where
       blank = page_of_front front 0 first_within ∙ have.blank;
     }
 
-    pub has_more : pages < page_limit → HasPages form (pages + 1) (held ++ zeros size)
+    pub has_more : pages < page_limit → HasUnsealedPages form (pages + 1) (held ++ zeros size)
     has_more few = record {
       some = omega arith;
       few = omega (arith, few);
@@ -189,45 +189,46 @@ module _ (layout : Layout) (held : List ℕ) (pages : ℕ) where
           no : false ≡ true → ⊥
           no h = cc
 
-  pub book_more : book_in form (pages + 1) (held ++ zeros size) ≡ option_map longer (book_in form pages held)
-  book_more =
+  pub page_map_more : page_map_in form (pages + 1) (held ++ zeros size) ≡ option_map longer
+      (page_map_in form pages held)
+  page_map_more =
       ap (λ b. if b then Some (record {
         size = pages + 1;
-        sheet = λ p. sheet_of form (page_at form (held ++ zeros size) p);
+        content = λ p. content_of form (page_at form (held ++ zeros size) p);
       }) else None) same_test
       ∙ at (length held == pages * size) refl
     where
       at : (b : Bool) → (length held == pages * size) ≡ b →
-          ◌≡◌ {A = Option Book}
+          ◌≡◌ {A = Option PageMap}
           (if b then Some (record {
             size = pages + 1;
-            sheet = λ p. sheet_of form (page_at form (held ++ zeros size) p);
+            content = λ p. content_of form (page_at form (held ++ zeros size) p);
           }) else None)
           (option_map longer (if b then Some (record {
             size = pages;
-            sheet = λ p. sheet_of form (page_at form held p);
+            content = λ p. content_of form (page_at form held p);
           }) else None))
       at true e =
           let exact : length held ≡ pages * size = eqb-true (length held) (pages * size) e in
-          λ i. Some (record { size = add-one pages i; sheet = λ q. sheet_more exact q i })
+          λ i. Some (record { size = add-one pages i; content = λ q. content_more exact q i })
       at false e = refl
 
-  pub book_loses : (front : List ℕ) → pages * size ≤ length held →
-      LosesPages (book_in form pages held) (book_in form pages (held ++ front))
-  book_loses front long = at (length (held ++ front) == pages * size) refl
+  pub page_map_loses : (front : List ℕ) → pages * size ≤ length held →
+      LosesPages (page_map_in form pages held) (page_map_in form pages (held ++ front))
+  page_map_loses front long = at (length (held ++ front) == pages * size) refl
     where
       none : (xs : List ℕ) → length xs ≡ 0 → xs ≡ []
       none [] e = refl
       none (x ∷ xs) e = absurd (omega (arith, e))
 
       at : (b : Bool) → (length (held ++ front) == pages * size) ≡ b →
-          LosesPages (book_in form pages held) (book_in form pages (held ++ front))
+          LosesPages (page_map_in form pages held) (page_map_in form pages (held ++ front))
       at true e =
           let exact : length (held ++ front) ≡ pages * size =
           eqb-true (length (held ++ front)) (pages * size) e in
           let empty : front ≡ [] = none front (omega (arith, exact, long, length-append held front)) in
-          inr (ap (λ xs. book_in form pages (held ++ xs)) empty ∙ ap (book_in form pages) (append-nil held))
+          inr (ap (λ xs. page_map_in form pages (held ++ xs)) empty ∙ ap (page_map_in form pages) (append-nil held))
       at false e = inl (ap (λ b. if b then Some (record {
         size = pages;
-        sheet = λ p. sheet_of form (page_at form (held ++ front) p);
+        content = λ p. content_of form (page_at form (held ++ front) p);
       }) else None) e)

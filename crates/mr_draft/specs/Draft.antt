@@ -15,7 +15,7 @@ use Rattle.mr_pages.specs.Law.{IsMap}
 use Rattle.mr_pages.specs.Page.{Head}
 use Rattle.mr_pages.specs.declared.layout.Layout.{Layout}
 use Rattle.mr_pages.specs.PageBytes.{form_of}
-use Rattle.mr_pages.specs.Saved.{IsUnsealed, Leaves}
+use Rattle.mr_pages.specs.Saved.{IsUnsealed, LeavesFile}
 use Rattle.mr_pages.specs.Walking.{child_link}
 use Rattle.mr_pages.specs.declared.head.MapHead.{MapHead}
 use Rattle.mr_pages.specs.declared.rule.MapRule.TheVariants as rule
@@ -24,19 +24,19 @@ use Rattle.mr_store.specs.Stored.{map_on}
 use Rattle.mr_store.specs.declared.cached_file.CachedFile.{CachedFile}
 use Rattle.mr_batch.specs.Applied.{IsAdmissible}
 use Rattle.mr_batch.specs.Changes.{Changes}
-use Rattle.mr_batch.specs.Directory.{Entries, IsDirectoryOf}
+use Rattle.mr_batch.specs.Directory.{DirectoryEntries, IsDirectoryOf}
 use Rattle.mr_batch.specs.Peak.{peak}
 use Rattle.mr_batch.specs.Replay.{replay}
 use Rattle.mr_edit.specs.Drafted.{Drafted}
 use Rattle.mr_edit.specs.Outcome.{IsLow}
-use Rattle.mr_draft.specs.Sheets.{book_on, zeros}
+use Rattle.mr_draft.specs.Sheets.{page_map_on, zeros}
 use Rattle.mr_edit.specs.Shelves.{HasShelfCause}
 use Rattle.mr_draft.specs.declared.draft.Draft.{Draft}
 use Rattle.mr_edit.specs.declared.error.EditErr.{EditErr}
 use Rattle.mr_edit.specs.declared.error.EditErr.TheVariants as errors
 
 -- what is known of a draft at one moment
-pub record Drawn : Type 0 where
+pub record DraftState : Type 0 where
   -- the shelf, and the file on it
   pub shelf : Shelved
   pub name : List ℕ
@@ -50,9 +50,10 @@ pub record Drawn : Type 0 where
   pub batch : ℕ
 
 -- that of a file with these
-abbrev pub drawn : {S : Type 0} {G : shelf.Ghosts S} → CachedFile S G → (free : ℕ) → Option Child →
-    (count batch : ℕ) → Drawn
-drawn f free root count batch = record {
+abbrev pub draft_state : {S : Type 0} {G : shelf.Ghosts S} → CachedFile S G → (free : ℕ) → Option
+    Child →
+    (count batch : ℕ) → DraftState
+draft_state f free root count batch = record {
   shelf = state_of f;
   name = name_of f;
   layout = f.layout;
@@ -64,15 +65,15 @@ drawn f free root count batch = record {
 }
 
 module _ {S H : Type 0} {G : shelf.Ghosts S} {K : hashes.Ghosts H} where
-  abbrev pub draft_of : Draft S H G K → Drawn
-  draft_of d = drawn d.sheets.file d.free d.root d.count d.batch
+  abbrev pub draft_of : Draft S H G K → DraftState
+  draft_of d = draft_state d.sheets.file d.free d.root d.count d.batch
 
   -- the shelf's files, where they are told, and its counts
   abbrev pub shelved : Draft S H G K → Shelved
   shelved d = state_of d.sheets.file
 
 -- what page 0 is to say
-abbrev pub head_in_draft : Drawn → Head
+abbrev pub head_in_draft : DraftState → Head
 head_in_draft d = record {
   batch = d.batch;
   count = d.count;
@@ -82,9 +83,9 @@ head_in_draft d = record {
 }
 
 -- the draft stands for this tree, which is well formed
-pub record DraftOf (hash : List ℕ → List ℕ) (d : Drawn) (t : Tree) : Type 0 where
+pub record DraftOf (hash : List ℕ → List ℕ) (d : DraftState) (t : Tree) : Type 0 where
   pub drafted : Drafted (by d.layout.version hash)
-      (book_on (form_of d.layout) d.shelf.files d.name d.pages) d.free d.root t
+      (page_map_on (form_of d.layout) d.shelf.files d.name d.pages) d.free d.root t
   pub well : WellFormed t
   pub counted : d.count ≡ length (records t)
 
@@ -104,8 +105,9 @@ IsOff count root e = ⊥
 -- told, and of its version, and has its batch, its root, its count, its first free page and as many
 -- pages; the file that was made is not sealed, and each other file is as before. There were no more
 -- reads than pages.
-pub record Copies {S : Type 0} {G : shelf.Ghosts S} (hash : List ℕ → List ℕ) (old : CachedFile S G)
-    (h : MapHead) (new : List ℕ) (d : Drawn) : Type 0 where
+pub record CopiesMap {S : Type 0} {G : shelf.Ghosts S} (hash : List ℕ → List ℕ)
+    (old : CachedFile S G)
+    (h : MapHead) (new : List ℕ) (d : DraftState) : Type 0 where
   pub of_tree : IfSome (map_on old h).tree (DraftOf hash d)
   pub named : d.name ≡ new
   pub layout : d.layout ≡ old.layout
@@ -131,7 +133,7 @@ pub record Copies {S : Type 0} {G : shelf.Ghosts S} (hash : List ℕ → List �
 -- missing comes only where none is told.
 pub record CopyFails (hash : List ℕ → List ℕ) (h : MapHead) (before : Shelved) (new : List ℕ)
     (after : Shelved) (e : EditErr) : Type 0 where
-  pub left : Leaves (IsUnsealed hash) new before.files after.files
+  pub left : LeavesFile (IsUnsealed hash) new before.files after.files
   pub cause : HasShelfCause before.faults after.faults e
   pub untold : e ≡ errors.Missing → before.files ≡ None
   pub later : before.faults ≤ after.faults
@@ -141,7 +143,7 @@ pub record CopyFails (hash : List ℕ → List ℕ) (h : MapHead) (before : Shel
 -- ---- a batch is applied
 
 -- the draft is of this tree, of which this is the directory, and the batch may be applied to it
-pub record CanApply (hash : List ℕ → List ℕ) (d : Drawn) (dir : Entries) (b : Changes)
+pub record CanApply (hash : List ℕ → List ℕ) (d : DraftState) (dir : DirectoryEntries) (b : Changes)
     (t : Tree) : Type 0 where
   pub draft : DraftOf hash d t
   pub directory : IsDirectoryOf dir (records t)
@@ -149,37 +151,39 @@ pub record CanApply (hash : List ℕ → List ℕ) (d : Drawn) (dir : Entries) (
 
 -- The draft is then of the tree after the batch, and the directory is that tree's. There are no
 -- fewer pages, and no more than there were, or than the most nodes so far and page 0.
-pub record Applied (hash : List ℕ → List ℕ) (before : Drawn) (b : Changes) (t : Tree)
-    (after : Drawn) (dir : Entries) : Type 0 where
+pub record Applied (hash : List ℕ → List ℕ) (before : DraftState) (b : Changes) (t : Tree)
+    (after : DraftState) (dir : DirectoryEntries) : Type 0 where
   pub draft : DraftOf hash after (replay t (b ∷ []))
   pub directory : IsDirectoryOf dir (records (replay t (b ∷ [])))
   pub no_fewer : before.pages ≤ after.pages
   pub no_more : after.pages ≤ max before.pages (peak t b + 1)
 
-abbrev pub Applies : (List ℕ → List ℕ) → (before : Drawn) → (dir : Entries) → Changes →
-    (after : Drawn) → (dir' : Entries) → Type 0
-Applies hash before dir b after dir' =
+abbrev pub AppliesBatch : (List ℕ → List ℕ) → (before : DraftState) → (dir : DirectoryEntries) →
+    Changes →
+    (after : DraftState) → (dir' : DirectoryEntries) → Type 0
+AppliesBatch hash before dir b after dir' =
     (t : Tree) → CanApply hash before dir b t → Applied hash before b t after dir'
 
 -- Whatever was answered, the file is laid out as before and not sealed, and each other file is as
 -- before.
-pub record KeepsDraft (hash : List ℕ → List ℕ) (before after : Drawn) : Type 0 where
+pub record KeepsDraft (hash : List ℕ → List ℕ) (before after : DraftState) : Type 0 where
   pub name : after.name ≡ before.name
   pub layout : after.layout ≡ before.layout
   pub pages : before.pages ≤ after.pages
-  pub left : Leaves (IsUnsealed hash) before.name before.shelf.files after.shelf.files
+  pub left : LeavesFile (IsUnsealed hash) before.name before.shelf.files after.shelf.files
   pub faults : before.shelf.faults ≤ after.shelf.faults
   pub reads : before.shelf.reads ≤ after.shelf.reads
 
 -- ---- a draft is sealed
 
 -- the file of these bytes stands for the draft's tree at its batch, and has as many pages
-pub record IsSealed (hash : List ℕ → List ℕ) (d : Drawn) (t : Tree) (bytes : List ℕ) : Type 0 where
+pub record IsSealed (hash : List ℕ → List ℕ) (d : DraftState) (t : Tree) (bytes : List ℕ) : Type
+    0 where
   pub map : IsMap (form_of d.layout) hash bytes t d.batch
   pub size : length bytes ≡ d.pages * d.layout.size
 
 -- The file now stands for whatever tree the draft was of, and this is the map's root digest.
-pub record Seals (hash : List ℕ → List ℕ) (d : Drawn) (digest : List ℕ) (after : Shelved)
+pub record SealsMap (hash : List ℕ → List ℕ) (d : DraftState) (digest : List ℕ) (after : Shelved)
     : Type 0 where
   pub bytes : List ℕ
   pub files : IsChanged (with_file d.name) bytes d.shelf.files after.files
@@ -188,13 +192,13 @@ pub record Seals (hash : List ℕ → List ℕ) (d : Drawn) (digest : List ℕ) 
   pub quiet : after.faults ≡ d.shelf.faults
 
 -- what a seal that is refused may leave: no map yet, or all
-abbrev pub MayBeSealed : (List ℕ → List ℕ) → Drawn → (bytes : List ℕ) → Type 0
+abbrev pub MayBeSealed : (List ℕ → List ℕ) → DraftState → (bytes : List ℕ) → Type 0
 MayBeSealed hash d bytes =
     IsUnsealed hash bytes ⊎ ((t : Tree) → DraftOf hash d t → IsSealed hash d t bytes)
 
 -- It was not sealed.
-pub record SealFails (hash : List ℕ → List ℕ) (d : Drawn) (after : Shelved) (e : EditErr)
+pub record SealFails (hash : List ℕ → List ℕ) (d : DraftState) (after : Shelved) (e : EditErr)
     : Type 0 where
-  pub left : Leaves (MayBeSealed hash d) d.name d.shelf.files after.files
+  pub left : LeavesFile (MayBeSealed hash d) d.name d.shelf.files after.files
   pub cause : HasShelfCause d.shelf.faults after.faults e
   pub later : d.shelf.faults ≤ after.faults

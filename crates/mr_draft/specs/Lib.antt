@@ -1,3 +1,3 @@
 pub mod Sheets
-pub mod SheetLaws
+pub mod private
 pub mod Draft

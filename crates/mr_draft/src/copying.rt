@@ -4,7 +4,7 @@ ghost use Rattle.std.specs.Prelude.{◌≡◌, ◌≢◌, ◌+◌, ◌-◌, ◌*
 ghost use Rattle.mr_outside.specs.State.{Shelved};
 ghost use Rattle.mr_store.specs.CachedFile.{state_of, name_of, page_form};
 ghost use Rattle.mr_edit.specs.Shelves.{RefusesMade};
-ghost use Rattle.mr_draft.specs.Sheets.{zeros, IsMade, WasRead, HasCopied, CopyStops, IsFiled, OnlyWrites};
+ghost use Rattle.mr_draft.specs.Sheets.{zeros, HasMadeEmpty, WasRead, HasCopied, CopyStops, IsFiled, OnlyWrites};
 
 use crate::pages::{clear, refusal};
 use mr_edit::EditErr;
@@ -38,7 +38,7 @@ fn refusal_of_made(error: ShelfErr) -> EditErr
 fn append_first<S: Shelf>(file: &mut CachedFile<S>, page: &[u8]) -> Result<(), EditErr>
     requires { page.now ≡ zeros file.old.layout.size }
     ensures copied { (s : Shelved) (old : List ℕ) →
-        IsMade (name_of file.old) s (state_of file.old) →
+        HasMadeEmpty (name_of file.old) s (state_of file.old) →
         MatchResult result
         (λ done. HasCopied (page_form file.old) old (name_of file.old) file.old.pages 1 s
         (state_of file.new))
@@ -128,8 +128,8 @@ fn copy_piece<S: Shelf>(
 // How many pages come next, where so many are left.
 fn next_count(left: u32) -> u32
     requires { 1 ≤ left }
-    ensures some { 1 ≤ result }
-    ensures few { result ≤ 16 }
+    ensures not_empty { 1 ≤ result }
+    ensures at_most { result ≤ 16 }
     ensures within { result ≤ left }
 {
     if left < PIECE { left } else { PIECE }

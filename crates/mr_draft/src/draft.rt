@@ -11,16 +11,16 @@ ghost use Rattle.mr_edit.specs.Changing.{CanReplay};
 ghost use Rattle.mr_edit.specs.Counted.{ReplaysWithin};
 ghost use Rattle.mr_edit.specs.Outcome.{IsLow, NeverMap};
 ghost use Rattle.mr_edit.specs.Reads.{reads_along};
-ghost use Rattle.mr_edit.specs.Replayed.{IsOfVersion, Replays};
+ghost use Rattle.mr_edit.specs.Replayed.{IsOfVersion, ReplaysBatch};
 ghost use Rattle.mr_edit.specs.Shelves.{HasShelfCause};
-ghost use Rattle.mr_draft.specs.Draft.{drawn, draft_of, shelved, IsTop, IsOff, Copies, CopyFails, CanApply, Applies, KeepsDraft};
-ghost use Rattle.mr_draft.specs.Sheets.{book_of, KeepsSheets};
+ghost use Rattle.mr_draft.specs.Draft.{draft_state, draft_of, shelved, IsTop, IsOff, CopiesMap, CopyFails, CanApply, AppliesBatch, KeepsDraft};
+ghost use Rattle.mr_draft.specs.Sheets.{page_map_of, KeepsSheets};
 
 use crate::copying::copy_file;
 use crate::sheets::Sheets;
 use crate::versioned::{First, Second, StaticVersion, Versioned};
 use mr_batch::{Batch, Directory};
-use mr_edit::{Desk, EditErr, replay};
+use mr_edit::{EditErr, Pager, replay};
 use mr_outside::Shelf;
 use mr_pages::{MapFault, MapHead, MapRule};
 use mr_record::Version;
@@ -42,7 +42,7 @@ pub struct Draft<S: Shelf, H: Hashes> {
 
 // The draft of a map whose page 0 says this, over the copy of its pages.
 fn over<S: Shelf, H: Hashes>(alloc: Global, sheets: Sheets<S, H>, head: &MapHead) -> Draft<S, H>
-    ensures { draft_of result ≡ drawn sheets.file head.now.free head.now.root head.now.count
+    ensures { draft_of result ≡ draft_state sheets.file head.now.free head.now.root head.now.count
         head.now.batch }
 {
     Draft {
@@ -64,7 +64,7 @@ pub fn copy_map<S: Shelf, H: Hash32>(
 ) -> Result<Draft<S, H>, (S, EditErr)>
     requires { string_bytes old.file.name ≢ new.now }
     ensures { MatchResult result
-        (λ d. Copies H.of old.file old.head new.now (draft_of d))
+        (λ d. CopiesMap H.of old.file old.head new.now (draft_of d))
         (λ r. CopyFails H.of old.head (state_of old.file) new.now (S.state r.0) r.1) }
 {
     let (file, head) = old.into_parts();
@@ -127,11 +127,11 @@ fn judge_top(count: u64, root: &Option<Child>) -> Result<(), EditErr>
 }
 
 // A file in this version, of which nothing was seen.
-fn desk_of<'a, S: Shelf, H: Hashes, V: StaticVersion>(
+fn pager_of<'a, S: Shelf, H: Hashes, V: StaticVersion>(
     alloc: Global,
     sheets: &'a mut Sheets<S, H>,
     free: u32,
-) -> Desk<Versioned<'a, S, H, V>>
+) -> Pager<Versioned<'a, S, H, V>>
     requires { sheets.old.file.layout.version ≡ V.version }
     ensures same_reference { result.file.sheets.ghost_name ≡ sheets.entry.ghost_name }
     ensures sheets { result.file.sheets.now ≡ sheets.old }
@@ -141,17 +141,17 @@ fn desk_of<'a, S: Shelf, H: Hashes, V: StaticVersion>(
         sheets,
         version: PhantomData,
     };
-    Desk::new(alloc, lent, free)
+    Pager::new(alloc, lent, free)
 }
 
 // The file again.
 fn sheets_of<'a, S: Shelf, H: Hashes, V: StaticVersion>(
-    desk: Desk<Versioned<'a, S, H, V>>,
+    pager: Pager<Versioned<'a, S, H, V>>,
 ) -> &'a mut Sheets<S, H>
-    ensures same_reference { result.ghost_name ≡ desk.entry.file.sheets.ghost_name }
-    ensures sheets { result.now ≡ desk.entry.file.sheets.now }
+    ensures same_reference { result.ghost_name ≡ pager.entry.file.sheets.ghost_name }
+    ensures sheets { result.now ≡ pager.entry.file.sheets.now }
 {
-    let Versioned { sheets, version: _ } = desk.into_file();
+    let Versioned { sheets, version: _ } = pager.into_file();
     sheets
 }
 
@@ -167,11 +167,12 @@ fn replay_in<'a, S: Shelf, H: Hashes, V: StaticVersion>(
 ) -> Result<(u32, Option<Child>), EditErr>
     requires version { sheets.old.file.layout.version ≡ V.version }
     requires batch { All (IsOfVersion sheets.old.file.layout.version) batch.now.list }
-    ensures replays { IfOk result (λ r. Replays (by V.version H.of)
-        (book_of sheets.old.file) free root dir.old (book_of sheets.new.file) r.0 r.1 dir.new
+    ensures replays { IfOk result (λ r. ReplaysBatch (by V.version H.of)
+        (page_map_of sheets.old.file) free root dir.old (page_map_of sheets.new.file) r.0 r.1
+        dir.new
         batch.now) }
     ensures kept { KeepsSheets sheets.old.file sheets.new.file }
-    ensures within { ReplaysWithin (by V.version H.of) (book_of sheets.old.file)
+    ensures within { ReplaysWithin (by V.version H.of) (page_map_of sheets.old.file)
         free root dir.old batch.now (state_of sheets.old.file).reads
         (state_of sheets.new.file).reads }
     ensures quiet { OnOk result
@@ -179,13 +180,13 @@ fn replay_in<'a, S: Shelf, H: Hashes, V: StaticVersion>(
     ensures low { IfOk result (λ r. IsLow root → IsLow r.1) }
     ensures cause { IfErr result (HasEditCause (state_of sheets.old.file).faults
         (state_of sheets.new.file).faults) }
-    ensures sound { IfErr result (λ e. NeverMap e (CanReplay (by V.version H.of)
-        (book_of sheets.old.file) free root dir.old batch.now)) }
+    ensures blames_none_told { IfErr result (λ e. NeverMap e (CanReplay (by V.version H.of)
+        (page_map_of sheets.old.file) free root dir.old batch.now)) }
 {
-    let mut desk = desk_of::<S, H, V>(alloc, sheets, free);
-    let replayed = replay::<Versioned<'a, S, H, V>>(alloc, &mut desk, root, dir, batch);
-    let free = desk.free;
-    let _sheets = sheets_of(desk);
+    let mut pager = pager_of::<S, H, V>(alloc, sheets, free);
+    let replayed = replay::<Versioned<'a, S, H, V>>(alloc, &mut pager, root, dir, batch);
+    let free = pager.free;
+    let _sheets = sheets_of(pager);
     match replayed {
         Ok(root) => Ok((free, root)),
         Err(error) => Err(error),
@@ -202,11 +203,12 @@ fn replay_any<S: Shelf, H: Hashes>(
     batch: &Batch,
 ) -> Result<(u32, Option<Child>), EditErr>
     requires { All (IsOfVersion sheets.old.file.layout.version) batch.now.list }
-    ensures replays { IfOk result (λ r. Replays (scheme_of H.of sheets.old.file)
-        (book_of sheets.old.file) free root dir.old (book_of sheets.new.file) r.0 r.1 dir.new
+    ensures replays { IfOk result (λ r. ReplaysBatch (scheme_of H.of sheets.old.file)
+        (page_map_of sheets.old.file) free root dir.old (page_map_of sheets.new.file) r.0 r.1
+        dir.new
         batch.now) }
     ensures kept { KeepsSheets sheets.old.file sheets.new.file }
-    ensures within { ReplaysWithin (scheme_of H.of sheets.old.file) (book_of sheets.old.file)
+    ensures within { ReplaysWithin (scheme_of H.of sheets.old.file) (page_map_of sheets.old.file)
         free root dir.old batch.now (state_of sheets.old.file).reads
         (state_of sheets.new.file).reads }
     ensures quiet { OnOk result
@@ -214,8 +216,9 @@ fn replay_any<S: Shelf, H: Hashes>(
     ensures low { IfOk result (λ r. IsLow root → IsLow r.1) }
     ensures cause { IfErr result (HasEditCause (state_of sheets.old.file).faults
         (state_of sheets.new.file).faults) }
-    ensures sound { IfErr result (λ e. NeverMap e (CanReplay (scheme_of H.of sheets.old.file)
-        (book_of sheets.old.file) free root dir.old batch.now)) }
+    ensures blames_none_told { IfErr result
+        (λ e. NeverMap e (CanReplay (scheme_of H.of sheets.old.file)
+        (page_map_of sheets.old.file) free root dir.old batch.now)) }
 {
     match sheets.file.layout.version {
         Version::One => replay_in::<S, H, First>(alloc, sheets, free, root, dir, batch),
@@ -230,13 +233,13 @@ impl<S: Shelf, H: Hashes> Draft<S, H> {
     /// Where the files are told, the batch is to be one that may be applied to the map.
     pub fn apply_batch(&mut self, dir: &mut Directory, batch: &Batch) -> Result<(), EditErr>
         requires { All (IsOfVersion self.old.sheets.file.layout.version) batch.now.list }
-        ensures applies { OnOk result (Applies H.of (draft_of self.old) dir.old batch.now
+        ensures applies { OnOk result (AppliesBatch H.of (draft_of self.old) dir.old batch.now
             (draft_of self.new) dir.new) }
         ensures batch { OnOk result (self.new.batch ≡ batch.now.number) }
         // Whether or not the files are told, a map may have so many records and this root.
         ensures top { OnOk result (IsTop self.new.count self.new.root) }
         ensures low { OnOk result (IsLow self.old.root → IsLow self.new.root) }
-        ensures few { self.new.sheets.file.pages ≤ page_limit }
+        ensures at_most { self.new.sheets.file.pages ≤ page_limit }
         ensures kept { KeepsDraft H.of (draft_of self.old) (draft_of self.new) }
         ensures quiet { OnOk result ((shelved self.new).faults ≡ (shelved self.old).faults) }
         ensures cause { IfErr result (HasEditCause (shelved self.old).faults
@@ -245,7 +248,8 @@ impl<S: Shelf, H: Hashes> Draft<S, H> {
         ensures within { (t : Tree) → CanApply H.of (draft_of self.old) dir.old batch.now t →
             (shelved self.new).reads ≤ (shelved self.old).reads + reads_along t batch.now.list }
         // Where the files are told, no page is blamed.
-        ensures sound { (t : Tree) → CanApply H.of (draft_of self.old) dir.old batch.now t →
+        ensures blames_none_told { (t : Tree) → CanApply H.of (draft_of self.old) dir.old
+            batch.now t →
             IfErr result (HasShelfCause (shelved self.old).faults (shelved self.new).faults) }
     {
         let (free, root) = replay_any::<S, H>(

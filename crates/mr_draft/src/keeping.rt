@@ -4,12 +4,12 @@ ghost use Rattle.std.specs.Prelude.{◌≡◌, ◌+◌, ◌<◌, ◌≤◌, opti
 ghost use Rattle.mr_tree.specs.View.{AreTold, size, level_of};
 ghost use Rattle.mr_pages.specs.Walking.{page_node};
 ghost use Rattle.mr_store.specs.CachedFile.{state_of, page_form, scheme_of, IsHeld, IsRead, OnlyReads};
-ghost use Rattle.mr_edit.specs.Book.{HasNode, node_sheet, free_sheet, with_sheet};
+ghost use Rattle.mr_edit.specs.PageMap.{HasNode, node_content, free_content, with_content};
 ghost use Rattle.mr_edit.specs.Causes.{HasEditCause, CanRead};
 ghost use Rattle.mr_edit.specs.Held.{IsEntryOf};
 ghost use Rattle.mr_edit.specs.Outcome.{NeverMap, CanWrite};
 ghost use Rattle.mr_edit.specs.Shelves.{blamed};
-ghost use Rattle.mr_draft.specs.Sheets.{book_of, HasAllPages, IsSheets, KeepsSheets, RefusesRead};
+ghost use Rattle.mr_draft.specs.Sheets.{page_map_of, HasAllPages, IsSheets, KeepsSheets, RefusesRead};
 
 use crate::pages::put_page;
 use mr_edit::EditErr;
@@ -51,7 +51,7 @@ fn read_node<H: Hashes, S: Shelf>(
     requires within { child.now.id < file.old.pages }
     requires pages { HasAllPages file.old }
     ensures read { OnOk result (IsRead H.of file.old child.now into.new) }
-    ensures node { OnOk result (IfSome (book_of file.old)
+    ensures node { OnOk result (IfSome (page_map_of file.old)
         (λ b. HasNode b child.now.id (page_node into.new))) }
     ensures only { OnlyReads file.old file.new }
     ensures reads { (state_of file.old).reads ≤ (state_of file.new).reads }
@@ -62,8 +62,8 @@ fn read_node<H: Hashes, S: Shelf>(
         (RefusesRead (page_form file.old) H.of file.old.pages child.now) }
     ensures cause { IfErr result (HasEditCause (state_of file.old).faults
         (state_of file.new).faults) }
-    ensures sound { IfErr result (λ e. NeverMap e
-        (CanRead (scheme_of H.of file.old) (book_of file.old) child.now)) }
+    ensures blames_none_told { IfErr result (λ e. NeverMap e
+        (CanRead (scheme_of H.of file.old) (page_map_of file.old) child.now)) }
 {
     match file.read_node::<H>(child, into) {
         Ok(()) => Ok(()),
@@ -85,11 +85,11 @@ fn show_inside<H: Hashes, S: Shelf>(
     ensures sheets { IsSheets H.of file.new }
     ensures page { OnOk result (1 ≤ child.now.id) }
     ensures level { OnOk result (level_of into.new ≡ child.now.level) }
-    ensures some { OnOk result (1 ≤ size into.new) }
+    ensures not_empty { OnOk result (1 ≤ size into.new) }
     ensures shown { OnOk result (AreTold file.old.layout.version into.new) }
-    ensures node { OnOk result (IfSome (book_of file.old)
+    ensures node { OnOk result (IfSome (page_map_of file.old)
         (λ b. HasNode b child.now.id (page_node into.new))) }
-    ensures same { book_of file.new ≡ book_of file.old }
+    ensures same { page_map_of file.new ≡ page_map_of file.old }
     ensures kept { KeepsSheets file.old file.new }
     ensures one { (state_of file.new).reads ≤ (state_of file.old).reads + 1 }
     ensures caches { OnOk result (IsHeld file.new child.now) }
@@ -101,8 +101,8 @@ fn show_inside<H: Hashes, S: Shelf>(
         (RefusesRead (page_form file.old) H.of file.old.pages child.now) }
     ensures cause { IfErr result (HasEditCause (state_of file.old).faults
         (state_of file.new).faults) }
-    ensures sound { IfErr result (λ e. NeverMap e
-        (CanRead (scheme_of H.of file.old) (book_of file.old) child.now)) }
+    ensures blames_none_told { IfErr result (λ e. NeverMap e
+        (CanRead (scheme_of H.of file.old) (page_map_of file.old) child.now)) }
 {
     if file.recall(child, into) {
         return Ok(());
@@ -124,11 +124,11 @@ pub(crate) fn show_node<H: Hashes, S: Shelf>(
     ensures sheets { IsSheets H.of file.new }
     ensures page { OnOk result (1 ≤ child.now.id) }
     ensures level { OnOk result (level_of into.new ≡ child.now.level) }
-    ensures some { OnOk result (1 ≤ size into.new) }
+    ensures not_empty { OnOk result (1 ≤ size into.new) }
     ensures shown { OnOk result (AreTold file.old.layout.version into.new) }
-    ensures node { OnOk result (IfSome (book_of file.old)
+    ensures node { OnOk result (IfSome (page_map_of file.old)
         (λ b. HasNode b child.now.id (page_node into.new))) }
-    ensures same { book_of file.new ≡ book_of file.old }
+    ensures same { page_map_of file.new ≡ page_map_of file.old }
     ensures kept { KeepsSheets file.old file.new }
     ensures one { (state_of file.new).reads ≤ (state_of file.old).reads + 1 }
     ensures caches { OnOk result (IsHeld file.new child.now) }
@@ -141,8 +141,8 @@ pub(crate) fn show_node<H: Hashes, S: Shelf>(
         (RefusesRead (page_form file.old) H.of file.old.pages child.now) }
     ensures cause { IfErr result (HasEditCause (state_of file.old).faults
         (state_of file.new).faults) }
-    ensures sound { IfErr result (λ e. NeverMap e
-        (CanRead (scheme_of H.of file.old) (book_of file.old) child.now)) }
+    ensures blames_none_told { IfErr result (λ e. NeverMap e
+        (CanRead (scheme_of H.of file.old) (page_map_of file.old) child.now)) }
 {
     if child.id == 0 || child.id >= file.pages {
         return Err(EditErr::Map(MapFault {
@@ -166,11 +166,12 @@ pub(crate) fn write_node<H: Hashes, S: Shelf>(
     requires said { IsEntryOf (scheme_of H.of file.old) child.now view.now }
     requires shown { AreTold file.old.layout.version view.now }
     ensures sheets { IsSheets H.of file.new }
-    ensures put { OnOk result (book_of file.new
-        ≡ option_map (with_sheet child.now.id (node_sheet (page_node view.now)))
-        (book_of file.old)) }
+    ensures put { OnOk result (page_map_of file.new
+        ≡ option_map (with_content child.now.id (node_content (page_node view.now)))
+        (page_map_of file.old)) }
     ensures caches { OnOk result (IsHeld file.new child.now) }
-    ensures sound { IfErr result (λ e. NeverMap e (CanWrite (book_of file.old) child.now.id)) }
+    ensures blames_none_told { IfErr result
+        (λ e. NeverMap e (CanWrite (page_map_of file.old) child.now.id)) }
     ensures kept { KeepsSheets file.old file.new }
     ensures reads { (state_of file.new).reads ≡ (state_of file.old).reads }
     ensures quiet { OnOk result ((state_of file.new).faults ≡ (state_of file.old).faults) }
@@ -197,9 +198,10 @@ pub(crate) fn free_page<H: Hashes, S: Shelf>(
     requires sheets { IsSheets H.of file.old }
     requires page { 1 ≤ page }
     ensures sheets { IsSheets H.of file.new }
-    ensures put { OnOk result (book_of file.new
-        ≡ option_map (with_sheet page (free_sheet next)) (book_of file.old)) }
-    ensures sound { IfErr result (λ e. NeverMap e (CanWrite (book_of file.old) page)) }
+    ensures put { OnOk result (page_map_of file.new
+        ≡ option_map (with_content page (free_content next)) (page_map_of file.old)) }
+    ensures blames_none_told { IfErr result
+        (λ e. NeverMap e (CanWrite (page_map_of file.old) page)) }
     ensures kept { KeepsSheets file.old file.new }
     ensures reads { (state_of file.new).reads ≡ (state_of file.old).reads }
     ensures quiet { OnOk result ((state_of file.new).faults ≡ (state_of file.old).faults) }

@@ -1,14 +1,14 @@
 //! The pages of a file under edit, each written by itself.
 
 ghost use Rattle.std.specs.Prelude.{◌≡◌, ◌+◌, ◌<◌, ◌≤◌, length, replicate, option_map, IfOk, IfErr, OnOk, OnErr, IfSome, IsSomeAnd, ℕ};
-ghost use Rattle.mr_record.specs.Bytes.{AreBytes};
+ghost use Rattle.mr_record.specs.private.Bytes.{AreBytes};
 ghost use Rattle.mr_pages.specs.Page.{page_limit};
 ghost use Rattle.mr_store.specs.CachedFile.{state_of, name_of, page_form, OnlyReads};
-ghost use Rattle.mr_edit.specs.Book.{HasFree, with_sheet, longer};
+ghost use Rattle.mr_edit.specs.PageMap.{HasFree, with_content, longer};
 ghost use Rattle.mr_edit.specs.Causes.{HasEditCause};
 ghost use Rattle.mr_edit.specs.Outcome.{NeverMap, CanWrite};
-ghost use Rattle.mr_edit.specs.Shelves.{HasShelfCause, Refuses};
-ghost use Rattle.mr_draft.specs.Sheets.{sheet_of, book_on, book_of, zeros, ArePages, HasAllPages, KeepsSheets, OnlyWrites, ChangesPage, LosesPages};
+ghost use Rattle.mr_edit.specs.Shelves.{HasShelfCause, RefusesAsEdit};
+ghost use Rattle.mr_draft.specs.Sheets.{content_of, page_map_on, page_map_of, zeros, ArePages, HasAllPages, KeepsSheets, OnlyWrites, ChangesPage, LosesPages};
 
 use mr_edit::EditErr;
 use mr_outside::{Shelf, ShelfErr};
@@ -17,7 +17,7 @@ use mr_store::CachedFile;
 
 // The same cause in a change's own words.
 pub(crate) fn refusal(error: ShelfErr) -> EditErr
-    ensures { Refuses error result }
+    ensures { RefusesAsEdit error result }
 {
     match error {
         ShelfErr::Missing => EditErr::Missing,
@@ -52,10 +52,10 @@ fn write_at<S: Shelf>(file: &mut CachedFile<S>, page: u32, bytes: &[u8]) -> Resu
     requires within { page < file.old.pages }
     requires pages { HasAllPages file.old }
     ensures pages { HasAllPages file.new }
-    ensures put { OnOk result (book_of file.new
-        ≡ option_map (with_sheet page (sheet_of (page_form file.old) bytes.now))
-        (book_of file.old)) }
-    ensures others { ChangesPage page (book_of file.old) (book_of file.new) }
+    ensures put { OnOk result (page_map_of file.new
+        ≡ option_map (with_content page (content_of (page_form file.old) bytes.now))
+        (page_map_of file.old)) }
+    ensures others { ChangesPage page (page_map_of file.old) (page_map_of file.new) }
     ensures kept { KeepsSheets file.old file.new }
     ensures only { OnlyWrites file.old file.new }
     ensures reads { (state_of file.new).reads ≡ (state_of file.old).reads }
@@ -81,17 +81,18 @@ pub(crate) fn put_page<S: Shelf>(
     requires low { 1 ≤ page }
     requires pages { HasAllPages file.old }
     ensures pages { HasAllPages file.new }
-    ensures put { OnOk result (book_of file.new
-        ≡ option_map (with_sheet page (sheet_of (page_form file.old) bytes.now))
-        (book_of file.old)) }
-    ensures others { ChangesPage page (book_of file.old) (book_of file.new) }
+    ensures put { OnOk result (page_map_of file.new
+        ≡ option_map (with_content page (content_of (page_form file.old) bytes.now))
+        (page_map_of file.old)) }
+    ensures others { ChangesPage page (page_map_of file.old) (page_map_of file.new) }
     ensures kept { KeepsSheets file.old file.new }
     ensures only { OnlyWrites file.old file.new }
     ensures reads { (state_of file.new).reads ≡ (state_of file.old).reads }
     ensures quiet { OnOk result ((state_of file.new).faults ≡ (state_of file.old).faults) }
     ensures cause { IfErr result (HasEditCause (state_of file.old).faults
         (state_of file.new).faults) }
-    ensures sound { IfErr result (λ e. NeverMap e (CanWrite (book_of file.old) page)) }
+    ensures blames_none_told { IfErr result
+        (λ e. NeverMap e (CanWrite (page_map_of file.old) page)) }
 {
     if page >= file.pages {
         return Err(EditErr::Map(MapFault {
@@ -109,9 +110,9 @@ fn append_page<S: Shelf>(file: &mut CachedFile<S>) -> Result<(), EditErr>
     ensures more { OnOk result (ArePages (page_form file.old) (state_of file.new).files
         (name_of file.old) (file.old.pages + 1)) }
     ensures pages { HasAllPages file.new }
-    ensures told { OnOk result (book_on (page_form file.old) (state_of file.new).files
-        (name_of file.old) (file.old.pages + 1) ≡ option_map longer (book_of file.old)) }
-    ensures loses { OnErr result (LosesPages (book_of file.old) (book_of file.new)) }
+    ensures told { OnOk result (page_map_on (page_form file.old) (state_of file.new).files
+        (name_of file.old) (file.old.pages + 1) ≡ option_map longer (page_map_of file.old)) }
+    ensures loses { OnErr result (LosesPages (page_map_of file.old) (page_map_of file.new)) }
     ensures kept { KeepsSheets file.old file.new }
     ensures only { OnlyWrites file.old file.new }
     ensures reads { (state_of file.new).reads ≡ (state_of file.old).reads }
@@ -132,12 +133,12 @@ fn append_page<S: Shelf>(file: &mut CachedFile<S>) -> Result<(), EditErr>
 pub(crate) fn add_page<S: Shelf>(file: &mut CachedFile<S>) -> Result<u32, EditErr>
     requires { HasAllPages file.old }
     ensures number { IfOk result (λ page. page ≡ file.old.pages) }
-    ensures some { OnOk result (1 ≤ file.old.pages) }
+    ensures not_empty { OnOk result (1 ≤ file.old.pages) }
     ensures small { OnOk result (file.old.pages < page_limit) }
     ensures one { OnOk result (file.new.pages ≡ file.old.pages + 1) }
     ensures pages { HasAllPages file.new }
-    ensures told { OnOk result (book_of file.new ≡ option_map longer (book_of file.old)) }
-    ensures loses { OnErr result (LosesPages (book_of file.old) (book_of file.new)) }
+    ensures told { OnOk result (page_map_of file.new ≡ option_map longer (page_map_of file.old)) }
+    ensures loses { OnErr result (LosesPages (page_map_of file.old) (page_map_of file.new)) }
     ensures same { OnErr result (file.new.pages ≡ file.old.pages) }
     ensures kept { KeepsSheets file.old file.new }
     ensures cache { file.new.cache ≡ file.old.cache }
@@ -145,8 +146,8 @@ pub(crate) fn add_page<S: Shelf>(file: &mut CachedFile<S>) -> Result<u32, EditEr
     ensures quiet { OnOk result ((state_of file.new).faults ≡ (state_of file.old).faults) }
     ensures cause { IfErr result (HasEditCause (state_of file.old).faults
         (state_of file.new).faults) }
-    ensures sound { IfErr result (λ e. NeverMap e
-        (IsSomeAnd (book_of file.old) (λ b. b.size < page_limit))) }
+    ensures blames_none_told { IfErr result (λ e. NeverMap e
+        (IsSomeAnd (page_map_of file.old) (λ b. b.size < page_limit))) }
 {
     let page = file.pages;
     if page == 0 {
@@ -170,8 +171,8 @@ pub(crate) fn add_page<S: Shelf>(file: &mut CachedFile<S>) -> Result<u32, EditEr
 pub(crate) fn next_free<S: Shelf>(file: &mut CachedFile<S>, page: u32) -> Result<u32, EditErr>
     requires low { 1 ≤ page }
     requires pages { HasAllPages file.old }
-    ensures free { IfOk result (λ next. IfSome (book_of file.old) (λ b. HasFree b page next)) }
-    ensures sound { IfErr result (λ e. NeverMap e (IsSomeAnd (book_of file.old)
+    ensures free { IfOk result (λ next. IfSome (page_map_of file.old) (λ b. HasFree b page next)) }
+    ensures blames_none_told { IfErr result (λ e. NeverMap e (IsSomeAnd (page_map_of file.old)
         (λ b. (next : ℕ) × HasFree b page next))) }
     ensures only { OnlyReads file.old file.new }
     ensures reads { (state_of file.old).reads ≤ (state_of file.new).reads }

@@ -10,7 +10,7 @@ ghost use Rattle.mr_pages.specs.PageBytes.{layout_by, root_level};
 ghost use Rattle.mr_pages.specs.Walking.{child_link};
 ghost use Rattle.mr_store.specs.CachedFile.{state_of, name_of};
 ghost use Rattle.mr_edit.specs.Shelves.{HasShelfCause};
-ghost use Rattle.mr_draft.specs.Draft.{drawn, draft_of, shelved, Seals, SealFails};
+ghost use Rattle.mr_draft.specs.Draft.{draft_state, draft_of, shelved, SealsMap, SealFails};
 ghost use Rattle.mr_draft.specs.Sheets.{HasAllPages, IsFiled, OnlyWrites};
 
 use crate::draft::Draft;
@@ -110,9 +110,9 @@ fn seal_file<S: Shelf, H: Hashes>(
     requires count { head.now.pages ≡ file.old.pages }
     requires pages { HasAllPages file.old }
     ensures sealed { MatchResult result
-        (λ digest. Seals H.of (drawn file.old head.now.free head.now.root head.now.count
+        (λ digest. SealsMap H.of (draft_state file.old head.now.free head.now.root head.now.count
         head.now.batch) digest (state_of file.new))
-        (SealFails H.of (drawn file.old head.now.free head.now.root head.now.count
+        (SealFails H.of (draft_state file.old head.now.free head.now.root head.now.count
         head.now.batch) (state_of file.new)) }
     ensures digest { IfOk result (λ digest. digest ≡ H.of (root_preimage file.old.layout.version
         head.now.batch head.now.count (root_entry head.now.root))) }
@@ -158,7 +158,7 @@ impl<S: Shelf, H: Hashes> Draft<S, H> {
     /// Makes the file a map: syncs it, writes page 0, and syncs it again. Answers the root digest.
     pub fn seal(self) -> (S, Result<[u8; 32], EditErr>)
         ensures sealed { MatchResult result.1
-            (λ digest. Seals H.of (draft_of self) digest (S.state result.0))
+            (λ digest. SealsMap H.of (draft_of self) digest (S.state result.0))
             (SealFails H.of (draft_of self) (S.state result.0)) }
         // Told or not, the digest is that of the draft's batch, count and root, which is a node's
         // entry.

@@ -4,14 +4,14 @@ ghost use Rattle.std.specs.Prelude.{◌≡◌, ◌+◌, ◌<◌, ◌≤◌, opti
 ghost use Rattle.std.proofs.Props.{props};
 ghost use Rattle.mr_tree.specs.Digest.{by};
 ghost use Rattle.mr_tree.specs.View.{AreTold, HasCount, children_in, size, level_of};
-ghost use Rattle.mr_pages.specs.Page.{page_limit, entry_of};
+ghost use Rattle.mr_pages.specs.Page.{page_limit, node_entry};
 ghost use Rattle.mr_pages.specs.Walking.{child_link, page_node};
 ghost use Rattle.mr_store.specs.CachedFile.{state_of, page_form, scheme_of, IsHeld};
-ghost use Rattle.mr_edit.specs.Book.{HasFree, HasNode, free_sheet, longer, node_sheet, with_sheet};
+ghost use Rattle.mr_edit.specs.PageMap.{HasFree, HasNode, free_content, longer, node_content, with_content};
 ghost use Rattle.mr_edit.specs.Causes.{HasEditCause, CanRead};
 ghost use Rattle.mr_edit.specs.Held.{IsEntryOf};
 ghost use Rattle.mr_edit.specs.Outcome.{NeverMap, CanWrite};
-ghost use Rattle.mr_draft.specs.Sheets.{book_of, IsSheets, KeepsSheets, RefusesRead};
+ghost use Rattle.mr_draft.specs.Sheets.{page_map_of, IsSheets, KeepsSheets, RefusesRead};
 
 use crate::keeping::{free_page, show_node, write_node};
 use crate::pages::{add_page, next_free};
@@ -39,7 +39,7 @@ impl<S: Shelf, H: Hashes> Sheets<S, H> {
         requires counts { All HasCount (children_in view.now) }
         ensures { child_link result ≡ record {
           page = page;
-          entry = entry_of (scheme_of H.of self.now.file) (page_node view.now);
+          entry = node_entry (scheme_of H.of self.now.file) (page_node view.now);
         } }
     {
         child_on::<H>(self.file.layout, view, page)
@@ -47,12 +47,12 @@ impl<S: Shelf, H: Hashes> Sheets<S, H> {
 
     /// Reads the node of which the child is the entry, and checks it against that.
     pub fn read(&mut self, child: &Child, into: &mut NodeView) -> Result<(), EditErr>
-        ensures same { book_of self.new.file ≡ book_of self.old.file }
+        ensures same { page_map_of self.new.file ≡ page_map_of self.old.file }
         ensures page { OnOk result (1 ≤ child.now.id) }
         ensures level { OnOk result (level_of into.new ≡ child.now.level) }
-        ensures some { OnOk result (1 ≤ size into.new) }
+        ensures not_empty { OnOk result (1 ≤ size into.new) }
         ensures shown { OnOk result (AreTold self.old.file.layout.version into.new) }
-        ensures node { OnOk result (IfSome (book_of self.old.file)
+        ensures node { OnOk result (IfSome (page_map_of self.old.file)
             (λ b. HasNode b child.now.id (page_node into.new))) }
         ensures kept { KeepsSheets self.old.file self.new.file }
         ensures reads { (state_of self.new.file).reads ≤ (state_of self.old.file).reads + 1 }
@@ -60,8 +60,9 @@ impl<S: Shelf, H: Hashes> Sheets<S, H> {
             ((state_of self.new.file).faults ≡ (state_of self.old.file).faults) }
         ensures cause { IfErr result (HasEditCause (state_of self.old.file).faults
             (state_of self.new.file).faults) }
-        ensures sound { IfErr result (λ e. NeverMap e (CanRead (scheme_of H.of self.old.file)
-            (book_of self.old.file) child.now)) }
+        ensures blames_none_told { IfErr result
+            (λ e. NeverMap e (CanRead (scheme_of H.of self.old.file)
+            (page_map_of self.old.file) child.now)) }
         ensures given { IfErr result
             (RefusesRead (page_form self.old.file) H.of self.old.file.pages child.now) }
         // The node is kept. One that is kept is not read, and is shown where it is in the file.
@@ -77,10 +78,11 @@ impl<S: Shelf, H: Hashes> Sheets<S, H> {
     /// The page that a free page names.
     pub fn read_free(&mut self, page: u32) -> Result<u32, EditErr>
         requires { 1 ≤ page }
-        ensures same { book_of self.new.file ≡ book_of self.old.file }
-        ensures free { IfOk result (λ next. IfSome (book_of self.old.file)
+        ensures same { page_map_of self.new.file ≡ page_map_of self.old.file }
+        ensures free { IfOk result (λ next. IfSome (page_map_of self.old.file)
             (λ b. HasFree b page next)) }
-        ensures sound { IfErr result (λ e. NeverMap e (IsSomeAnd (book_of self.old.file)
+        ensures blames_none_told { IfErr result
+            (λ e. NeverMap e (IsSomeAnd (page_map_of self.old.file)
             (λ b. (next : ℕ) × HasFree b page next))) }
         ensures kept { KeepsSheets self.old.file self.new.file }
         ensures reads { (state_of self.new.file).reads ≤ (state_of self.old.file).reads + 1 }
@@ -98,11 +100,11 @@ impl<S: Shelf, H: Hashes> Sheets<S, H> {
         requires some { 1 ≤ size view.now }
         requires said { IsEntryOf (scheme_of H.of self.old.file) child.now view.now }
         requires shown { AreTold self.old.file.layout.version view.now }
-        ensures sound { IfErr result (λ e. NeverMap e
-            (CanWrite (book_of self.old.file) child.now.id)) }
-        ensures put { OnOk result (book_of self.new.file
-            ≡ option_map (with_sheet child.now.id (node_sheet (page_node view.now)))
-            (book_of self.old.file)) }
+        ensures blames_none_told { IfErr result (λ e. NeverMap e
+            (CanWrite (page_map_of self.old.file) child.now.id)) }
+        ensures put { OnOk result (page_map_of self.new.file
+            ≡ option_map (with_content child.now.id (node_content (page_node view.now)))
+            (page_map_of self.old.file)) }
         ensures kept { KeepsSheets self.old.file self.new.file }
         ensures reads { (state_of self.new.file).reads ≡ (state_of self.old.file).reads }
         ensures quiet { OnOk result
@@ -118,9 +120,10 @@ impl<S: Shelf, H: Hashes> Sheets<S, H> {
     /// Makes a page a free one.
     pub fn write_free(&mut self, page: u32, next: u32) -> Result<(), EditErr>
         requires { 1 ≤ page }
-        ensures put { OnOk result (book_of self.new.file
-            ≡ option_map (with_sheet page (free_sheet next)) (book_of self.old.file)) }
-        ensures sound { IfErr result (λ e. NeverMap e (CanWrite (book_of self.old.file) page)) }
+        ensures put { OnOk result (page_map_of self.new.file
+            ≡ option_map (with_content page (free_content next)) (page_map_of self.old.file)) }
+        ensures blames_none_told { IfErr result
+            (λ e. NeverMap e (CanWrite (page_map_of self.old.file) page)) }
         ensures kept { KeepsSheets self.old.file self.new.file }
         ensures reads { (state_of self.new.file).reads ≡ (state_of self.old.file).reads }
         ensures quiet { OnOk result
@@ -134,11 +137,12 @@ impl<S: Shelf, H: Hashes> Sheets<S, H> {
     /// Adds a page at the end, and answers its number.
     pub fn grow(&mut self) -> Result<u32, EditErr>
         ensures told { OnOk result
-            (book_of self.new.file ≡ option_map longer (book_of self.old.file)) }
+            (page_map_of self.new.file ≡ option_map longer (page_map_of self.old.file)) }
         ensures positive { IfOk result (λ page. 1 ≤ page) }
-        ensures last { IfOk result (λ page. IfSome (book_of self.old.file) (λ b. page ≡ b.size)) }
-        ensures sound { IfErr result (λ e. NeverMap e
-            (IsSomeAnd (book_of self.old.file) (λ b. b.size < page_limit))) }
+        ensures last { IfOk result (λ page. IfSome (page_map_of self.old.file)
+            (λ b. page ≡ b.size)) }
+        ensures blames_none_told { IfErr result (λ e. NeverMap e
+            (IsSomeAnd (page_map_of self.old.file) (λ b. b.size < page_limit))) }
         ensures kept { KeepsSheets self.old.file self.new.file }
         ensures reads { (state_of self.new.file).reads ≡ (state_of self.old.file).reads }
         ensures quiet { OnOk result

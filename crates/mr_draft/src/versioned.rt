@@ -45,12 +45,12 @@ pub(crate) struct Versioned<'a, S: Shelf, H: Hashes, V: StaticVersion> {
 
 impl<S: Shelf, H: Hashes, V: StaticVersion> PageFile for Versioned<'_, S, H, V> {
     ghost use Rattle.mr_store.specs.CachedFile.{state_of};
-    ghost use Rattle.mr_draft.specs.Sheets.{book_of, KeepsLent};
-    ghost use Rattle.mr_draft.specs.SheetLaws.{lent_self, lent_on};
+    ghost use Rattle.mr_draft.specs.Sheets.{page_map_of, KeepsLent};
+    ghost use Rattle.mr_draft.specs.private.SheetLaws.{lent_self, lent_on};
 
     ghost scheme = { by V.version H.of };
 
-    ghost told = { λ s. book_of s.sheets.now.file };
+    ghost told = { λ s. page_map_of s.sheets.now.file };
 
     ghost faults = { λ s. (state_of s.sheets.now.file).faults };
 

@@ -12,20 +12,20 @@ use Rattle.mr_grow.proofs.Sizes.{well_rooted}
 use Rattle.mr_batch.specs.declared.change.Change.{Change}
 use Rattle.mr_batch.specs.declared.change.Change.TheVariants.{Add, Remove}
 use Rattle.mr_batch.specs.Changes.{Changes}
-use Rattle.mr_batch.specs.Directory.{Entries, rect_at}
+use Rattle.mr_batch.specs.Directory.{DirectoryEntries, rect_at}
 use Rattle.mr_batch.proofs.Replaying.{numbers_of, next_may}
-use Rattle.mr_edit.specs.Book.{Book}
+use Rattle.mr_edit.specs.PageMap.{PageMap}
 use Rattle.mr_edit.specs.Causes.{KnowsRoot}
 use Rattle.mr_edit.specs.Growing.{CanInsert}
 use Rattle.mr_edit.specs.Changing.{CanChange, CanReplay}
-use Rattle.mr_edit.specs.Removable.{CanDelete}
+use Rattle.mr_edit.specs.private.Removable.{CanDelete}
 use Rattle.mr_edit.proofs.Deletable.{root_sought}
 use Rattle.mr_edit.proofs.Directed.{directed}
 use Rattle.mr_edit.proofs.Once.{once_apart}
 use Rattle.mr_edit.proofs.Turns.{ReplaysFirst, room_part}
 
 -- a record that may be added can be put in
-pub add_insert : (scheme : Scheme) (told : Option Book) (free : ℕ) (root : Option Child) (dir : Entries)
+pub add_insert : (scheme : Scheme) (told : Option PageMap) (free : ℕ) (root : Option Child) (dir : DirectoryEntries)
     (one : Record) → CanChange scheme told free root dir (Add one) → CanInsert scheme told free root 1
 add_insert scheme told free root dir one k =
     let room : length (records k.map.tree) < 2 ^ 20 = ltb-true (length (records k.map.tree)) (2 ^ 20)
@@ -38,7 +38,7 @@ add_insert scheme told free root dir one k =
     }
 
 -- a number that may be removed is in the directory
-pub lists_number : (scheme : Scheme) (told : Option Book) (free : ℕ) (root : Option Child) (dir : Entries)
+pub lists_number : (scheme : Scheme) (told : Option PageMap) (free : ℕ) (root : Option Child) (dir : DirectoryEntries)
     (n : ℕ) → rect_at dir n ≡ None → CanChange scheme told free root dir (Remove n) → ⊥
 lists_number scheme told free root dir n none k =
     let here : is_some (rect_at dir n) ≡ true =
@@ -49,7 +49,7 @@ lists_number scheme told free root dir n none k =
     no e = cc
 
 -- and its record can be deleted by the rectangle that stands there
-pub remove_delete : (scheme : Scheme) (told : Option Book) (free : ℕ) (root : Option Child) (dir : Entries)
+pub remove_delete : (scheme : Scheme) (told : Option PageMap) (free : ℕ) (root : Option Child) (dir : DirectoryEntries)
     (n : ℕ) (rect : Rectangle) → rect_at dir n ≡ Some rect → CanChange scheme told free root dir (Remove n) →
     CanDelete scheme told free root n rect
 remove_delete scheme told free root dir n rect known k =
@@ -65,7 +65,7 @@ remove_delete scheme told free root dir n rect known k =
     }
 
 -- where all nodes can be looked at
-pub remove_known : (scheme : Scheme) (told : Option Book) (free : ℕ) (root : Option Child) (dir : Entries)
+pub remove_known : (scheme : Scheme) (told : Option PageMap) (free : ℕ) (root : Option Child) (dir : DirectoryEntries)
     (n : ℕ) (rect : Rectangle) → rect_at dir n ≡ Some rect → CanChange scheme told free root dir (Remove n) →
     KnowsRoot scheme told free root
 remove_known scheme told free root dir n rect known k c is =
@@ -73,13 +73,13 @@ remove_known scheme told free root dir n rect known k c is =
     (remove_delete scheme told free root dir n rect known k))).below
 
 -- the next change of a batch that may be applied may be made
-pub next_change : (scheme : Scheme) (told told1 : Option Book) (free free1 : ℕ) (root root1 : Option Child)
-    (dir dir1 : Entries) (b : Changes) (i : ℕ) (c : Change) → i < length b.list → c ≡ get_or b.list i c →
+pub next_change : (scheme : Scheme) (told told1 : Option PageMap) (free free1 : ℕ) (root root1 : Option Child)
+    (dir dir1 : DirectoryEntries) (b : Changes) (i : ℕ) (c : Change) → i < length b.list → c ≡ get_or b.list i c →
     ReplaysFirst scheme told free root dir told1 free1 root1 dir1 b i →
     CanReplay scheme told free root dir b → CanChange scheme told1 free1 root1 dir1 c
 next_change scheme told told1 free free1 root root1 dir dir1 b i c within here first k =
     let t = k.map.tree in
-    let h = first t k.held 0 k.map.draft.book.size 0 (record {
+    let h = first t k.held 0 k.map.draft.page_map.size 0 (record {
       reaches = record { draft = k.map.draft; no_fewer = omega arith; no_more = omega arith };
       well = k.map.well;
       directory = k.map.directory;

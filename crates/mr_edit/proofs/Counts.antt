@@ -10,14 +10,14 @@ use Rattle.mr_tree.specs.declared.child.Child.{Child}
 use Rattle.mr_tree.specs.declared.tree.Tree.{Tree}
 use Rattle.mr_tree.proofs.Folds.{fold-Empty, fold-Leaf, fold-Inner}
 use Rattle.mr_pages.specs.Stands.{Placed, Row, Leaf, Inner, no_more, first, tree_of, trees_of, pages_of, all_pages, whole_tree, whole_pages}
-use Rattle.mr_edit.specs.Book.{Book, Owned, times}
-use Rattle.mr_edit.specs.Outcome.{Uses}
+use Rattle.mr_edit.specs.PageMap.{PageMap, OwnsEachOnce, count_in}
+use Rattle.mr_edit.specs.Outcome.{UsesPages}
 use Rattle.mr_edit.specs.Drafted.{Drafted}
 use Rattle.mr_edit.proofs.Places.{times_cons, times_one, times_other}
 
 total : ℕ → List ℕ → ℕ
 total zero xs = 0
-total (suc n) xs = total n xs + times n xs
+total (suc n) xs = total n xs + count_in n xs
 
 total_none : (n : ℕ) → total n [] ≡ 0
 unfolding total
@@ -37,10 +37,10 @@ total_within (suc n) x xs within = elim (cases_lt x n) [
   | inl below ↦ let other : n ≢ x = λ same. omega (arith, below, same) in
       omega (arith, total_within n x xs below, times_cons n x xs, times_other n x other)
   | inr above ↦ let here : n ≡ x = omega (arith, within, above) in
-      omega (arith, total_past n x xs above, times_cons n x xs, ap (λ q. times q (x ∷ [])) here, times_one x)
+      omega (arith, total_past n x xs above, times_cons n x xs, ap (λ q. count_in q (x ∷ [])) here, times_one x)
 ]
 
-total_ones : (n : ℕ) (xs : List ℕ) → ((q : ℕ) → q < n → times q xs ≡ 1) → total n xs ≡ n
+total_ones : (n : ℕ) (xs : List ℕ) → ((q : ℕ) → q < n → count_in q xs ≡ 1) → total n xs ≡ n
 unfolding total
 total_ones zero xs each = refl
 total_ones (suc n) xs each = omega (
@@ -49,7 +49,7 @@ total_ones (suc n) xs each = omega (
   each n (omega arith),
 )
 
-total_all : (n : ℕ) (xs : List ℕ) → ((q : ℕ) → n ≤ q → times q xs ≡ 0) → total n xs ≡ length xs
+total_all : (n : ℕ) (xs : List ℕ) → ((q : ℕ) → n ≤ q → count_in q xs ≡ 0) → total n xs ≡ length xs
 total_all n [] none = total_none n
 total_all n (x ∷ xs) none = elim (cases_lt x n) [
   | inl below ↦ omega (
@@ -62,7 +62,7 @@ total_all n (x ∷ xs) none = elim (cases_lt x n) [
 ]
 
 -- as many as there are pages
-pub owned_length : (size : ℕ) (xs : List ℕ) → Owned size xs → length xs ≡ size
+pub owned_length : (size : ℕ) (xs : List ℕ) → OwnsEachOnce size xs → length xs ≡ size
 owned_length size xs owned = sym (total_all size xs owned.none) ∙ total_ones size xs owned.each
 
 -- a page for each node
@@ -87,22 +87,23 @@ whole_nodes None = sym (fold-Empty ℕ nodes_step)
 whole_nodes (Some P) = a_page_each P
 
 -- the pages are page 0, the nodes and the free pages
-pub pages_counted : (scheme : Scheme) (told : Option Book) (free : ℕ) (root : Option Child) (t : Tree)
-    (d : Drafted scheme told free root t) → d.book.size ≡ suc (nodes t + length d.chain)
+pub pages_counted : (scheme : Scheme) (told : Option PageMap) (free : ℕ) (root : Option Child) (t : Tree)
+    (d : Drafted scheme told free root t) → d.page_map.size ≡ suc (nodes t + length d.chain)
 pages_counted scheme told free root t d =
     omega (
       arith,
-      owned_length d.book.size (0 ∷ (whole_pages d.placed ++ d.chain)) d.owned,
+      owned_length d.page_map.size (0 ∷ (whole_pages d.placed ++ d.chain)) d.owned,
       length-append (whole_pages d.placed) d.chain,
       whole_nodes d.placed,
       ap nodes d.tree,
     )
 
 -- after an insertion there are no more pages than before, or than the nodes and page 0
-pub pages_after : (scheme : Scheme) (told told' : Option Book) (free free' : ℕ) (root root' : Option Child) (t u : Tree)
+pub pages_after : (scheme : Scheme) (told told' : Option PageMap) (free free' : ℕ) (root root' : Option Child)
+    (t u : Tree)
     (d : Drafted scheme told free root t) (e : Drafted scheme told' free' root' u) →
-    Uses d.book.size d.chain e.book.size e.chain → (d.book.size ≤ e.book.size) ×
-    (e.book.size ≤ max d.book.size (nodes u + 1))
+    UsesPages d.page_map.size d.chain e.page_map.size e.chain → (d.page_map.size ≤ e.page_map.size) ×
+    (e.page_map.size ≤ max d.page_map.size (nodes u + 1))
 pages_after scheme told told' free free' root root' t u d e use_ = (
   use_.more,
   elim use_.grew [

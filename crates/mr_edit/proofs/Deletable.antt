@@ -27,19 +27,19 @@ use Rattle.mr_grow.specs.Shrink.{shrunk, shortened}
 use Rattle.mr_grow.proofs.Dropping.{shrunk_root}
 use Rattle.mr_grow.proofs.Shortened.{shortened_records}
 use Rattle.mr_grow.proofs.Shrunk.{shrunk_parted}
-use Rattle.mr_edit.specs.Book.{Book, HasNode, Owned}
-use Rattle.mr_edit.specs.Held.{Names}
+use Rattle.mr_edit.specs.PageMap.{PageMap, HasNode, OwnsEachOnce}
+use Rattle.mr_edit.specs.Held.{NamesTree}
 use Rattle.mr_edit.specs.Drafted.{Drafted}
 use Rattle.mr_edit.specs.Growing.{CanInsert}
-use Rattle.mr_edit.specs.Removal.{HaveRect, IsOnce, Lacks, Removes}
-use Rattle.mr_edit.specs.Removable.{CanTakeOut, CanDelete}
+use Rattle.mr_edit.specs.private.Removal.{HaveRect, IsOnce, LacksRecord, RemovesRecord}
+use Rattle.mr_edit.specs.private.Removable.{CanTakeOut, CanDelete}
 use Rattle.mr_edit.proofs.Dropped.{taken_out}
 use Rattle.mr_edit.proofs.Frame.{times_first}
 use Rattle.mr_edit.proofs.Places.{same_owned}
 use Rattle.mr_edit.proofs.Roots.{start_counts}
 
 -- there is a root
-pub no_root : (scheme : Scheme) (told : Option Book) (free n : ℕ) (r : Rectangle) →
+pub no_root : (scheme : Scheme) (told : Option PageMap) (free n : ℕ) (r : Rectangle) →
     CanDelete scheme told free None n r → ⊥
 no_root scheme told free n r k = at k.draft.placed k.draft.tree k.draft.root_is
   where
@@ -50,19 +50,19 @@ no_root scheme told free n r k = at k.draft.placed k.draft.tree k.draft.root_is
     at (Some P) is root = cc
 
 -- the tree of the root's entry
-pub record Root (scheme : Scheme) (b : Book) (chain : List ℕ) (c : Child) (t : Tree) : Type 0 where
+pub record Root (scheme : Scheme) (b : PageMap) (chain : List ℕ) (c : Child) (t : Tree) : Type 0 where
   pub placed : Placed
   pub is : tree_of placed ≡ t
-  pub names : Names scheme b c placed
-  pub owned : Owned b.size (pages_of placed ++ (chain ++ 0 ∷ []))
+  pub names : NamesTree scheme b c placed
+  pub owned : OwnsEachOnce b.size (pages_of placed ++ (chain ++ 0 ∷ []))
 
-root_of : (scheme : Scheme) (told : Option Book) (free : ℕ) (c : Child) (t : Tree)
-    (d : Drafted scheme told free (Some c) t) → Root scheme d.book d.chain c t
+root_of : (scheme : Scheme) (told : Option PageMap) (free : ℕ) (c : Child) (t : Tree)
+    (d : Drafted scheme told free (Some c) t) → Root scheme d.page_map d.chain c t
 root_of scheme told free c t d = at d.placed d.tree d.root_is d.written d.owned
   where
     at : (o : Option Placed) → whole_tree o ≡ t → ◌≡◌ {A = Option Link} (Some (child_link c))
-        (option_map (link_of scheme) o) → IfSome o (IsWritten scheme (HasNode d.book)) →
-        Owned d.book.size (0 ∷ (whole_pages o ++ d.chain)) → Root scheme d.book d.chain c t
+        (option_map (link_of scheme) o) → IfSome o (IsWritten scheme (HasNode d.page_map)) →
+        OwnsEachOnce d.page_map.size (0 ∷ (whole_pages o ++ d.chain)) → Root scheme d.page_map d.chain c t
     at None is root written owned = cc
     at (Some P) is root written owned =
         let said : child_link c ≡ link_of scheme P = cc in
@@ -70,19 +70,19 @@ root_of scheme told free c t d = at d.placed d.tree d.root_is d.written d.owned
           placed = P;
           is = is;
           names = record { said = said; written = written };
-          owned = same_owned d.book.size (0 ∷ (pages_of P ++ d.chain)) _ (λ q. start_counts q (pages_of P) d.chain)
+          owned = same_owned d.page_map.size (0 ∷ (pages_of P ++ d.chain)) _ (λ q. start_counts q (pages_of P) d.chain)
               owned;
         }
 
 -- below which the record can be searched
-pub root_sought : (scheme : Scheme) (told : Option Book) (free : ℕ) (c : Child) (n : ℕ) (r : Rectangle) →
+pub root_sought : (scheme : Scheme) (told : Option PageMap) (free : ℕ) (c : Child) (n : ℕ) (r : Rectangle) →
     CanDelete scheme told free (Some c) n r → CanTakeOut scheme true told free c n r
 root_sought scheme told free c n r k =
     let d = k.draft in
     let o = root_of scheme told free c k.tree d in
     record {
       below = record {
-        book = d.book;
+        page_map = d.page_map;
         is = d.is;
         chain = d.chain;
         linked = d.linked;
@@ -100,12 +100,12 @@ root_sought scheme told free c n r k =
     }
 
 -- and is found
-pub none_lacks : (scheme : Scheme) (told : Option Book) (free : ℕ) (c : Child) (n : ℕ) (r : Rectangle) →
-    Lacks scheme told c n r → CanDelete scheme told free (Some c) n r → ⊥
+pub none_lacks : (scheme : Scheme) (told : Option PageMap) (free : ℕ) (c : Child) (n : ℕ) (r : Rectangle) →
+    LacksRecord scheme told c n r → CanDelete scheme told free (Some c) n r → ⊥
 none_lacks scheme told free c n r lacks k =
     let d = k.draft in
     let o = root_of scheme told free c k.tree d in
-    let none : has n (records (tree_of o.placed)) ≡ false = lacks d.book o.placed d.is o.names
+    let none : has n (records (tree_of o.placed)) ≡ false = lacks d.page_map o.placed d.is o.names
     (subst (λ t. HaveRect n r (records t)) (sym o.is) k.rects) in
     let no : true ≡ false = sym k.there ∙ ap (λ t. has n (records t)) (sym o.is) ∙ none in cc
 
@@ -124,9 +124,9 @@ sorted_length rs =
     ∙ ap length (singles rs)
 
 -- what was set aside can go in again
-pub left_inserts : (scheme : Scheme) (told told1 : Option Book) (free free1 : ℕ) (c : Child) (n : ℕ)
+pub left_inserts : (scheme : Scheme) (told told1 : Option PageMap) (free free1 : ℕ) (c : Child) (n : ℕ)
     (r : Rectangle) (entry : Option Child) (aside sorted : List Record) →
-    Removes scheme true told free told1 free1 c n r (option_to_list entry) aside →
+    RemovesRecord scheme true told free told1 free1 c n r (option_to_list entry) aside →
     sorted ≡ sorted_by_key (λ (x : Record). x.number) aside → CanDelete scheme told free (Some c) n r →
     CanInsert scheme told1 free1 entry (length sorted)
 left_inserts scheme told told1 free free1 c n r entry aside sorted removes sorts k =

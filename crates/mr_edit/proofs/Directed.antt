@@ -6,8 +6,8 @@ use Rattle.std.proofs.lemmas.Bool.{eqb-true, eqb-false}
 use Rattle.std.proofs.lemmas.List.Elements.{recursion_from_All}
 use Rattle.mr_geom.specs.Rectangle.{Rectangle}
 use Rattle.mr_record.specs.declared.record.Record.{Record}
-use Rattle.mr_batch.specs.Directory.{Entries, rect_at, rect_in, IsDirectoryOf}
-use Rattle.mr_edit.specs.Removal.{HaveRect}
+use Rattle.mr_batch.specs.Directory.{DirectoryEntries, rect_at, rect_in, IsDirectoryOf}
+use Rattle.mr_edit.specs.private.Removal.{HaveRect}
 
 weaker_all : (P Q : Record → Type 0) → ((r : Record) → P r → Q r) → (rs : List Record) → AllByRecursion P rs →
     AllByRecursion Q rs
@@ -36,7 +36,7 @@ have_rect n rect (r ∷ rs) far e = at (r.number == n) refl e (have_rect n rect 
     at false is here rest = (λ e. absurd (eqb-false r.number n is e), rest here)
 
 -- by a directory of the records
-pub directed : (entries : Entries) (n : ℕ) (rect : Rectangle) (rs : List Record) →
+pub directed : (entries : DirectoryEntries) (n : ℕ) (rect : Rectangle) (rs : List Record) →
     AllPairs (λ (a b : Record). a.number ≢ b.number) rs → IsDirectoryOf entries rs → rect_at entries n ≡ Some rect →
     HaveRect n rect rs
 directed entries n rect rs far is e = have_rect n rect rs far (sym (is.rects n) ∙ e)

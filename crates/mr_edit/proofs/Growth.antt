@@ -31,14 +31,14 @@ use Rattle.mr_pages.specs.Page.{Link, page_limit}
 use Rattle.mr_pages.specs.Stands.{Placed, Leaf, tree_of, pages_of, link_of, IsWritten, whole_tree, whole_pages}
 use Rattle.mr_pages.specs.Walking.{child_link}
 use Rattle.mr_pages.proofs.Building.{FilledAs, filled_below}
-use Rattle.mr_edit.specs.Book.{Book, HasNode, Owned}
-use Rattle.mr_edit.specs.Held.{Name, trees, pages, entries, counted, HaveFew}
+use Rattle.mr_edit.specs.PageMap.{PageMap, HasNode, OwnsEachOnce}
+use Rattle.mr_edit.specs.Held.{NameTrees, trees, pages, entries, counted, HaveFew}
 use Rattle.mr_edit.specs.Causes.{KnowsBelow}
-use Rattle.mr_edit.specs.Outcome.{Outcome, Grows, Uses, TakesPage, CanTake, CanWrite, CanPut}
+use Rattle.mr_edit.specs.Outcome.{Outcome, GrowsSubtree, UsesPages, TakesPage, CanTake, CanWrite, CanPut}
 use Rattle.mr_edit.specs.Drafted.{Drafted}
 use Rattle.mr_edit.specs.Deleted.{InsertsAll}
 use Rattle.mr_edit.specs.Growing.{CanAdd, CanRaise, CanGrow, CanInsert}
-use Rattle.mr_edit.specs.declared.stand.Stand.{Stand}
+use Rattle.mr_edit.specs.declared.inserted.Inserted.{Inserted}
 use Rattle.mr_edit.proofs.Counts.{owned_length}
 use Rattle.mr_edit.proofs.Frame.{times_first}
 use Rattle.mr_edit.proofs.Places.{same_owned, owned_within}
@@ -53,21 +53,21 @@ use Rattle.mr_edit.proofs.Roots.{start_counts, last_counts, raise_counts, move_c
 -- ---- below an entry
 
 -- a leaf that was read can be put on its page with one record more
-pub leaf_put : (scheme : Scheme) (root : Bool) (told told1 : Option Book) (free : ℕ) (c : Child) (one : Record)
+pub leaf_put : (scheme : Scheme) (root : Bool) (told told1 : Option PageMap) (free : ℕ) (c : Child) (one : Record)
     (rs : List Record) → told1 ≡ told → IfSome told (λ b. HasNode b c.id (node.Leaf rs)) →
     CanGrow scheme root told free c one → CanPut told1 free c.id
 leaf_put scheme root told told1 free c one rs same reads k =
     let b = k.below in
-    let has : HasNode b.book c.id (node.Leaf rs) =
+    let has : HasNode b.page_map c.id (node.Leaf rs) =
     subst (λ o. IfSome o (λ x. HasNode x c.id (node.Leaf rs))) b.is reads in
-    let here : b.placed ≡ Leaf c.id rs = opens_leaf scheme b.book c rs b.placed b.names has in
+    let here : b.placed ≡ Leaf c.id rs = opens_leaf scheme b.page_map c rs b.placed b.names has in
     record {
-      book = b.book;
+      page_map = b.page_map;
       is = same ∙ b.is;
       chain = b.chain;
       linked = b.linked;
       others = b.others;
-      owned = subst (λ Q. Owned b.book.size (pages_of Q ++ (b.chain ++ b.others))) here b.owned;
+      owned = subst (λ Q. OwnsEachOnce b.page_map.size (pages_of Q ++ (b.chain ++ b.others))) here b.owned;
       few = omega (
         arith,
         k.room,
@@ -77,18 +77,18 @@ leaf_put scheme root told told1 free c one rs same reads k =
       );
     }
 
-module _ (scheme : Scheme) (root : Bool) (told told1 : Option Book) (free : ℕ) (c : Child) (one : Record)
+module _ (scheme : Scheme) (root : Bool) (told told1 : Option PageMap) (free : ℕ) (c : Child) (one : Record)
     (at : ℕ) (cs : List Child) (d : Child) where
   abbrev Goes : CanGrow scheme root told free c one → Type 0
-  Goes k = Step scheme k.below.book k.below.chain k.below.others k.below.placed c cs at d
+  Goes k = Step scheme k.below.page_map k.below.chain k.below.others k.below.placed c cs at d
 
   goes : IfSome told (λ b. HasNode b c.id (node.Inner (map child_link cs))) → at < length cs → d ≡ get_or cs at d →
       (k : CanGrow scheme root told free c one) → Goes k
   goes reads within is_d k =
       let b = k.below in
-      let has : HasNode b.book c.id (node.Inner (map child_link cs)) =
+      let has : HasNode b.page_map c.id (node.Inner (map child_link cs)) =
       subst (λ o. IfSome o (λ x. HasNode x c.id (node.Inner (map child_link cs)))) b.is reads in
-      step_down scheme b.book b.chain b.others b.placed c cs at d b.names has within is_d b.owned
+      step_down scheme b.page_map b.chain b.others b.placed c cs at d b.names has within is_d b.owned
 
   -- what the node would become, by the trees of its children
   all_grown : (k : CanGrow scheme root told free c one) (s : Goes k) →
@@ -99,7 +99,7 @@ module _ (scheme : Scheme) (root : Bool) (told told1 : Option Book) (free : ℕ)
   chosen_tree : (k : CanGrow scheme root told free c one) (s : Goes k) →
       at ≡ choose (map (λ (e : Child). e.rect) cs) one.rect → at ≡ choose (map outline (trees s.parts)) one.rect
   chosen_tree k s chosen = chosen
-      ∙ ap (λ rects. choose rects one.rect) (outlines_are scheme k.below.book cs s.parts s.named)
+      ∙ ap (λ rects. choose rects one.rect) (outlines_are scheme k.below.page_map cs s.parts s.named)
 
   child_filled : (k : CanGrow scheme root told free c one) (s : Goes k) → every-Tree IsFilled (tree_of s.child)
   child_filled k s =
@@ -138,7 +138,7 @@ module _ (scheme : Scheme) (root : Bool) (told told1 : Option Book) (free : ℕ)
       let ts = trees s.parts in
       record {
         below = record {
-          book = b.book;
+          page_map = b.page_map;
           is = same ∙ b.is;
           chain = b.chain;
           linked = b.linked;
@@ -173,29 +173,29 @@ module _ (scheme : Scheme) (root : Bool) (told told1 : Option Book) (free : ℕ)
       }
 
   -- and its node can be put on its page, once the record went in below it
-  pub inner_put : (told2 : Option Book) (free2 : ℕ) (new : List Child) → told1 ≡ told →
+  pub inner_put : (told2 : Option PageMap) (free2 : ℕ) (new : List Child) → told1 ≡ told →
       IfSome told (λ b. HasNode b c.id (node.Inner (map child_link cs))) →
       at ≡ choose (map (λ (e : Child). e.rect) cs) one.rect → at < length cs → d ≡ get_or cs at d →
-      Grows scheme told1 free told2 free2 d one new → CanGrow scheme root told free c one →
+      GrowsSubtree scheme told1 free told2 free2 d one new → CanGrow scheme root told free c one →
       CanPut told2 free2 c.id × HaveFew (take at cs ++ (new ++ drop (suc at) cs))
   inner_put told2 free2 new same reads chosen within is_d grows k =
       let b = k.below in
       let s = goes reads within is_d k in
       let l = pages (take at s.parts) in
       let r = pages (drop (suc at) s.parts) in
-      let o = grows b.book b.chain s.child (c.id ∷ ((l ++ r) ++ b.others)) (same ∙ b.is) s.held b.linked s.owned in
+      let o = grows b.page_map b.chain s.child (c.id ∷ ((l ++ r) ++ b.others)) (same ∙ b.is) s.held b.linked s.owned in
       let Qs = take at s.parts ++ (o.parts ++ drop (suc at) s.parts) in
       let v = scheme.version in
       let n = length (records (tree_of s.child)) in (
         record {
-          book = o.book;
+          page_map = o.page_map;
           is = o.is;
           chain = o.chain;
           linked = o.linked;
           others = pages Qs ++ b.others;
-          owned = same_owned o.book.size (c.id ∷ (pages Qs ++ (o.chain ++ b.others))) _
+          owned = same_owned o.page_map.size (c.id ∷ (pages Qs ++ (o.chain ++ b.others))) _
               (λ q. sym (raise_counts q c.id (pages Qs) o.chain b.others))
-              (owned_up o.book.size c.id at s.parts o.parts o.chain b.others o.owned);
+              (owned_up o.page_map.size c.id at s.parts o.parts o.chain b.others o.owned);
           few = omega (
             arith,
             k.room,
@@ -209,8 +209,8 @@ module _ (scheme : Scheme) (root : Bool) (told told1 : Option Book) (free : ℕ)
         },
         more_few v (counted (take at cs ++ (new ++ drop (suc at) cs))) d.count (counted cs) (counted new)
             (length (records (tree_of b.placed))) n (replaced_counted at cs new d within is_d)
-            (counted_named scheme b.book cs s.parts s.named ∙ ap (told_by v) (sym (all_below k s)))
-            (counted_named scheme o.book new o.parts o.named
+            (counted_named scheme b.page_map cs s.parts s.named ∙ ap (told_by v) (sym (all_below k s)))
+            (counted_named scheme o.page_map new o.parts o.named
             ∙ ap (λ us. told_by v (length (flat_map records us))) o.stand
             ∙ ap (told_by v) (grown_length one (tree_of s.child) (child_roomy k s)))
             (count_named scheme d s.child s.held.said) k.few,
@@ -218,57 +218,57 @@ module _ (scheme : Scheme) (root : Bool) (told told1 : Option Book) (free : ℕ)
 
 -- ---- a page that is taken and written
 
-pub add_take : (told : Option Book) (free : ℕ) → CanAdd told free → CanTake told free
+pub add_take : (told : Option PageMap) (free : ℕ) → CanAdd told free → CanTake told free
 add_take told free k = record {
-  book = k.book;
+  page_map = k.page_map;
   is = k.is;
   chain = k.chain;
   linked = k.linked;
   room = λ none. omega (
     arith,
-    owned_length k.book.size (k.chain ++ k.others) k.owned,
+    owned_length k.page_map.size (k.chain ++ k.others) k.owned,
     length-append k.chain k.others,
     ap length none,
     k.few,
   );
 }
 
-pub add_write : (told told1 : Option Book) (free free1 page : ℕ) → TakesPage told free told1 free1 page →
+pub add_write : (told told1 : Option PageMap) (free free1 page : ℕ) → TakesPage told free told1 free1 page →
     CanAdd told free → CanWrite told1 page
 add_write told told1 free free1 page takes k =
-    let t = takes k.book k.chain k.is k.linked in
+    let t = takes k.page_map k.chain k.is k.linked in
     subst (λ o. IsSomeAnd o (λ b. page < b.size)) (sym t.is)
-    (owned_within t.book.size page (page ∷ (t.chain ++ k.others)) (t.owned k.others k.owned)
+    (owned_within t.page_map.size page (page ∷ (t.chain ++ k.others)) (t.owned k.others k.owned)
     (times_first page (t.chain ++ k.others)))
 
-pub raise_take : (told : Option Book) (free level : ℕ) → CanRaise told free level → CanTake told free
+pub raise_take : (told : Option PageMap) (free level : ℕ) → CanRaise told free level → CanTake told free
 raise_take told free level k = add_take told free k.add
 
-pub raise_write : (told told1 : Option Book) (free free1 page level : ℕ) → TakesPage told free told1 free1 page →
+pub raise_write : (told told1 : Option PageMap) (free free1 page level : ℕ) → TakesPage told free told1 free1 page →
     CanRaise told free level → CanWrite told1 page
 raise_write told told1 free free1 page level takes k = add_write told told1 free free1 page takes k.add
 
 -- ---- the root
 
 -- what is known of a map's tree: it stands below the root, and page 0 alone is another's
-record KnowsRoot (scheme : Scheme) (told : Option Book) (free : ℕ) (c : Child) (t : Tree) : Type 0 where
+record KnowsRoot (scheme : Scheme) (told : Option PageMap) (free : ℕ) (c : Child) (t : Tree) : Type 0 where
   below : KnowsBelow scheme true told free c
   tree : tree_of below.placed ≡ t
   others : below.others ≡ 0 ∷ []
 
-root_known : (scheme : Scheme) (told : Option Book) (free : ℕ) (c : Child) (t : Tree) →
+root_known : (scheme : Scheme) (told : Option PageMap) (free : ℕ) (c : Child) (t : Tree) →
     Drafted scheme told free (Some c) t → IsFilledRoot (out-Tree t) → KnowsRoot scheme told free c t
 root_known scheme told free c t d filled = at d.placed d.tree d.root_is d.written d.owned
   where
     at : (o : Option Placed) → whole_tree o ≡ t → ◌≡◌ {A = Option Link} (Some (child_link c))
-        (option_map (link_of scheme) o) → IfSome o (IsWritten scheme (HasNode d.book)) →
-        Owned d.book.size (0 ∷ (whole_pages o ++ d.chain)) → KnowsRoot scheme told free c t
+        (option_map (link_of scheme) o) → IfSome o (IsWritten scheme (HasNode d.page_map)) →
+        OwnsEachOnce d.page_map.size (0 ∷ (whole_pages o ++ d.chain)) → KnowsRoot scheme told free c t
     at None is root written owned = cc
     at (Some P) is root written owned =
         let said : child_link c ≡ link_of scheme P = cc in
         record {
           below = record {
-            book = d.book;
+            page_map = d.page_map;
             is = d.is;
             chain = d.chain;
             linked = d.linked;
@@ -276,7 +276,7 @@ root_known scheme told free c t d filled = at d.placed d.tree d.root_is d.writte
             names = record { said = said; written = written };
             filled = subst (λ u. IsFilledRoot (out-Tree u)) (sym is) filled;
             others = 0 ∷ [];
-            owned = same_owned d.book.size (0 ∷ (pages_of P ++ d.chain)) _
+            owned = same_owned d.page_map.size (0 ∷ (pages_of P ++ d.chain)) _
                 (λ q. start_counts q (pages_of P) d.chain) owned;
             head = times_first 0 [];
           };
@@ -295,7 +295,7 @@ few_after one t rooted few = omega (
   few,
 )
 
-pub root_grow : (scheme : Scheme) (told : Option Book) (free : ℕ) (c : Child) (one : Record) →
+pub root_grow : (scheme : Scheme) (told : Option PageMap) (free : ℕ) (c : Child) (one : Record) →
     CanInsert scheme told free (Some c) 1 → CanGrow scheme true told free c one
 root_grow scheme told free c one k =
     let r = root_known scheme told free c k.tree k.draft k.rooted.filled in
@@ -312,24 +312,24 @@ root_grow scheme told free c one k =
     }
 
 -- the first record
-pub first_add : (scheme : Scheme) (told : Option Book) (free : ℕ) → CanInsert scheme told free None 1 →
+pub first_add : (scheme : Scheme) (told : Option PageMap) (free : ℕ) → CanInsert scheme told free None 1 →
     CanAdd told free
 first_add scheme told free k =
     let d = k.draft in
     let none = none_placed scheme d.placed d.root_is in
-    let owned : Owned d.book.size (0 ∷ ([] ++ d.chain)) = subst
-    (λ o. Owned d.book.size (0 ∷ (whole_pages o ++ d.chain))) none d.owned in
+    let owned : OwnsEachOnce d.page_map.size (0 ∷ ([] ++ d.chain)) = subst
+    (λ o. OwnsEachOnce d.page_map.size (0 ∷ (whole_pages o ++ d.chain))) none d.owned in
     record {
-      book = d.book;
+      page_map = d.page_map;
       is = d.is;
       chain = d.chain;
       linked = d.linked;
       others = 0 ∷ [];
-      owned = same_owned d.book.size (0 ∷ ([] ++ d.chain)) _ (λ q. last_counts q d.chain) owned;
+      owned = same_owned d.page_map.size (0 ∷ ([] ++ d.chain)) _ (λ q. last_counts q d.chain) owned;
       few = omega arith;
     }
 
-first_low : (scheme : Scheme) (b : Book) (x y : Child) (Ps : List Placed) → Name scheme b (x ∷ y ∷ []) Ps →
+first_low : (scheme : Scheme) (b : PageMap) (x y : Child) (Ps : List Placed) → NameTrees scheme b (x ∷ y ∷ []) Ps →
     level (tree.Inner (trees Ps)) ≡ x.level + 1
 first_low scheme b x y [] named = absurd named
 first_low scheme b x y (P ∷ Ps) named =
@@ -337,8 +337,9 @@ first_low scheme b x y (P ∷ Ps) named =
     ∙ ap (λ n. n + 1) (sym (ap (λ (l : Link). l.entry.level) named.0.said ∙ entry_level scheme (tree_of P)))
 
 -- a root can be put above the two nodes of a root that was split
-pub root_raise : (scheme : Scheme) (told told1 : Option Book) (free free1 : ℕ) (c : Child) (one : Record)
-    (s : Stand) (second : Child) → s.second ≡ Some second → Grows scheme told free told1 free1 c one (entries s)
+pub root_raise : (scheme : Scheme) (told told1 : Option PageMap) (free free1 : ℕ) (c : Child) (one : Record)
+    (s : Inserted) (second : Child) → s.second ≡ Some second → GrowsSubtree scheme told free told1 free1 c one
+    (entries s)
     →
     CanInsert scheme told free (Some c) 1 →
     CanRaise told1 free1 s.first.level × HaveFew (s.first ∷ second ∷ [])
@@ -347,10 +348,10 @@ root_raise scheme told told1 free free1 c one s second some grows k =
     let t = k.tree in
     let cs : List Child = s.first ∷ second ∷ [] in
     let both : entries s ≡ cs = ap (λ x. s.first ∷ option_to_list x) some in
-    let o : Outcome scheme d.book (Uses d.book.size d.chain) told1 free1 (0 ∷ []) (grown one t) cs =
-    subst (Outcome scheme d.book (Uses d.book.size d.chain) told1 free1 (0 ∷ []) (grown one t)) both
+    let o : Outcome scheme d.page_map (UsesPages d.page_map.size d.chain) told1 free1 (0 ∷ []) (grown one t) cs =
+    subst (Outcome scheme d.page_map (UsesPages d.page_map.size d.chain) told1 free1 (0 ∷ []) (grown one t)) both
     (below_root scheme told told1 free free1 c one (entries s) grows t d).outcome in
-    let high : tree.Inner (trees o.parts) ≡ ins one t = over_two scheme o.book s.first second o.parts (grown one t)
+    let high : tree.Inner (trees o.parts) ≡ ins one t = over_two scheme o.page_map s.first second o.parts (grown one t)
     o.named o.stand in
     let shallow = root_shallow (ins one t) (ins_root one t k.rooted) (omega (
       arith,
@@ -359,12 +360,12 @@ root_raise scheme told told1 free free1 c one s second some grows k =
     )) in (
       record {
         add = record {
-          book = o.book;
+          page_map = o.page_map;
           is = o.is;
           chain = o.chain;
           linked = o.linked;
           others = pages o.parts ++ (0 ∷ []);
-          owned = same_owned o.book.size (pages o.parts ++ (o.chain ++ (0 ∷ []))) _
+          owned = same_owned o.page_map.size (pages o.parts ++ (o.chain ++ (0 ∷ []))) _
               (λ q. move_counts q (pages o.parts) o.chain (0 ∷ [])) o.owned;
           few = omega (
             arith,
@@ -374,9 +375,9 @@ root_raise scheme told told1 free free1 c one s second some grows k =
             ap all_nodes o.stand,
           );
         };
-        low = omega (arith, shallow, ap level high, first_low scheme o.book s.first second o.parts o.named);
+        low = omega (arith, shallow, ap level high, first_low scheme o.page_map s.first second o.parts o.named);
       },
-      named_few scheme o.book cs o.parts o.named (omega (
+      named_few scheme o.page_map cs o.parts o.named (omega (
         arith,
         k.few,
         ap (λ us. length (flat_map records us)) o.stand,
@@ -387,13 +388,13 @@ root_raise scheme told told1 free free1 c one s second some grows k =
 -- ---- records one after another
 
 -- the next one can be put in as well
-pub next_insert : (scheme : Scheme) (told told1 : Option Book) (free free1 : ℕ) (root root1 : Option Child)
+pub next_insert : (scheme : Scheme) (told told1 : Option PageMap) (free free1 : ℕ) (root root1 : Option Child)
     (rs : List Record) (i : ℕ) → i < length rs →
     InsertsAll scheme told free root told1 free1 root1 (take i rs) →
     CanInsert scheme told free root (length rs) → CanInsert scheme told1 free1 root1 1
 next_insert scheme told told1 free free1 root root1 rs i within inserts k =
     let first = take i rs in
-    let r = inserts k.tree 0 k.draft.book.size 0 (record {
+    let r = inserts k.tree 0 k.draft.page_map.size 0 (record {
       draft = k.draft;
       no_fewer = omega arith;
       no_more = omega arith;
@@ -414,6 +415,6 @@ next_insert scheme told told1 free free1 root root1 rs i within inserts k =
     }
 
 -- the root that is told, by its kind
-pub at_root : (scheme : Scheme) (told : Option Book) (free count : ℕ) (root root1 : Option Child) →
+pub at_root : (scheme : Scheme) (told : Option PageMap) (free count : ℕ) (root root1 : Option Child) →
     root ≡ root1 → CanInsert scheme told free root count → CanInsert scheme told free root1 count
 at_root scheme told free count root root1 is = subst (λ r. CanInsert scheme told free r count) is

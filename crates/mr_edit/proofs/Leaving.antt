@@ -18,10 +18,10 @@ use Rattle.mr_grow.proofs.Kept.{records_below}
 use Rattle.mr_grow.proofs.Shortened.{empty_leaf, some_leaf, one_child, other_children}
 use Rattle.mr_pages.specs.Stands.{Placed, Leaf, Inner, tree_of, trees_of, pages_of, IsChain}
 use Rattle.mr_pages.specs.Walking.{child_link}
-use Rattle.mr_edit.specs.Book.{Book, HasNode, HasFree, Owned, times}
-use Rattle.mr_edit.specs.Held.{Names, Name, trees, pages}
-use Rattle.mr_edit.specs.Outcome.{Same, Outcome, Writes}
-use Rattle.mr_edit.specs.Removal.{Freed, FreesPage, Frees, IsLeft, LeavesLeaf, LeavesInner, Shortens, topped, topped_step}
+use Rattle.mr_edit.specs.PageMap.{PageMap, HasNode, HasFree, OwnsEachOnce, count_in}
+use Rattle.mr_edit.specs.Held.{NamesTree, NameTrees, trees, pages}
+use Rattle.mr_edit.specs.Outcome.{Same, Outcome, WritesNode}
+use Rattle.mr_edit.specs.private.Removal.{Freed, FreesPage, FreesSubtrees, LeavesSubtree, LeavesLeaf, LeavesInner, ShortensRoot, topped, topped_step}
 use Rattle.mr_edit.proofs.Zips.{same_length, zip_at}
 use Rattle.mr_edit.proofs.Frame.{agree_left, agree_right, frame, frame_all}
 use Rattle.mr_edit.proofs.Places.{same_owned}
@@ -43,13 +43,14 @@ full_inner : (ts : List Tree) → 24 ≤ length ts → is_low (tree.Inner ts) �
 full_inner ts many = ap is_low_step (tree.outs-Inner ts) ∙ le-ltb (length ts) 24 many
 
 -- too little is left: the pages are free, and the records set aside
-gone : (scheme : Scheme) (a : Book) (told : Option Book) (free : ℕ) (others : List ℕ) (r : Rest) (aside : List Record) →
+gone : (scheme : Scheme) (a : PageMap) (told : Option PageMap) (free : ℕ) (others : List ℕ) (r : Rest)
+    (aside : List Record) →
     is_low r.tree ≡ true → Freed a told free others → aside ≡ records r.tree ++ r.aside →
-    IsLeft scheme false a told free others r [] aside
+    LeavesSubtree scheme false a told free others r [] aside
 gone scheme a told free others r aside low f is = record {
   outcome = subst (λ ts. Outcome scheme a (λ size chain. size ≡ a.size) told free others ts [])
       (sym (ap (λ b. if b then [] else r.tree ∷ []) low)) (record {
-        book = f.book;
+        page_map = f.page_map;
         is = f.is;
         parts = [];
         named = tt;
@@ -64,10 +65,11 @@ gone scheme a told free others r aside low f is = record {
 }
 
 -- enough is left, and is written
-stayed : (scheme : Scheme) (a : Book) (chain : List ℕ) (told : Option Book) (free : ℕ) (others : List ℕ) (r : Rest)
+stayed : (scheme : Scheme) (a : PageMap) (chain : List ℕ) (told : Option PageMap) (free : ℕ) (others : List ℕ)
+    (r : Rest)
     (c : Child) (aside : List Record) → is_low r.tree ≡ false →
     Outcome scheme a (Same a.size chain) told free others (r.tree ∷ []) (c ∷ []) → aside ≡ r.aside →
-    IsLeft scheme false a told free others r (c ∷ []) aside
+    LeavesSubtree scheme false a told free others r (c ∷ []) aside
 stayed scheme a chain told free others r c aside full o is = record {
   outcome = subst (λ ts. Outcome scheme a (λ size ch. size ≡ a.size) told free others ts (c ∷ []))
       (sym (ap (λ b. if b then [] else r.tree ∷ []) full))
@@ -76,7 +78,7 @@ stayed scheme a chain told free others r c aside full o is = record {
   aside_is = is ∙ sym (ap (λ b. if b then records r.tree ++ r.aside else r.aside) full);
 }
 
-leaf_gone : (scheme : Scheme) (told told' : Option Book) (free free' page : ℕ) (rs : List Record) → length rs < 6 →
+leaf_gone : (scheme : Scheme) (told told' : Option PageMap) (free free' page : ℕ) (rs : List Record) → length rs < 6 →
     FreesPage told free told' free' page →
     LeavesLeaf scheme false told free told' free' page rs [] rs
 leaf_gone scheme told told' free free' page rs few frees a chain others told_is linked owned =
@@ -84,55 +86,56 @@ leaf_gone scheme told told' free free' page rs few frees a chain others told_is 
     others told_is linked owned)
     (sym (append-nil (records (tree.Leaf rs)) ∙ records-Leaf rs))
 
-leaf_stayed : (scheme : Scheme) (told told' : Option Book) (free free' page : ℕ) (rs aside : List Record)
+leaf_stayed : (scheme : Scheme) (told told' : Option PageMap) (free free' page : ℕ) (rs aside : List Record)
     (c : Child) → 6 ≤ length rs → aside ≡ [] →
-    Writes scheme told free told' free' page (node.Leaf rs) c →
+    WritesNode scheme told free told' free' page (node.Leaf rs) c →
     LeavesLeaf scheme false told free told' free' page rs (c ∷ []) aside
 leaf_stayed scheme told told' free free' page rs aside c many is w a chain others told_is linked owned =
     stayed scheme a chain told' free' others (record { tree = tree.Leaf rs; aside = [] }) c aside (full_leaf rs many)
     (leaf_written scheme told told' free free' page rs c w a chain others told_is linked owned) is
 
-pub inner_gone : (scheme : Scheme) (told told1 told' : Option Book) (free free1 free' page : ℕ) (cs : List Child)
+pub inner_gone : (scheme : Scheme) (told told1 told' : Option PageMap) (free free1 free' page : ℕ) (cs : List Child)
     (before list aside : List Record) → length cs < 24 → aside ≡ list ++ before →
-    FreesPage told free told1 free1 page → Frees scheme told1 free1 told' free' cs [] list →
+    FreesPage told free told1 free1 page → FreesSubtrees scheme told1 free1 told' free' cs [] list →
     LeavesInner scheme false told free told' free' page cs before [] aside
 inner_gone scheme told told1 told' free free1 free' page cs before list aside few is frees rest a chain
     Ps others told_is named linked owned =
     let f = frees a chain (pages Ps ++ others) told_is linked (same_owned a.size
     (page ∷ (pages Ps ++ (chain ++ others))) _ (λ q. turn_counts q page (pages Ps) chain others) owned) in
-    let there : Name scheme f.book cs Ps = frame_all scheme a f.book cs Ps
-    (agree_left a f.book (pages Ps) others f.kept) named in
-    let g = rest f.book f.chain Ps others f.is there f.linked (same_owned f.book.size (f.chain ++ (pages Ps ++ others))
+    let there : NameTrees scheme f.page_map cs Ps = frame_all scheme a f.page_map cs Ps
+    (agree_left a f.page_map (pages Ps) others f.kept) named in
+    let g = rest f.page_map f.chain Ps others f.is there f.linked
+    (same_owned f.page_map.size (f.chain ++ (pages Ps ++ others))
     _ (λ q. back_counts q (pages Ps) f.chain others) f.owned) in
     let all : Freed a told' free' others = record {
-      book = g.0.book;
+      page_map = g.0.page_map;
       is = g.0.is;
       chain = g.0.chain;
       linked = g.0.linked;
       owned = g.0.owned;
-      kept = λ q some. g.0.kept q some ∙ agree_right a f.book (pages Ps) others f.kept q some;
+      kept = λ q some. g.0.kept q some ∙ agree_right a f.page_map (pages Ps) others f.kept q some;
       size = g.0.size ∙ f.size;
     } in
     let size : length (trees Ps) < 24 = omega (
       arith,
       few,
       length-map Ps tree_of,
-      same_length (Names scheme a) cs Ps named,
+      same_length (NamesTree scheme a) cs Ps named,
     ) in
     gone scheme a told' free' others (record { tree = tree.Inner (trees Ps); aside = before }) aside
     (low_inner (trees Ps) size) all
     (is ∙ ap (λ us. us ++ before) (g.1 ∙ sym (records_below (trees Ps))))
 
-pub inner_stayed : (scheme : Scheme) (told told' : Option Book) (free free' page : ℕ) (cs : List Child)
+pub inner_stayed : (scheme : Scheme) (told told' : Option PageMap) (free free' page : ℕ) (cs : List Child)
     (before : List Record) (c : Child) → 24 ≤ length cs →
-    Writes scheme told free told' free' page (node.Inner (map child_link cs)) c →
+    WritesNode scheme told free told' free' page (node.Inner (map child_link cs)) c →
     LeavesInner scheme false told free told' free' page cs before (c ∷ []) before
 inner_stayed scheme told told' free free' page cs before c many w a chain Ps others told_is named linked owned =
     let size : 24 ≤ length (trees Ps) = omega (
       arith,
       many,
       length-map Ps tree_of,
-      same_length (Names scheme a) cs Ps named,
+      same_length (NamesTree scheme a) cs Ps named,
     ) in
     stayed scheme a chain told' free' others (record { tree = tree.Inner (trees Ps); aside = before }) c before
     (full_inner (trees Ps) size)
@@ -173,7 +176,7 @@ topped_one = tree_induction (λ t. (u : Tree) → topped t ≡ u ∷ [] → t �
     one : (t u : Tree) → t ∷ [] ≡ u ∷ [] → t ≡ u
     one t u e = cc
 
-top_leaf_gone : (scheme : Scheme) (told told' : Option Book) (free free' page : ℕ) (rs aside : List Record) →
+top_leaf_gone : (scheme : Scheme) (told told' : Option PageMap) (free free' page : ℕ) (rs aside : List Record) →
     length rs ≡ 0 → aside ≡ [] → FreesPage told free told' free' page →
     LeavesLeaf scheme true told free told' free' page rs [] aside
 top_leaf_gone scheme told told' free free' page rs aside none is frees a chain others told_is linked owned =
@@ -181,7 +184,7 @@ top_leaf_gone scheme told told' free free' page rs aside none is frees a chain o
     record {
       outcome = subst (λ ts. Outcome scheme a (λ size ch. size ≡ a.size) told' free' others ts [])
           (sym (ap topped (sym (empty_leaf rs (tree.Leaf rs) refl none)) ∙ topped_empty)) (record {
-            book = f.book;
+            page_map = f.page_map;
             is = f.is;
             parts = [];
             named = tt;
@@ -195,9 +198,9 @@ top_leaf_gone scheme told told' free free' page rs aside none is frees a chain o
       aside_is = is;
     }
 
-top_leaf_stayed : (scheme : Scheme) (told told' : Option Book) (free free' page : ℕ) (rs aside : List Record)
+top_leaf_stayed : (scheme : Scheme) (told told' : Option PageMap) (free free' page : ℕ) (rs aside : List Record)
     (c : Child) → length rs ≢ 0 → aside ≡ [] →
-    Writes scheme told free told' free' page (node.Leaf rs) c →
+    WritesNode scheme told free told' free' page (node.Leaf rs) c →
     LeavesLeaf scheme true told free told' free' page rs (c ∷ []) aside
 top_leaf_stayed scheme told told' free free' page rs aside c some is w a chain others told_is linked owned = record {
   outcome = subst (λ ts. Outcome scheme a (λ size ch. size ≡ a.size) told' free' others ts (c ∷ []))
@@ -213,7 +216,7 @@ no_records [] few = refl
 no_records (r ∷ rs) few = absurd (omega (arith, few))
 
 -- of a leaf, as the root or below it
-pub any_leaf_gone : (scheme : Scheme) (root : Bool) (told told' : Option Book) (free free' page : ℕ)
+pub any_leaf_gone : (scheme : Scheme) (root : Bool) (told told' : Option PageMap) (free free' page : ℕ)
     (rs : List Record) → length rs < (if root then 1 else 6) → FreesPage told free told' free' page →
     LeavesLeaf scheme root told free told' free' page rs [] rs
 any_leaf_gone scheme true told told' free free' page rs few frees =
@@ -221,25 +224,25 @@ any_leaf_gone scheme true told told' free free' page rs few frees =
 any_leaf_gone scheme false told told' free free' page rs few frees =
     leaf_gone scheme told told' free free' page rs few frees
 
-pub any_leaf_stayed : (scheme : Scheme) (root : Bool) (told told' : Option Book) (free free' page : ℕ)
+pub any_leaf_stayed : (scheme : Scheme) (root : Bool) (told told' : Option PageMap) (free free' page : ℕ)
     (rs aside : List Record) (c : Child) → (if root then 1 else 6) ≤ length rs → aside ≡ [] →
-    Writes scheme told free told' free' page (node.Leaf rs) c →
+    WritesNode scheme told free told' free' page (node.Leaf rs) c →
     LeavesLeaf scheme root told free told' free' page rs (c ∷ []) aside
 any_leaf_stayed scheme true told told' free free' page rs aside c many is w =
     top_leaf_stayed scheme told told' free free' page rs aside c (λ none. omega (arith, many, none)) is w
 any_leaf_stayed scheme false told told' free free' page rs aside c many is w =
     leaf_stayed scheme told told' free free' page rs aside c many is w
 
-pub top_inner_stayed : (scheme : Scheme) (told told' : Option Book) (free free' page : ℕ) (cs : List Child)
+pub top_inner_stayed : (scheme : Scheme) (told told' : Option PageMap) (free free' page : ℕ) (cs : List Child)
     (before : List Record) (c : Child) → length cs ≢ 1 →
-    Writes scheme told free told' free' page (node.Inner (map child_link cs)) c →
+    WritesNode scheme told free told' free' page (node.Inner (map child_link cs)) c →
     LeavesInner scheme true told free told' free' page cs before (c ∷ []) before
 top_inner_stayed scheme told told' free free' page cs before c some w a chain Ps others told_is named linked owned =
     let size : length (trees Ps) ≢ 1 = λ one. some (omega (
       arith,
       one,
       length-map Ps tree_of,
-      same_length (Names scheme a) cs Ps named,
+      same_length (NamesTree scheme a) cs Ps named,
     )) in
     record {
       outcome = subst (λ ts. Outcome scheme a (λ size ch. size ≡ a.size) told' free' others ts (c ∷ []))
@@ -259,19 +262,19 @@ placed_there (Inner p R) e = let opened : ◌≡◌ {A = node.Tree-F Tree} (node
     sym (tree.outs-Inner (trees_of R)) ∙ ap out-Tree e ∙ tree.outs-Empty in cc
 
 -- nothing is done
-unchanged : (scheme : Scheme) (a : Book) (told : Option Book) (free : ℕ) (chain others : List ℕ) (c : Child)
-    (P : Placed) → told ≡ Some a → Names scheme a c P → IsChain (HasFree a) free chain →
-    Owned a.size (pages_of P ++ (chain ++ others)) → tree_of P ≡ shortened (tree_of P) →
+unchanged : (scheme : Scheme) (a : PageMap) (told : Option PageMap) (free : ℕ) (chain others : List ℕ) (c : Child)
+    (P : Placed) → told ≡ Some a → NamesTree scheme a c P → IsChain (HasFree a) free chain →
+    OwnsEachOnce a.size (pages_of P ++ (chain ++ others)) → tree_of P ≡ shortened (tree_of P) →
     Outcome scheme a (λ size ch. size ≡ a.size) told free others (shortened (tree_of P) ∷ []) (c ∷ [])
 unchanged scheme a told free chain others c P is names linked owned stays_so = record {
-  book = a;
+  page_map = a;
   is = is;
   parts = P ∷ [];
   named = (names, tt);
   stand = ap (λ t. t ∷ []) stays_so;
   chain = chain;
   linked = linked;
-  owned = subst (λ ps. Owned a.size (ps ++ (chain ++ others))) (sym (append-nil (pages_of P))) owned;
+  owned = subst (λ ps. OwnsEachOnce a.size (ps ++ (chain ++ others))) (sym (append-nil (pages_of P))) owned;
   kept = λ q some. refl;
   use_ = refl;
 }
@@ -279,19 +282,21 @@ unchanged scheme a told free chain others c P is names linked owned stays_so = r
 -- ---- a root that gives way to its one child
 
 -- the root's page is freed, and its one child is shortened
-pub gives_way : (scheme : Scheme) (told told1 told' : Option Book) (free free1 free' page : ℕ) (cs : List Child)
+pub gives_way : (scheme : Scheme) (told told1 told' : Option PageMap) (free free1 free' page : ℕ) (cs : List Child)
     (d out : Child) → length cs ≡ 1 → d ≡ get_or cs 0 d → FreesPage told free told1 free1 page →
-    Shortens scheme told1 free1 told' free' d out → (a : Book) (chain : List ℕ) (Ps : List Placed) (others : List ℕ) →
-    told ≡ Some a → Name scheme a cs Ps → IsChain (HasFree a) free chain →
-    Owned a.size (page ∷ (pages Ps ++ (chain ++ others))) → Outcome scheme a (λ size ch. size ≡ a.size) told' free'
+    ShortensRoot scheme told1 free1 told' free' d out → (a : PageMap) (chain : List ℕ) (Ps : List Placed)
+    (others : List ℕ) →
+    told ≡ Some a → NameTrees scheme a cs Ps → IsChain (HasFree a) free chain →
+    OwnsEachOnce a.size (page ∷ (pages Ps ++ (chain ++ others))) → Outcome scheme a (λ size ch. size ≡ a.size)
+    told' free'
     others (shortened (tree.Inner (trees Ps)) ∷ []) (out ∷ [])
 gives_way scheme told told1 told' free free1 free' page cs d out one at frees shortens a chain
-    [] others told_is named linked owned = absurd (omega (arith, one, same_length (Names scheme a) cs [] named))
+    [] others told_is named linked owned = absurd (omega (arith, one, same_length (NamesTree scheme a) cs [] named))
 gives_way scheme told told1 told' free free1 free' page cs d out one at frees shortens a chain
     (P ∷ Q ∷ Ps) others told_is named linked owned = absurd (omega (
       arith,
       one,
-      same_length (Names scheme a) cs (P ∷ Q ∷ Ps) named,
+      same_length (NamesTree scheme a) cs (P ∷ Q ∷ Ps) named,
     ))
 gives_way scheme told told1 told' free free1 free' page cs d out one at frees shortens a chain
     (P ∷ []) others told_is named linked owned =
@@ -299,18 +304,18 @@ gives_way scheme told told1 told' free free1 free' page cs d out one at frees sh
     (same_owned a.size (page ∷ (pages (P ∷ []) ++ (chain ++ others))) _
     (λ q. turn_counts q page (pages (P ∷ [])) chain others) owned) in
     let some : 0 < length cs = omega (arith, one) in
-    let mine : Names scheme a d P = subst (λ e. Names scheme a e P) (sym at)
-    (zip_at (Names scheme a) cs (P ∷ []) 0 d P named some) in
-    let there : Names scheme f.book d P = record {
+    let mine : NamesTree scheme a d P = subst (λ e. NamesTree scheme a e P) (sym at)
+    (zip_at (NamesTree scheme a) cs (P ∷ []) 0 d P named some) in
+    let there : NamesTree scheme f.page_map d P = record {
       said = mine.said;
-      written = frame scheme a f.book P (agree_left a f.book (pages_of P) []
-          (agree_left a f.book (pages (P ∷ [])) others f.kept)) mine.written;
+      written = frame scheme a f.page_map P (agree_left a f.page_map (pages_of P) []
+          (agree_left a f.page_map (pages (P ∷ [])) others f.kept)) mine.written;
     } in
-    let o = shortens f.book f.chain P others f.is there f.linked
-    (same_owned f.book.size (f.chain ++ (pages (P ∷ []) ++ others)) _ (λ q. back_counts q (pages_of P) f.chain
-    others ∙ ap (λ us. times q (f.chain ++ (us ++ others))) (sym (append-nil (pages_of P)))) f.owned) in
+    let o = shortens f.page_map f.chain P others f.is there f.linked
+    (same_owned f.page_map.size (f.chain ++ (pages (P ∷ []) ++ others)) _ (λ q. back_counts q (pages_of P) f.chain
+    others ∙ ap (λ us. count_in q (f.chain ++ (us ++ others))) (sym (append-nil (pages_of P)))) f.owned) in
     record {
-      book = o.book;
+      page_map = o.page_map;
       is = o.is;
       parts = o.parts;
       named = o.named;
@@ -319,13 +324,14 @@ gives_way scheme told told1 told' free free1 free' page cs d out one at frees sh
       chain = o.chain;
       linked = o.linked;
       owned = o.owned;
-      kept = λ q some_of. o.kept q some_of ∙ agree_right a f.book (pages (P ∷ [])) others f.kept q some_of;
+      kept = λ q some_of. o.kept q some_of ∙ agree_right a f.page_map (pages (P ∷ [])) others f.kept q some_of;
       use_ = o.use_ ∙ f.size;
     }
 
-pub top_inner_short : (scheme : Scheme) (told told1 told' : Option Book) (free free1 free' page : ℕ) (cs : List Child)
+pub top_inner_short : (scheme : Scheme) (told told1 told' : Option PageMap) (free free1 free' page : ℕ)
+    (cs : List Child)
     (before : List Record) (d out : Child) → length cs ≡ 1 → d ≡ get_or cs 0 d → FreesPage told free told1 free1 page →
-    Shortens scheme told1 free1 told' free' d out → LeavesInner scheme true told free told' free' page cs before
+    ShortensRoot scheme told1 free1 told' free' d out → LeavesInner scheme true told free told' free' page cs before
     (out ∷ []) before
 top_inner_short scheme told told1 told' free free1 free' page cs before d out one at frees shortens a chain
     Ps others told_is named linked owned =
@@ -334,11 +340,11 @@ top_inner_short scheme told told1 told' free free1 free' page cs before d out on
     let t = shortened (tree.Inner (trees Ps)) in
     record {
       outcome = subst (λ ts. Outcome scheme a (λ size ch. size ≡ a.size) told' free' others ts (out ∷ []))
-          (sym (topped_some t (stands_there o.book t o.parts o.named o.stand))) o;
+          (sym (topped_some t (stands_there o.page_map t o.parts o.named o.stand))) o;
       aside_is = refl;
     }
   where
-    stands_there : (b : Book) (t : Tree) (Qs : List Placed) → Name scheme b (out ∷ []) Qs → trees Qs ≡ t ∷ [] →
+    stands_there : (b : PageMap) (t : Tree) (Qs : List Placed) → NameTrees scheme b (out ∷ []) Qs → trees Qs ≡ t ∷ [] →
         t ≢ tree.Empty
     stands_there b t [] all e = absurd all
     stands_there b t (Q ∷ R ∷ Qs) all e = absurd all.1
@@ -346,9 +352,9 @@ top_inner_short scheme told told1 told' free free1 free' page cs before d out on
 
 -- ---- shortening
 
-pub shortens_leaf : (scheme : Scheme) (told told' : Option Book) (free : ℕ) (c : Child) (rs : List Record) →
+pub shortens_leaf : (scheme : Scheme) (told told' : Option PageMap) (free : ℕ) (c : Child) (rs : List Record) →
     told' ≡ told → IfSome told (λ b. HasNode b c.id (node.Leaf rs)) → length rs ≢ 0 →
-    Shortens scheme told free told' free c c
+    ShortensRoot scheme told free told' free c c
 shortens_leaf scheme told told' free c rs same reads some a chain P others is names linked owned =
     let has_node : HasNode a c.id (node.Leaf rs) = subst (λ o. IfSome o (λ b. HasNode b c.id (node.Leaf rs))) is reads
     in
@@ -356,9 +362,9 @@ shortens_leaf scheme told told' free c rs same reads some a chain P others is na
     unchanged scheme a told' free chain others c P (same ∙ is) names linked owned
     (ap tree_of here ∙ some_leaf rs (tree_of P) (ap tree_of here) some)
 
-pub shortens_many : (scheme : Scheme) (told told' : Option Book) (free : ℕ) (c : Child) (cs : List Child) →
+pub shortens_many : (scheme : Scheme) (told told' : Option PageMap) (free : ℕ) (c : Child) (cs : List Child) →
     told' ≡ told → IfSome told (λ b. HasNode b c.id (node.Inner (map child_link cs))) → length cs ≢ 1 →
-    Shortens scheme told free told' free c c
+    ShortensRoot scheme told free told' free c c
 shortens_many scheme told told' free c cs same reads some a chain P others is names linked owned =
     let has_node : HasNode a c.id (node.Inner (map child_link cs)) =
     subst (λ o. IfSome o (λ b. HasNode b c.id (node.Inner (map child_link cs)))) is reads in
@@ -368,16 +374,16 @@ shortens_many scheme told told' free c cs same reads some a chain P others is na
       arith,
       one,
       length-map op.parts tree_of,
-      same_length (Names scheme a) cs op.parts op.named,
+      same_length (NamesTree scheme a) cs op.parts op.named,
     )) in
     unchanged scheme a told' free chain others c P (same ∙ is) names linked owned (what
     ∙ other_children (trees op.parts) (trees op.parts) (tree_of P) what refl size)
 
-pub shortens_one : (scheme : Scheme) (told told1 told2 told' : Option Book) (free free2 free' : ℕ) (c : Child)
+pub shortens_one : (scheme : Scheme) (told told1 told2 told' : Option PageMap) (free free2 free' : ℕ) (c : Child)
     (cs : List Child) (d out : Child) → told1 ≡ told → IfSome told
     (λ b. HasNode b c.id (node.Inner (map child_link cs))) → length cs ≡ 1 →
-    d ≡ get_or cs 0 d → FreesPage told1 free told2 free2 c.id → Shortens scheme told2 free2 told' free' d out →
-    Shortens scheme told free told' free' c out
+    d ≡ get_or cs 0 d → FreesPage told1 free told2 free2 c.id → ShortensRoot scheme told2 free2 told' free' d out →
+    ShortensRoot scheme told free told' free' c out
 shortens_one scheme told told1 told2 told' free free2 free' c cs d out same reads one at frees shortens a chain
     P others is names linked owned =
     let has_node : HasNode a c.id (node.Inner (map child_link cs)) =
@@ -387,4 +393,5 @@ shortens_one scheme told told1 told2 told' free free2 free' c cs d out same read
     subst (λ t. Outcome scheme a (λ size ch. size ≡ a.size) told' free' others (shortened t ∷ []) (out ∷ []))
     (sym (ap tree_of op.is ∙ ap tree.Inner (row_trees op.parts)))
     (gives_way scheme told1 told2 told' free free2 free' c.id cs d out one at frees shortens a chain
-    op.parts others (same ∙ is) op.named linked (subst (λ ps. Owned a.size (ps ++ (chain ++ others))) mine owned))
+    op.parts others (same ∙ is) op.named linked
+    (subst (λ ps. OwnsEachOnce a.size (ps ++ (chain ++ others))) mine owned))

@@ -10,8 +10,8 @@ use Rattle.mr_split.specs.Split.{sides}
 use Rattle.mr_grow.specs.Parts.{first_part, second_part}
 use Rattle.mr_grow.proofs.Cutting.{splits}
 use Rattle.mr_edit.specs.Held.{entries}
-use Rattle.mr_edit.specs.Outcome.{Halves}
-use Rattle.mr_edit.specs.declared.stand.Stand.{Stand}
+use Rattle.mr_edit.specs.Outcome.{HalvesList}
+use Rattle.mr_edit.specs.declared.inserted.Inserted.{Inserted}
 
 pub all_append : {X : Type 0} (P : X → Type 0) (xs ys : List X) → AllByRecursion P xs → AllByRecursion P ys →
     AllByRecursion P (xs ++ ys)
@@ -71,7 +71,7 @@ replaced_length at [] new within = absurd (omega (arith, within))
 replaced_length zero (x ∷ xs) new within = omega (arith, length-append new xs)
 replaced_length (suc at) (x ∷ xs) new within = omega (arith, replaced_length at xs new (omega (arith, within)))
 
-pub few_entries : (s : Stand) → length (entries s) ≤ 2
+pub few_entries : (s : Inserted) → length (entries s) ≤ 2
 few_entries s = at s.second
   where
     at : (o : Option Child) → length (s.first ∷ option_to_list o) ≤ 2
@@ -88,7 +88,8 @@ parts_length (false ∷ bs) (x ∷ xs) = omega (arith, parts_length bs xs)
 -- the parts of a list that is split
 pub halved : {X : Type 0} (least most : ℕ) (rects : List Rectangle) (xs front back : List X) (bs : List Bool) →
     length xs ≡ length rects → 1 ≤ least → 2 * least ≤ most → length xs ≡ most + 1 →
-    bs ≡ sides rects least → front ≡ first_part bs xs → back ≡ second_part bs xs → Halves least most rects xs front back
+    bs ≡ sides rects least → front ≡ first_part bs xs → back ≡ second_part bs xs → HalvesList least most rects xs
+    front back
 halved least most rects xs front back bs same some half long is first' second' =
     let s = splits rects least xs same some (omega (arith, half, long)) in
     let n = parts_length (sides rects least) xs in

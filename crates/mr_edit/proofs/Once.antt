@@ -9,29 +9,29 @@ use Rattle.mr_record.specs.declared.record.Record.{Record}
 use Rattle.mr_tree.specs.Tree.{records}
 use Rattle.mr_tree.specs.declared.tree.Tree.{Tree}
 use Rattle.mr_grow.specs.Found.{has}
-use Rattle.mr_edit.specs.Book.{times}
-use Rattle.mr_edit.specs.Removal.{IsOnce, numbers_in}
-use Rattle.mr_edit.proofs.Frame.{times-append}
+use Rattle.mr_edit.specs.PageMap.{count_in}
+use Rattle.mr_edit.specs.private.Removal.{IsOnce, numbers_in}
+use Rattle.mr_edit.proofs.Frame.{count_in-append}
 use Rattle.mr_edit.proofs.Searching.{holds}
 
 -- ---- how often a number stands
 
 both : (n : ℕ) (xs ys : List Record) →
-    times n (numbers_in (xs ++ ys)) ≡ times n (numbers_in xs) + times n (numbers_in ys)
+    count_in n (numbers_in (xs ++ ys)) ≡ count_in n (numbers_in xs) + count_in n (numbers_in ys)
 both n xs ys =
-    ap (times n) (map-append (λ (r : Record). r.number) xs ys) ∙ times-append n (numbers_in xs) (numbers_in ys)
+    ap (count_in n) (map-append (λ (r : Record). r.number) xs ys) ∙ count_in-append n (numbers_in xs) (numbers_in ys)
 
-there : (n : ℕ) (rs : List Record) → has n rs ≡ true → 0 < times n (numbers_in rs)
+there : (n : ℕ) (rs : List Record) → has n rs ≡ true → 0 < count_in n (numbers_in rs)
 there n [] e = cc
 there n (r ∷ rs) e = at (r.number == n) e (there n rs)
   where
-    at : (b : Bool) → (b || has n rs) ≡ true → (has n rs ≡ true → 0 < times n (numbers_in rs)) →
-        0 < (if b then suc (times n (numbers_in rs)) else times n (numbers_in rs))
+    at : (b : Bool) → (b || has n rs) ≡ true → (has n rs ≡ true → 0 < count_in n (numbers_in rs)) →
+        0 < (if b then suc (count_in n (numbers_in rs)) else count_in n (numbers_in rs))
     at true e rest = omega arith
     at false e rest = rest e
 
 there_below : (n : ℕ) (ts : List Tree) (i : ℕ) (d : Tree) → i < length ts → holds n (get_or ts i d) ≡ true →
-    0 < times n (numbers_in (flat_map records ts))
+    0 < count_in n (numbers_in (flat_map records ts))
 there_below n [] i d within e = absurd (omega (arith, within))
 there_below n (t ∷ ts) zero d within e =
     omega (arith, there n (records t) e, both n (records t) (flat_map records ts))
@@ -71,12 +71,12 @@ alone_before n (t ∷ ts) (suc i) d within once e =
 -- ---- numbers that differ
 
 none_of : (n : ℕ) (rs : List Record) → AllByRecursion (λ (s : Record). n ≢ s.number) rs →
-    times n (numbers_in rs) ≡ 0
+    count_in n (numbers_in rs) ≡ 0
 none_of n [] all = refl
 none_of n (r ∷ rs) all = at (r.number == n) refl (none_of n rs all.1)
   where
-    at : (b : Bool) → (r.number == n) ≡ b → times n (numbers_in rs) ≡ 0 →
-        (if b then suc (times n (numbers_in rs)) else times n (numbers_in rs)) ≡ 0
+    at : (b : Bool) → (r.number == n) ≡ b → count_in n (numbers_in rs) ≡ 0 →
+        (if b then suc (count_in n (numbers_in rs)) else count_in n (numbers_in rs)) ≡ 0
     at true is rest = absurd (all.0 (sym (eqb-true r.number n is)))
     at false is rest = rest
 
@@ -90,10 +90,10 @@ once_apart n (r ∷ rs) far = at (r.number == n) refl
         (λ k d within. far 0 (suc k) d (omega arith) (omega (arith, within)))
 
     at : (b : Bool) → (r.number == n) ≡ b → IsOnce n rs →
-        (if b then suc (times n (numbers_in rs)) else times n (numbers_in rs)) ≤ 1
+        (if b then suc (count_in n (numbers_in rs)) else count_in n (numbers_in rs)) ≤ 1
     at true is rest =
         let same : r.number ≡ n = eqb-true r.number n is in
-        let none : times n (numbers_in rs) ≡ 0 =
-        subst (λ k. times k (numbers_in rs) ≡ 0) same (none_of r.number rs others) in
+        let none : count_in n (numbers_in rs) ≡ 0 =
+        subst (λ k. count_in k (numbers_in rs) ≡ 0) same (none_of r.number rs others) in
         omega (arith, none)
     at false is rest = rest

@@ -20,9 +20,9 @@ use Rattle.mr_grow.proofs.Kept.{records_below}
 use Rattle.mr_grow.proofs.Shrunk.{holder, shrunk-Leaf, shrunk-Inner, has_below}
 use Rattle.mr_pages.specs.Stands.{Placed, Leaf, Inner, tree_of, pages_of, IsChain}
 use Rattle.mr_pages.specs.Walking.{child_link}
-use Rattle.mr_edit.specs.Book.{Book, HasNode, HasFree, Owned, times}
-use Rattle.mr_edit.specs.Held.{Names, Name, trees, pages}
-use Rattle.mr_edit.specs.Removal.{HaveRect, IsOnce, Lacks, IsLeft, LeavesLeaf, LeavesInner, Removes}
+use Rattle.mr_edit.specs.PageMap.{PageMap, HasNode, HasFree, OwnsEachOnce, count_in}
+use Rattle.mr_edit.specs.Held.{NamesTree, NameTrees, trees, pages}
+use Rattle.mr_edit.specs.private.Removal.{HaveRect, IsOnce, LacksRecord, LeavesSubtree, LeavesLeaf, LeavesInner, RemovesRecord}
 use Rattle.mr_edit.proofs.Rows.{row_of, row_trees}
 use Rattle.mr_edit.proofs.Zips.{zip_take, zip_drop, zip_both}
 use Rattle.mr_edit.proofs.Frame.{frame_all}
@@ -43,11 +43,12 @@ any_at f (y ∷ ys) (suc i) e within it = or_true (f y) (list_any f ys) (any_at 
 
 -- ---- a leaf
 
-pub removes_leaf : (scheme : Scheme) (root : Bool) (told told1 told' : Option Book) (free free' : ℕ) (c : Child) (n : ℕ)
+pub removes_leaf : (scheme : Scheme) (root : Bool) (told told1 told' : Option PageMap) (free free' : ℕ) (c : Child)
+    (n : ℕ)
     (r : Rectangle) (rs new : List Record) (at : ℕ) (out : List Child) (aside : List Record) →
     told1 ≡ told → IfSome told (λ b. HasNode b c.id (node.Leaf rs)) → at ≡ place_of (is_numbered n) rs →
     at < length rs → new ≡ remove rs at → LeavesLeaf scheme root told1 free told' free' c.id new out aside →
-    Removes scheme root told free told' free' c n r out aside
+    RemovesRecord scheme root told free told' free' c n r out aside
 removes_leaf scheme root told told1 told' free free' c n r rs new at out aside same reads place within
     removed leaves a chain P others is names linked owned all once =
     let has_node : HasNode a c.id (node.Leaf rs) = subst (λ o. IfSome o (λ b. HasNode b c.id (node.Leaf rs))) is reads
@@ -62,14 +63,16 @@ removes_leaf scheme root told told1 told' free free' c n r rs new at out aside s
       aside = [];
     }) in (
       ap (λ Q. has n (records (tree_of Q))) here ∙ ap (has n) (records-Leaf rs) ∙ it,
-      subst (λ x. IsLeft scheme root a told' free' others x out aside) (sym rest)
-          (leaves a chain others (same ∙ is) linked (subst (λ Q. Owned a.size (pages_of Q ++ (chain ++ others))) here
+      subst (λ x. LeavesSubtree scheme root a told' free' others x out aside) (sym rest)
+          (leaves a chain others (same ∙ is) linked
+          (subst (λ Q. OwnsEachOnce a.size (pages_of Q ++ (chain ++ others))) here
           owned)),
     )
 
-pub lacks_leaf : (scheme : Scheme) (told : Option Book) (c : Child) (n : ℕ) (r : Rectangle) (rs : List Record) (at : ℕ)
+pub lacks_leaf : (scheme : Scheme) (told : Option PageMap) (c : Child) (n : ℕ) (r : Rectangle) (rs : List Record)
+    (at : ℕ)
     → IfSome told (λ b. HasNode b c.id (node.Leaf rs)) → at ≡ place_of (is_numbered n) rs → length rs ≤ at →
-    Lacks scheme told c n r
+    LacksRecord scheme told c n r
 lacks_leaf scheme told c n r rs at reads place past a P is names all =
     let has_node : HasNode a c.id (node.Leaf rs) = subst (λ o. IfSome o (λ b. HasNode b c.id (node.Leaf rs))) is reads
     in
@@ -102,27 +105,28 @@ left_trees n Ps ns at x within place is stand =
 
 -- A record was taken out below one of the entries. The others, and what stands in the place of that one, are named
 -- side by side, and their pages are apart from the node's.
-pub record Rejoined (scheme : Scheme) (a : Book) (told : Option Book) (free : ℕ) (c : Child) (n at : ℕ)
+pub record Rejoined (scheme : Scheme) (a : PageMap) (told : Option PageMap) (free : ℕ) (c : Child) (n at : ℕ)
     (cs new : List Child) (before : List Record) (P : Placed) (others : List ℕ) (d : Child) (r : Rectangle)
     (chain : List ℕ) : Type 0 where
   pub parts : List Placed
   pub opened : P ≡ Inner c.id (row_of parts)
-  pub had : Name scheme a cs parts
+  pub had : NameTrees scheme a cs parts
   pub child : Placed
   pub within : at < length parts
   pub tree_is : tree_of child ≡ get_or (trees parts) at (tree_of child)
   pub child_is : child ≡ get_or parts at child
-  pub held : Names scheme a d child
-  pub apart : Owned a.size
+  pub held : NamesTree scheme a d child
+  pub apart : OwnsEachOnce a.size
       (pages_of child ++ (chain ++ (c.id ∷ ((pages (take at parts) ++ pages (drop (suc at) parts)) ++ others))))
   pub rects : HaveRect n r (records (tree_of child))
   pub once : IsOnce n (records (tree_of child))
   pub there : has n (records (tree_of child)) ≡ true
-  pub left : IsLeft scheme false a told free (c.id ∷ ((pages (take at parts) ++ pages (drop (suc at) parts)) ++ others))
+  pub left : LeavesSubtree scheme false a told free
+      (c.id ∷ ((pages (take at parts) ++ pages (drop (suc at) parts)) ++ others))
       (shrunk n (tree_of child)) new before
-  pub named : Name scheme left.outcome.book (take at cs ++ (new ++ drop (suc at) cs))
+  pub named : NameTrees scheme left.outcome.page_map (take at cs ++ (new ++ drop (suc at) cs))
       (take at parts ++ (left.outcome.parts ++ drop (suc at) parts))
-  pub owned : Owned left.outcome.book.size
+  pub owned : OwnsEachOnce left.outcome.page_map.size
       (c.id ∷ (pages (take at parts ++ (left.outcome.parts ++ drop (suc at) parts)) ++ (left.outcome.chain ++ others)))
 
 pub records_opened : (P : Placed) (page : ℕ) (Ps : List Placed) → P ≡ Inner page (row_of Ps) →
@@ -130,12 +134,12 @@ pub records_opened : (P : Placed) (page : ℕ) (Ps : List Placed) → P ≡ Inne
 records_opened P page Ps is = ap (λ Q. records (tree_of Q)) is ∙ ap (λ ts. records (tree.Inner ts)) (row_trees Ps)
     ∙ records_below (trees Ps)
 
-pub rejoined : (scheme : Scheme) (told told1 told2 : Option Book) (free free1 free2 : ℕ) (c : Child) (n : ℕ)
+pub rejoined : (scheme : Scheme) (told told1 told2 : Option PageMap) (free free1 free2 : ℕ) (c : Child) (n : ℕ)
     (r : Rectangle) (at : ℕ) (cs new : List Child) (before : List Record) (d : Child) → told1 ≡ told → free1 ≡ free →
     IfSome told (λ b. HasNode b c.id (node.Inner (map child_link cs))) → at < length cs → d ≡ get_or cs at d →
-    Removes scheme false told1 free1 told2 free2 d n r new before → (a : Book) (chain : List ℕ) (P : Placed)
-    (others : List ℕ) → told ≡ Some a → Names scheme a c P → IsChain (HasFree a) free chain →
-    Owned a.size (pages_of P ++ (chain ++ others)) → HaveRect n r (records (tree_of P)) →
+    RemovesRecord scheme false told1 free1 told2 free2 d n r new before → (a : PageMap) (chain : List ℕ) (P : Placed)
+    (others : List ℕ) → told ≡ Some a → NamesTree scheme a c P → IsChain (HasFree a) free chain →
+    OwnsEachOnce a.size (pages_of P ++ (chain ++ others)) → HaveRect n r (records (tree_of P)) →
     IsOnce n (records (tree_of P)) → Rejoined scheme a told2 free2 c n at cs new before P others d r chain
 rejoined scheme told told1 told2 free free1 free2 c n r at cs new before d same same_free reads within is_d removes a
     chain P others is names linked owned all once =
@@ -157,9 +161,10 @@ rejoined scheme told told1 told2 free free1 free2 c n r at cs new before d same 
     let g = removes a chain x (c.id ∷ ((lp ++ rp) ++ others)) (same ∙ is) st.held
     (subst (λ f. IsChain (HasFree a) f chain) (sym same_free) linked) st.owned here alone in
     let o = g.1.outcome in
-    let stay : (Qs : List Placed) → ((q : ℕ) → 0 < times q (pages Qs) → 0 < times q (c.id ∷ ((lp ++ rp) ++ others))) →
-    (us : List Child) → Name scheme a us Qs → Name scheme o.book us Qs =
-    λ Qs some_of us named. frame_all scheme a o.book us Qs (λ q some. o.kept q (some_of q some)) named in
+    let stay : (Qs : List Placed) → ((q : ℕ) → 0 < count_in q (pages Qs) → 0 < count_in q
+    (c.id ∷ ((lp ++ rp) ++ others))) →
+    (us : List Child) → NameTrees scheme a us Qs → NameTrees scheme o.page_map us Qs =
+    λ Qs some_of us named. frame_all scheme a o.page_map us Qs (λ q some. o.kept q (some_of q some)) named in
     record {
       parts = Ps;
       opened = st.is;
@@ -174,18 +179,19 @@ rejoined scheme told told1 told2 free free1 free2 c n r at cs new before d same 
       once = alone;
       there = g.0;
       left = g.1;
-      named = zip_both (Names scheme o.book) (take at cs) (new ++ drop (suc at) cs) (take at Ps)
+      named = zip_both (NamesTree scheme o.page_map) (take at cs) (new ++ drop (suc at) cs) (take at Ps)
           (o.parts ++ drop (suc at) Ps)
           (stay (take at Ps) (λ q some. among_left q c.id lp rp others some) (take at cs)
-          (zip_take (Names scheme a) at cs Ps st.named))
-          (zip_both (Names scheme o.book) new (drop (suc at) cs) o.parts (drop (suc at) Ps) o.named
+          (zip_take (NamesTree scheme a) at cs Ps st.named))
+          (zip_both (NamesTree scheme o.page_map) new (drop (suc at) cs) o.parts (drop (suc at) Ps) o.named
           (stay (drop (suc at) Ps) (λ q some. among_right q c.id lp rp others some) (drop (suc at) cs)
-          (zip_drop (Names scheme a) (suc at) cs Ps st.named)));
-      owned = owned_up o.book.size c.id at Ps o.parts o.chain others o.owned;
+          (zip_drop (NamesTree scheme a) (suc at) cs Ps st.named)));
+      owned = owned_up o.page_map.size c.id at Ps o.parts o.chain others o.owned;
     }
 
 -- what is left of the node is what is left of its tree
-pub left_of : (scheme : Scheme) (a : Book) (told : Option Book) (free : ℕ) (c : Child) (n at : ℕ) (cs new : List Child)
+pub left_of : (scheme : Scheme) (a : PageMap) (told : Option PageMap) (free : ℕ) (c : Child) (n at : ℕ)
+    (cs new : List Child)
     (before : List Record) (P : Placed) (others : List ℕ) (d : Child) (r : Rectangle) (chain : List ℕ)
     (j : Rejoined scheme a told free c n at cs new before P others d r chain) → IsOnce n (records (tree_of P)) →
     ◌≡◌ {A = Rest} (record {
@@ -209,13 +215,14 @@ left_of scheme a told free c n at cs new before P others d r chain j once =
     ∙ left_trees n Ps o.parts at t j.within place j.tree_is o.stand
     ∙ ap (λ ts. shrunk n (tree.Inner ts)) (sym (row_trees Ps)) ∙ ap (λ Q. shrunk n (tree_of Q)) (sym j.opened)
 
-pub removes_below : (scheme : Scheme) (root : Bool) (told told1 told2 told' : Option Book) (free free1 free2 free' : ℕ)
+pub removes_below : (scheme : Scheme) (root : Bool) (told told1 told2 told' : Option PageMap)
+    (free free1 free2 free' : ℕ)
     (c : Child) (n : ℕ) (r : Rectangle) (at : ℕ) (cs new out : List Child) (before aside : List Record) (d : Child) →
     told1 ≡ told → free1 ≡ free → IfSome told (λ b. HasNode b c.id (node.Inner (map child_link cs))) → at < length cs →
-    d ≡ get_or cs at d → Removes scheme false told1 free1 told2 free2 d n r new before →
+    d ≡ get_or cs at d → RemovesRecord scheme false told1 free1 told2 free2 d n r new before →
     LeavesInner scheme root told2 free2 told' free' c.id (take at cs ++ (new ++ drop (suc at) cs)) before out aside
     →
-    Removes scheme root told free told' free' c n r out aside
+    RemovesRecord scheme root told free told' free' c n r out aside
 removes_below scheme root told told1 told2 told' free free1 free2 free' c n r at cs new out before aside d same
     same_free reads within is_d removes leaves a chain P others is names linked owned all once =
     let j = rejoined scheme told told1 told2 free free1 free2 c n r at cs new before d same same_free reads within is_d
@@ -224,16 +231,17 @@ removes_below scheme root told told1 told2 told' free free1 free2 free' c n r at
     let t = tree_of j.child in
     let o = j.left.outcome in
     let size : at < length (trees Ps) = omega (arith, j.within, length-map Ps tree_of) in
-    let w = leaves o.book o.chain (take at Ps ++ (o.parts ++ drop (suc at) Ps)) others o.is j.named o.linked j.owned in
+    let w = leaves o.page_map o.chain (take at Ps ++ (o.parts ++ drop (suc at) Ps)) others o.is j.named o.linked
+    j.owned in
     let has_it : holds n (get_or (trees Ps) at t) ≡ true = subst (λ u. holds n u ≡ true) j.tree_is j.there in
     let rest = left_of scheme a told2 free2 c n at cs new before P others d r chain j once in
     let v = w.outcome in (
       ap (λ Q. has n (records (tree_of Q))) j.opened ∙ ap (λ ts. has n (records (tree.Inner ts))) (row_trees Ps)
           ∙ has_below n (trees Ps)
           ∙ any_at (holds n) (trees Ps) at t size has_it,
-      subst (λ y. IsLeft scheme root a told' free' others y out aside) rest (record {
+      subst (λ y. LeavesSubtree scheme root a told' free' others y out aside) rest (record {
         outcome = record {
-          book = v.book;
+          page_map = v.page_map;
           is = v.is;
           parts = v.parts;
           named = v.named;

@@ -16,11 +16,11 @@ use Rattle.mr_grow.specs.Shrink.{Rest, is_low, stays, shrunk}
 use Rattle.mr_grow.proofs.Shrunk.{shrunk-Leaf}
 use Rattle.mr_pages.specs.Stands.{Placed, Leaf, tree_of, pages_of, IsChain}
 use Rattle.mr_pages.specs.Walking.{child_link}
-use Rattle.mr_edit.specs.Book.{Book, HasNode, HasFree, Owned}
-use Rattle.mr_edit.specs.Counted.{ReadsOnce, ReadsTwice, LeavesOnce, TakesTwice, nodes_left}
-use Rattle.mr_edit.specs.Held.{Names, Name, trees, pages}
-use Rattle.mr_edit.specs.Removal.{HaveRect, IsOnce, LeavesInner, Removes}
-use Rattle.mr_edit.specs.declared.left.Left.{Left}
+use Rattle.mr_edit.specs.PageMap.{PageMap, HasNode, HasFree, OwnsEachOnce}
+use Rattle.mr_edit.specs.Counted.{ReadsNodesOnce, ReadsTwice, LeavesOnce, TakesTwice, nodes_left}
+use Rattle.mr_edit.specs.Held.{NamesTree, NameTrees, trees, pages}
+use Rattle.mr_edit.specs.private.Removal.{HaveRect, IsOnce, LeavesInner, RemovesRecord}
+use Rattle.mr_edit.specs.declared.removal.Removal.{Removal}
 use Rattle.mr_edit.proofs.Descending.{around, joined_pages, step_down, tree_at}
 use Rattle.mr_edit.proofs.Entries.{opens_inner, opens_leaf}
 use Rattle.mr_edit.proofs.FreeReads.{some_page, pages_nodes}
@@ -41,13 +41,15 @@ few_left r = at (is_low r.tree)
 
 -- ---- the node alone
 
-pub twice_looked : (scheme : Scheme) (told : Option Book) (free : ℕ) (c : Child) (n : ℕ) (rect : Rectangle) (r r' : ℕ) →
+pub twice_looked : (scheme : Scheme) (told : Option PageMap) (free : ℕ) (c : Child) (n : ℕ) (rect : Rectangle)
+    (r r' : ℕ) →
     r' ≤ r + 1 → ReadsTwice scheme told free c n rect r r'
 twice_looked scheme told free c n rect r r' few a chain P others is names linked owned all once =
     omega (arith, few, some_page P)
 
-pub takes_leaf : (scheme : Scheme) (root : Bool) (told : Option Book) (free : ℕ) (c : Child) (n : ℕ) (rect : Rectangle)
-    (rs : List Record) (l : Left) (r r' : ℕ) → IfSome told (λ b. HasNode b c.id (node.Leaf rs)) → r' ≤ r + 1 →
+pub takes_leaf : (scheme : Scheme) (root : Bool) (told : Option PageMap) (free : ℕ) (c : Child) (n : ℕ)
+    (rect : Rectangle)
+    (rs : List Record) (l : Removal) (r r' : ℕ) → IfSome told (λ b. HasNode b c.id (node.Leaf rs)) → r' ≤ r + 1 →
     TakesTwice scheme root told free c n rect r r' (Some l)
 takes_leaf scheme true told free c n rect rs l r r' reads few a chain P others is names linked owned all once =
     omega (arith, few, some_page P)
@@ -63,9 +65,9 @@ takes_leaf scheme false told free c n rect rs l r r' reads few a chain P others 
 -- ---- a node and its children
 
 -- the record is below none of them
-pub once_searched : (scheme : Scheme) (told : Option Book) (c : Child) (cs : List Child) (turn i r0 r1 r2 : ℕ) →
+pub once_searched : (scheme : Scheme) (told : Option PageMap) (c : Child) (cs : List Child) (turn i r0 r1 r2 : ℕ) →
     IfSome told (λ b. HasNode b c.id (node.Inner (map child_link cs))) → r1 ≤ r0 + 1 →
-    TriedOnce scheme told cs turn i r1 r2 → ReadsOnce scheme told c r0 r2
+    TriedOnce scheme told cs turn i r1 r2 → ReadsNodesOnce scheme told c r0 r2
 once_searched scheme told c cs turn i r0 r1 r2 reads looked tried a P is names =
     let has_node : HasNode a c.id (node.Inner (map child_link cs)) =
     subst (λ o. IfSome o (λ b. HasNode b c.id (node.Inner (map child_link cs)))) is reads in
@@ -82,9 +84,9 @@ once_searched scheme told c cs turn i r0 r1 r2 reads looked tried a P is names =
     )
 
 -- all below it are looked at
-pub once_seen : (scheme : Scheme) (told : Option Book) (c : Child) (cs : List Child) (i r0 r1 r2 : ℕ) →
+pub once_seen : (scheme : Scheme) (told : Option PageMap) (c : Child) (cs : List Child) (i r0 r1 r2 : ℕ) →
     IfSome told (λ b. HasNode b c.id (node.Inner (map child_link cs))) → r1 ≤ r0 + 1 → SeenOnce scheme told cs i r1 r2 →
-    ReadsOnce scheme told c r0 r2
+    ReadsNodesOnce scheme told c r0 r2
 once_seen scheme told c cs i r0 r1 r2 reads looked seen a P is names =
     let has_node : HasNode a c.id (node.Inner (map child_link cs)) =
     subst (λ o. IfSome o (λ b. HasNode b c.id (node.Inner (map child_link cs)))) is reads in
@@ -100,12 +102,13 @@ once_seen scheme told c cs i r0 r1 r2 reads looked seen a P is names =
       ap length mine,
     )
 
-pub once_twice : (scheme : Scheme) (told : Option Book) (free : ℕ) (c : Child) (n : ℕ) (rect : Rectangle) (r r' : ℕ) →
-    ReadsOnce scheme told c r r' → ReadsTwice scheme told free c n rect r r'
+pub once_twice : (scheme : Scheme) (told : Option PageMap) (free : ℕ) (c : Child) (n : ℕ) (rect : Rectangle)
+    (r r' : ℕ) →
+    ReadsNodesOnce scheme told c r r' → ReadsTwice scheme told free c n rect r r'
 once_twice scheme told free c n rect r r' once a chain P others is names linked owned all alone =
     omega (arith, once a P is names)
 
-module _ (scheme : Scheme) (told told1 : Option Book) (free free1 : ℕ) (c : Child) (n : ℕ) (rect : Rectangle)
+module _ (scheme : Scheme) (told told1 : Option PageMap) (free free1 : ℕ) (c : Child) (n : ℕ) (rect : Rectangle)
     (at turn i : ℕ) (cs : List Child) (d : Child) (r0 r1 r2 r3 : ℕ) (same : told1 ≡ told) (same_free : free1 ≡ free)
     (reads : IfSome told (λ b. HasNode b c.id (node.Inner (map child_link cs)))) (within : at < length cs)
     (is_d : d ≡ get_or cs at d) (place : at ≡ (if i == 0 then turn else i - 1)) (other : i ≢ 0 → at ≢ turn)
@@ -138,13 +141,13 @@ module _ (scheme : Scheme) (told told1 : Option Book) (free free1 : ℕ) (c : Ch
       )
 
   -- the record was taken out below one of them
-  module _ (told2 told' : Option Book) (free2 free' : ℕ) (l : Left) (r4 : ℕ)
-      (removes : Removes scheme false told1 free1 told2 free2 d n rect (option_to_list l.entry) l.aside.items)
+  module _ (told2 told' : Option PageMap) (free2 free' : ℕ) (l : Removal) (r4 : ℕ)
+      (removes : RemovesRecord scheme false told1 free1 told2 free2 d n rect (option_to_list l.entry) l.aside.items)
       (took : TakesTwice scheme false told1 free1 d n rect r2 r3 (Some l))
       (leaves : LeavesOnce scheme told2 free2 c.id (take at cs ++ (option_to_list l.entry ++ drop (suc at) cs)) r3 r4)
     where
       -- what was read below it, and beside the node, but that of what is left there
-      record Read (a : Book) (chain : List ℕ) (P : Placed) (others : List ℕ) : Type 0 where
+      record Read (a : PageMap) (chain : List ℕ) (P : Placed) (others : List ℕ) : Type 0 where
         joined : Rejoined scheme a told2 free2 c n at cs (option_to_list l.entry) l.aside.items P others d rect chain
         rest : ℕ
         rest_is : rest ≡ length
@@ -152,8 +155,8 @@ module _ (scheme : Scheme) (told told1 : Option Book) (free free1 : ℕ) (c : Ch
         so_far : r3 + (rest + 1) ≤ r0 + 2 * length (pages_of P)
         on : r4 ≤ r3 + rest
 
-      read : (a : Book) (chain : List ℕ) (P : Placed) (others : List ℕ) → told ≡ Some a → Names scheme a c P →
-          IsChain (HasFree a) free chain → Owned a.size (pages_of P ++ (chain ++ others)) →
+      read : (a : PageMap) (chain : List ℕ) (P : Placed) (others : List ℕ) → told ≡ Some a → NamesTree scheme a c P →
+          IsChain (HasFree a) free chain → OwnsEachOnce a.size (pages_of P ++ (chain ++ others)) →
           HaveRect n rect (records (tree_of P)) → IsOnce n (records (tree_of P)) → Read a chain P others
       read a chain P others is names linked owned all once =
           let j = rejoined scheme told told1 told2 free free1 free2 c n rect at cs (option_to_list l.entry)
@@ -172,7 +175,8 @@ module _ (scheme : Scheme) (told told1 : Option Book) (free free1 : ℕ) (c : Ch
           let split : pages Ps ≡ pages (take at Ps) ++ (pages_of x ++ pages (drop (suc at) Ps)) =
           ap pages (around Ps at x j.within) ∙ flat_map-append pages_of (take at Ps) (get_or Ps at x ∷ drop (suc at) Ps)
           ∙ ap (λ y. pages (take at Ps) ++ (pages_of y ++ pages (drop (suc at) Ps))) (sym j.child_is) in
-          let left = leaves o.book o.chain (take at Ps ++ (o.parts ++ drop (suc at) Ps)) others o.is j.named o.linked
+          let left = leaves o.page_map o.chain (take at Ps ++ (o.parts ++ drop (suc at) Ps)) others o.is j.named
+          o.linked
           j.owned
           in
           record {
@@ -202,7 +206,7 @@ module _ (scheme : Scheme) (told told1 : Option Book) (free free1 : ℕ) (c : Ch
           let x = read a chain P others is names linked owned all once in
           omega (arith, x.so_far, x.on)
 
-      pub takes_below : (root : Bool) (out : Left) →
+      pub takes_below : (root : Bool) (out : Removal) →
           LeavesInner scheme root told2 free2 told' free' c.id
           (take at cs ++ (option_to_list l.entry ++ drop (suc at) cs)) l.aside.items (option_to_list out.entry)
           out.aside.items → (root ≡ false → IfSome out.entry (λ e. r4 ≡ r3)) →
@@ -222,11 +226,11 @@ module _ (scheme : Scheme) (told told1 : Option Book) (free free1 : ℕ) (c : Ch
           l.aside.items P others d rect chain x.joined once)) ∙ fold-Inner ℕ nodes_step _
           ∙ ap (λ k. k + 1) (sym (pages_nodes (take at x.joined.parts
           ++ (x.joined.left.outcome.parts ++ drop (suc at) x.joined.parts))) ∙ sym x.rest_is) in
-          by_entry v.book rest x.rest high v.parts out.entry v.named v.stand (still refl) x.so_far x.on
+          by_entry v.page_map rest x.rest high v.parts out.entry v.named v.stand (still refl) x.so_far x.on
         where
-          by_entry : (b : Book) (rest : Rest) (k : ℕ) → nodes rest.tree ≡ k + 1 → (Qs : List Placed)
+          by_entry : (b : PageMap) (rest : Rest) (k : ℕ) → nodes rest.tree ≡ k + 1 → (Qs : List Placed)
               (o : Option Child) →
-              Name scheme b (option_to_list o) Qs → trees Qs ≡ stays rest → IfSome o (λ e. r4 ≡ r3) →
+              NameTrees scheme b (option_to_list o) Qs → trees Qs ≡ stays rest → IfSome o (λ e. r4 ≡ r3) →
               r3 + (k + 1) ≤ r0 + 2 * length (pages_of P) → r4 ≤ r3 + k →
               r4 + nodes_left false rest ≤ r0 + 2 * length (pages_of P)
           by_entry b rest k high [] None named stand still far on =

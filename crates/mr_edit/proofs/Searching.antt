@@ -22,9 +22,9 @@ use Rattle.mr_grow.proofs.Shrunk.{has_below}
 use Rattle.mr_pages.specs.Page.{Link}
 use Rattle.mr_pages.specs.Stands.{Placed, Leaf, tree_of}
 use Rattle.mr_pages.specs.Walking.{child_link}
-use Rattle.mr_edit.specs.Book.{Book, HasNode}
-use Rattle.mr_edit.specs.Held.{Names, Name, trees}
-use Rattle.mr_edit.specs.Removal.{HaveRect, Lacks}
+use Rattle.mr_edit.specs.PageMap.{PageMap, HasNode}
+use Rattle.mr_edit.specs.Held.{NamesTree, NameTrees, trees}
+use Rattle.mr_edit.specs.private.Removal.{HaveRect, LacksRecord}
 use Rattle.mr_edit.proofs.Zips.{same_length, zip_at}
 use Rattle.mr_edit.proofs.Rows.{row_trees}
 use Rattle.mr_edit.proofs.Entries.{opens_inner}
@@ -66,8 +66,8 @@ absorbed n r (one ∷ rs) all e = at (one.number == n) refl e (absorbed n r rs a
         ∙ ap (join (Some one.rect)) (rest h) ∙ sym whole
 
 -- an entry in whose rectangle the record's does not lie
-pub outside : (scheme : Scheme) (told : Option Book) (c : Child) (n : ℕ) (r : Rectangle) → union c.rect r ≢ c.rect →
-    Lacks scheme told c n r
+pub outside : (scheme : Scheme) (told : Option PageMap) (c : Child) (n : ℕ) (r : Rectangle) → union c.rect r ≢ c.rect →
+    LacksRecord scheme told c n r
 outside scheme told c n r far a P is names all = at (has n (records (tree_of P))) refl
   where
     round : Some c.rect ≡ union_of (rects_of (records (tree_of P)))
@@ -87,12 +87,13 @@ abbrev pub holds : ℕ → Tree → Bool
 holds n t = has n (records t)
 
 -- the first ones do not have it
-abbrev pub NoneYet : Scheme → (told : Option Book) → List Child → ℕ → Rectangle → ℕ → Type 0
+abbrev pub NoneYet : Scheme → (told : Option PageMap) → List Child → ℕ → Rectangle → ℕ → Type 0
 NoneYet scheme told cs n r i =
-    (a : Book) (Ps : List Placed) → told ≡ Some a → Name scheme a cs Ps → HaveRect n r (flat_map records (trees Ps)) →
+    (a : PageMap) (Ps : List Placed) → told ≡ Some a → NameTrees scheme a cs Ps → HaveRect n r
+    (flat_map records (trees Ps)) →
     list_any (holds n) (take i (trees Ps)) ≡ false
 
-pub none_first : (scheme : Scheme) (told : Option Book) (cs : List Child) (n : ℕ) (r : Rectangle) →
+pub none_first : (scheme : Scheme) (told : Option PageMap) (cs : List Child) (n : ℕ) (r : Rectangle) →
     NoneYet scheme told cs n r 0
 none_first scheme told cs n r a Ps is named all = refl
 
@@ -125,30 +126,31 @@ all_below P (t ∷ ts) (suc i) d within all = all_below P ts i d (omega (arith, 
     (right_part P (records t) (flat_map records ts) all)
 
 -- the tree of an entry among others
-pub record Among (scheme : Scheme) (a : Book) (c : Child) (Ps : List Placed) (i : ℕ) : Type 0 where
+pub record Among (scheme : Scheme) (a : PageMap) (c : Child) (Ps : List Placed) (i : ℕ) : Type 0 where
   pub part : Placed
   pub within : i < length Ps
   pub is : part ≡ get_or Ps i part
-  pub names : Names scheme a c part
+  pub names : NamesTree scheme a c part
   pub tree : tree_of part ≡ get_or (trees Ps) i (tree_of part)
 
-pub among : (scheme : Scheme) (a : Book) (cs : List Child) (Ps : List Placed) (i : ℕ) (c : Child) →
-    Name scheme a cs Ps → i < length cs → c ≡ get_or cs i c → Among scheme a c Ps i
+pub among : (scheme : Scheme) (a : PageMap) (cs : List Child) (Ps : List Placed) (i : ℕ) (c : Child) →
+    NameTrees scheme a cs Ps → i < length cs → c ≡ get_or cs i c → Among scheme a c Ps i
 among scheme a cs Ps i c named within is =
     let none : Placed = Leaf 0 [] in
-    let inside : i < length Ps = omega (arith, within, same_length (Names scheme a) cs Ps named) in
+    let inside : i < length Ps = omega (arith, within, same_length (NamesTree scheme a) cs Ps named) in
     let x : Placed = get_or Ps i none in
     let here : x ≡ get_or Ps i x = get_or_default Ps i none x inside in
     record {
       part = x;
       within = inside;
       is = here;
-      names = subst (λ e. Names scheme a e x) (sym is) (zip_at (Names scheme a) cs Ps i c none named within);
+      names = subst (λ e. NamesTree scheme a e x) (sym is) (zip_at (NamesTree scheme a) cs Ps i c none named within);
       tree = ap tree_of here ∙ sym (get_or-map tree_of Ps i x (tree_of x) inside);
     }
 
-pub none_more : (scheme : Scheme) (told : Option Book) (cs : List Child) (n : ℕ) (r : Rectangle) (i : ℕ) (c : Child) →
-    i < length cs → c ≡ get_or cs i c → Lacks scheme told c n r → NoneYet scheme told cs n r i →
+pub none_more : (scheme : Scheme) (told : Option PageMap) (cs : List Child) (n : ℕ) (r : Rectangle) (i : ℕ)
+    (c : Child) →
+    i < length cs → c ≡ get_or cs i c → LacksRecord scheme told c n r → NoneYet scheme told cs n r i →
     NoneYet scheme told cs n r (i + 1)
 none_more scheme told cs n r i c within is lacks none a Ps told_is named all =
     let m = among scheme a cs Ps i c named within is in
@@ -163,9 +165,9 @@ none_more scheme told cs n r i c within is lacks none a Ps told_is named all =
     (one_more (holds n) (trees Ps) i t size (none a Ps told_is named all) here)
 
 -- after the nth try: that of the child to which a way turns, or of the next one
-pub none_tried : (scheme : Scheme) (told : Option Book) (cs : List Child) (n : ℕ) (r : Rectangle)
+pub none_tried : (scheme : Scheme) (told : Option PageMap) (cs : List Child) (n : ℕ) (r : Rectangle)
     (i turn at : ℕ) (c : Child) → at ≡ (if i == 0 then turn else i - 1) → at < length cs → c ≡ get_or cs at c →
-    Lacks scheme told c n r → NoneYet scheme told cs n r (i - 1) → NoneYet scheme told cs n r (i + 1 - 1)
+    LacksRecord scheme told c n r → NoneYet scheme told cs n r (i - 1) → NoneYet scheme told cs n r (i + 1 - 1)
 none_tried scheme told cs n r i turn at c tried within is lacks none = by_case (i == 0) refl tried
   where
     by_case : (b : Bool) → (i == 0) ≡ b → at ≡ (if b then turn else i - 1) → NoneYet scheme told cs n r (i + 1 - 1)
@@ -200,9 +202,10 @@ take_whole zero (x ∷ xs) past = absurd (omega (arith, past))
 take_whole (suc i) (x ∷ xs) past = ap (λ us. x ∷ us) (take_whole i xs (omega (arith, past)))
 
 -- none of them has it
-pub lacks_inner : (scheme : Scheme) (told : Option Book) (c : Child) (cs : List Child) (n : ℕ) (r : Rectangle) (i : ℕ) →
+pub lacks_inner : (scheme : Scheme) (told : Option PageMap) (c : Child) (cs : List Child) (n : ℕ) (r : Rectangle)
+    (i : ℕ) →
     IfSome told (λ b. HasNode b c.id (node.Inner (map child_link cs))) → length cs ≤ i →
-    NoneYet scheme told cs n r i → Lacks scheme told c n r
+    NoneYet scheme told cs n r i → LacksRecord scheme told c n r
 lacks_inner scheme told c cs n r i reads past none a P is names all =
     let has_node : HasNode a c.id (node.Inner (map child_link cs)) =
     subst (λ o. IfSome o (λ b. HasNode b c.id (node.Inner (map child_link cs)))) is reads in
@@ -214,7 +217,7 @@ lacks_inner scheme told c cs n r i reads past none a P is names all =
       arith,
       past,
       length-map Ps tree_of,
-      same_length (Names scheme a) cs Ps op.named,
+      same_length (NamesTree scheme a) cs Ps op.named,
     ) in
     ap (λ Q. has n (records (tree_of Q))) op.is ∙ ap (λ ts. has n (records (tree.Inner ts))) (row_trees Ps)
     ∙ has_below n (trees Ps)

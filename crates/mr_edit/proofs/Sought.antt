@@ -23,11 +23,11 @@ use Rattle.mr_grow.proofs.Shrunk.{shrunk_parted}
 use Rattle.mr_pages.specs.Stands.{Placed, tree_of, IsChain}
 use Rattle.mr_pages.specs.Walking.{child_link}
 use Rattle.mr_pages.proofs.Building.{FilledAs, filled_below}
-use Rattle.mr_edit.specs.Book.{Book, HasNode, HasFree}
-use Rattle.mr_edit.specs.Held.{Names, trees, pages, counted}
+use Rattle.mr_edit.specs.PageMap.{PageMap, HasNode, HasFree}
+use Rattle.mr_edit.specs.Held.{NamesTree, trees, pages, counted}
 use Rattle.mr_edit.specs.Causes.{KnowsBelow}
-use Rattle.mr_edit.specs.Removal.{HaveRect, IsOnce, Removes}
-use Rattle.mr_edit.specs.Removable.{CanLeave, CanTakeOut}
+use Rattle.mr_edit.specs.private.Removal.{HaveRect, IsOnce, RemovesRecord}
+use Rattle.mr_edit.specs.private.Removable.{CanLeave, CanTakeOut}
 use Rattle.mr_edit.proofs.Rows.{row_trees}
 use Rattle.mr_edit.proofs.Zips.{same_length}
 use Rattle.mr_edit.proofs.Descending.{tree_at, step_down, among_others}
@@ -40,12 +40,12 @@ use Rattle.mr_edit.proofs.Sums.{count_named, counted_named, few_at, less_few, re
 
 -- ---- a child
 
-pub known_child : (scheme : Scheme) (root : Bool) (told told1 : Option Book) (free free1 : ℕ) (c : Child)
+pub known_child : (scheme : Scheme) (root : Bool) (told told1 : Option PageMap) (free free1 : ℕ) (c : Child)
     (at : ℕ) (cs : List Child) (d : Child) → told1 ≡ told → free1 ≡ free →
     IfSome told (λ b. HasNode b c.id (node.Inner (map child_link cs))) → at < length cs → d ≡ get_or cs at d →
     KnowsBelow scheme root told free c → KnowsBelow scheme false told1 free1 d
 known_child scheme root told told1 free free1 c at cs d same same_free reads within is_d k =
-    let a = k.book in
+    let a = k.page_map in
     let P = k.placed in
     let has_node : HasNode a c.id (node.Inner (map child_link cs)) =
     subst (λ o. IfSome o (λ b. HasNode b c.id (node.Inner (map child_link cs)))) k.is reads in
@@ -56,7 +56,7 @@ known_child scheme root told told1 free free1 c at cs d same same_free reads wit
     let what : tree_of P ≡ tree.Inner (trees Ps) = ap tree_of st.is ∙ ap tree.Inner (row_trees Ps) in
     let size : at < length (trees Ps) = omega (arith, st.inside, length-map Ps tree_of) in
     record {
-      book = a;
+      page_map = a;
       is = same ∙ k.is;
       chain = k.chain;
       linked = subst (λ f. IsChain (HasFree a) f k.chain) (sym same_free) k.linked;
@@ -69,14 +69,14 @@ known_child scheme root told told1 free free1 c at cs d same same_free reads wit
       head = among_others 0 c.id (pages (take at Ps)) (pages (drop (suc at) Ps)) k.others k.head;
     }
 
-pub sought_below : (scheme : Scheme) (root : Bool) (told told1 : Option Book) (free free1 : ℕ) (c : Child)
+pub sought_below : (scheme : Scheme) (root : Bool) (told told1 : Option PageMap) (free free1 : ℕ) (c : Child)
     (n : ℕ) (r : Rectangle) (at : ℕ) (cs : List Child) (d : Child) → told1 ≡ told → free1 ≡ free →
     IfSome told (λ b. HasNode b c.id (node.Inner (map child_link cs))) → at < length cs → d ≡ get_or cs at d →
     CanTakeOut scheme root told free c n r → CanTakeOut scheme false told1 free1 d n r
 unfolding known_child
 sought_below scheme root told told1 free free1 c n r at cs d same same_free reads within is_d t =
     let k = t.below in
-    let a = k.book in
+    let a = k.page_map in
     let P = k.placed in
     let has_node : HasNode a c.id (node.Inner (map child_link cs)) =
     subst (λ o. IfSome o (λ b. HasNode b c.id (node.Inner (map child_link cs)))) k.is reads in
@@ -168,17 +168,17 @@ one_stays n [] ys within many = absurd (omega (arith, within))
 one_stays zero (x ∷ xs) ys within many = omega (arith, many, length-append ys xs)
 one_stays (suc n) (x ∷ xs) ys within many = omega arith
 
-pub leave_left : (scheme : Scheme) (root : Bool) (told told1 told2 : Option Book) (free free1 free2 : ℕ)
+pub leave_left : (scheme : Scheme) (root : Bool) (told told1 told2 : Option PageMap) (free free1 free2 : ℕ)
     (c : Child) (n : ℕ) (r : Rectangle) (at : ℕ) (cs new : List Child) (before : List Record) (d : Child) →
     told1 ≡ told → free1 ≡ free → IfSome told (λ b. HasNode b c.id (node.Inner (map child_link cs))) →
-    at < length cs → d ≡ get_or cs at d → Removes scheme false told1 free1 told2 free2 d n r new before →
+    at < length cs → d ≡ get_or cs at d → RemovesRecord scheme false told1 free1 told2 free2 d n r new before →
     CanTakeOut scheme root told free c n r →
     CanLeave scheme told2 free2 c.id (take at cs ++ (new ++ drop (suc at) cs))
 leave_left scheme root told told1 told2 free free1 free2 c n r at cs new before d same same_free reads within is_d
     removes t =
     let k = t.below in
     let j = rejoined scheme told told1 told2 free free1 free2 c n r at cs new before d same same_free reads within is_d
-    removes k.book k.chain k.placed k.others k.is k.names k.linked k.owned t.rects t.once in
+    removes k.page_map k.chain k.placed k.others k.is k.names k.linked k.owned t.rects t.once in
     let Ps = j.parts in
     let o = j.left.outcome in
     let x = tree_of j.child in
@@ -193,7 +193,7 @@ leave_left scheme root told told1 told2 free free1 free2 c n r at cs new before 
     (subst (every-Tree HasOneLevel) (sym j.tree_is) (all_at (every-Tree HasOneLevel) at (trees Ps) x size levels))
     (subst (every-Tree IsFilled) (sym j.tree_is) (all_at (every-Tree IsFilled) at (trees Ps) x size all)) j.there) in
     record {
-      book = o.book;
+      page_map = o.page_map;
       is = o.is;
       parts = take at Ps ++ (o.parts ++ drop (suc at) Ps);
       named = j.named;
@@ -210,14 +210,14 @@ leave_left scheme root told told1 told2 free free1 free2 c n r at cs new before 
         arith,
         two_or_more root (trees Ps) fill,
         length-map Ps tree_of,
-        same_length (Names scheme k.book) cs Ps j.had,
+        same_length (NamesTree scheme k.page_map) cs Ps j.had,
       ));
       few = less_few scheme.version (counted (take at cs ++ (new ++ drop (suc at) cs))) d.count (counted cs)
           (counted new) (length (records (tree_of k.placed))) (length (records x))
           (length (flat_map records (stays (shrunk n x)))) (replaced_counted at cs new d within is_d)
-          (counted_named scheme k.book cs Ps j.had
+          (counted_named scheme k.page_map cs Ps j.had
           ∙ ap (λ us. told_by scheme.version (length us)) (sym (records_opened k.placed c.id Ps j.opened)))
-          (counted_named scheme o.book new o.parts o.named
+          (counted_named scheme o.page_map new o.parts o.named
           ∙ ap (λ us. told_by scheme.version (length (flat_map records us))) o.stand)
           (count_named scheme d j.child j.held.said) (stays_few n x j.there) t.few;
     }

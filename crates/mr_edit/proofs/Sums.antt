@@ -30,12 +30,12 @@ use Rattle.mr_grow.specs.Grow.{grown}
 use Rattle.mr_grow.specs.Parts.{first_part, second_part}
 use Rattle.mr_grow.specs.Views.{HasRoom}
 use Rattle.mr_grow.proofs.Kept.{grown_mixes}
-use Rattle.mr_pages.specs.Page.{Link, entry_of}
+use Rattle.mr_pages.specs.Page.{Link, node_entry}
 use Rattle.mr_pages.specs.Stands.{Placed, tree_of, link_of}
 use Rattle.mr_pages.specs.Walking.{child_link, page_node}
 use Rattle.mr_pages.proofs.Judged.{entry_same}
-use Rattle.mr_edit.specs.Book.{Book}
-use Rattle.mr_edit.specs.Held.{Name, IsTold, trees, counted, HaveFew}
+use Rattle.mr_edit.specs.PageMap.{PageMap}
+use Rattle.mr_edit.specs.Held.{NameTrees, IsTold, trees, counted, HaveFew}
 use Rattle.mr_edit.proofs.Entries.{said_leaf}
 
 -- ---- a version tells more of more
@@ -141,7 +141,7 @@ pub count_named : (scheme : Scheme) (c : Child) (P : Placed) → child_link c �
 count_named scheme c P said =
     ap (λ (l : Link). l.entry.count) said ∙ entry_count scheme (tree_of P) ∙ count_told scheme.version (tree_of P)
 
-pub counted_named : (scheme : Scheme) (b : Book) (cs : List Child) (Ps : List Placed) → Name scheme b cs Ps →
+pub counted_named : (scheme : Scheme) (b : PageMap) (cs : List Child) (Ps : List Placed) → NameTrees scheme b cs Ps →
     counted cs ≡ told scheme.version (length (flat_map records (trees Ps)))
 counted_named scheme b [] [] named = sym (told_none scheme.version)
 counted_named scheme b [] (P ∷ Ps) named = absurd named
@@ -154,7 +154,7 @@ counted_named scheme b (c ∷ cs) (P ∷ Ps) named =
     ∙ ap (told scheme.version) (sym (length-append (records (tree_of P)) (flat_map records (trees Ps))))
 
 -- they are few where the trees have few records
-pub named_few : (scheme : Scheme) (b : Book) (cs : List Child) (Ps : List Placed) → Name scheme b cs Ps →
+pub named_few : (scheme : Scheme) (b : PageMap) (cs : List Child) (Ps : List Placed) → NameTrees scheme b cs Ps →
     length (flat_map records (trees Ps)) ≤ count_limit → HaveFew cs
 named_few scheme b cs Ps named few = omega (
   arith,
@@ -209,12 +209,12 @@ count_some : (v : Version) (cs : List Child) → 1 ≤ length cs → AllByRecurs
 count_some v [] some all = absurd (omega (arith, some))
 count_some v (c ∷ cs) some all = omega (arith, all.0.counted, counted_cons c cs)
 
-entry_masks : (cs : List Child) → map (λ (e : Entry). e.mask) (map view.entry_of cs) ≡ masks cs
+entry_masks : (cs : List Child) → map (λ (e : Entry). e.mask) (map view.child_entry cs) ≡ masks cs
 entry_masks [] = refl
 entry_masks (c ∷ cs) = ap (λ ms. c.mask ∷ ms) (entry_masks cs)
 
 entry_counts : (cs : List Child) →
-    map (λ (e : Entry). e.count) (map view.entry_of cs) ≡ map (λ (c : Child). c.count) cs
+    map (λ (e : Entry). e.count) (map view.child_entry cs) ≡ map (λ (c : Child). c.count) cs
 entry_counts [] = refl
 entry_counts (c ∷ cs) = ap (λ ns. c.count ∷ ns) (entry_counts cs)
 
@@ -232,17 +232,17 @@ may_be v m n mask count masks_are counts_are may =
 
 -- the entry is told of, where that of the node may be
 said_told : (scheme : Scheme) (n : view.Node) (c : Child) (page : ℕ) →
-    child_link c ≡ record { page = page; entry = entry_of scheme (page_node n) } →
+    child_link c ≡ record { page = page; entry = node_entry scheme (page_node n) } →
     MayTell scheme.version (view.entry_over scheme n).mask (view.entry_over scheme n).count → IsTold scheme.version c
 said_told scheme n c page said =
-    let is : view.entry_of c ≡ view.entry_over scheme n =
+    let is : view.child_entry c ≡ view.entry_over scheme n =
     ap (λ (l : Link). l.entry) said ∙ sym (entry_same scheme n) in
     may_be scheme.version (view.entry_over scheme n).mask (view.entry_over scheme n).count c.mask c.count
     (ap (λ (e : Entry). e.mask) is) (ap (λ (e : Entry). e.count) is)
 
 pub leaf_said : (scheme : Scheme) (n : view.Node) (rs : List Record) (c : Child) (page : ℕ) → n ≡ node.Leaf rs →
     1 ≤ length rs → length rs ≤ leaf_limit → All (HasLayer scheme.version) rs →
-    child_link c ≡ record { page = page; entry = entry_of scheme (page_node n) } → IsTold scheme.version c
+    child_link c ≡ record { page = page; entry = node_entry scheme (page_node n) } → IsTold scheme.version c
 leaf_said scheme n rs c page is some few layers said =
     let t = tree.Leaf rs in
     let mine : records t ≡ rs = records-Leaf rs in
@@ -256,7 +256,7 @@ leaf_said scheme n rs c page is some few layers said =
 
 pub inner_said : (scheme : Scheme) (n : view.Node) (cs : List Child) (c : Child) (page : ℕ) → n ≡ node.Inner cs →
     1 ≤ length cs → All (IsTold scheme.version) cs → HaveFew cs →
-    child_link c ≡ record { page = page; entry = entry_of scheme (page_node n) } → IsTold scheme.version c
+    child_link c ≡ record { page = page; entry = node_entry scheme (page_node n) } → IsTold scheme.version c
 inner_said scheme n cs c page is some all few said =
     let v = scheme.version in
     let each = recursion_from_All (IsTold v) cs all in

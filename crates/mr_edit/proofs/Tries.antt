@@ -8,10 +8,10 @@ use Rattle.mr_geom.specs.Rectangle.{Rectangle}
 use Rattle.mr_tree.specs.Digest.{Scheme}
 use Rattle.mr_tree.specs.declared.child.Child.{Child}
 use Rattle.mr_pages.specs.Stands.{Placed, pages_of}
-use Rattle.mr_edit.specs.Book.{Book}
-use Rattle.mr_edit.specs.Counted.{ReadsOnce}
-use Rattle.mr_edit.specs.Held.{Name, pages}
-use Rattle.mr_edit.specs.Removal.{Lacks}
+use Rattle.mr_edit.specs.PageMap.{PageMap}
+use Rattle.mr_edit.specs.Counted.{ReadsNodesOnce}
+use Rattle.mr_edit.specs.Held.{NameTrees, pages}
+use Rattle.mr_edit.specs.private.Removal.{LacksRecord}
 use Rattle.mr_edit.proofs.Searching.{NoneYet, among, none_tried}
 
 -- ---- sums
@@ -137,17 +137,17 @@ child_sum Ps turn n at x place other within is =
 -- ---- tries
 
 -- the nodes below the children that were tried were read once
-abbrev pub TriedOnce : Scheme → (told : Option Book) → List Child → (turn n : ℕ) → (before after : ℕ) → Type 0
+abbrev pub TriedOnce : Scheme → (told : Option PageMap) → List Child → (turn n : ℕ) → (before after : ℕ) → Type 0
 TriedOnce scheme told cs turn n before after =
-    (a : Book) (Ps : List Placed) → told ≡ Some a → Name scheme a cs Ps →
+    (a : PageMap) (Ps : List Placed) → told ≡ Some a → NameTrees scheme a cs Ps →
     after ≤ before + tried_sum turn n (weights Ps)
 
-pub tried_none : (scheme : Scheme) (told : Option Book) (cs : List Child) (turn r : ℕ) →
+pub tried_none : (scheme : Scheme) (told : Option PageMap) (cs : List Child) (turn r : ℕ) →
     TriedOnce scheme told cs turn 0 r r
 tried_none scheme told cs turn r a Ps is named = omega arith
 
 -- nothing is read at the next one
-pub tried_still : (scheme : Scheme) (told : Option Book) (cs : List Child) (turn n r r' : ℕ) →
+pub tried_still : (scheme : Scheme) (told : Option PageMap) (cs : List Child) (turn n r r' : ℕ) →
     TriedOnce scheme told cs turn n r r' → TriedOnce scheme told cs turn (n + 1) r r'
 tried_still scheme told cs turn n r r' tried =
     let up : suc n ≡ n + 1 = omega arith in
@@ -155,9 +155,9 @@ tried_still scheme told cs turn n r r' tried =
     (λ a Ps is named. omega (arith, tried a Ps is named, later_sum turn n (weights Ps)))
 
 -- the next one is read
-pub tried_next : (scheme : Scheme) (told : Option Book) (cs : List Child) (turn n at : ℕ) (d : Child) (r r1 r2 : ℕ) →
+pub tried_next : (scheme : Scheme) (told : Option PageMap) (cs : List Child) (turn n at : ℕ) (d : Child) (r r1 r2 : ℕ) →
     at ≡ (if n == 0 then turn else n - 1) → (n ≢ 0 → at ≢ turn) → at < length cs → d ≡ get_or cs at d →
-    ReadsOnce scheme told d r1 r2 → TriedOnce scheme told cs turn n r r1 →
+    ReadsNodesOnce scheme told d r1 r2 → TriedOnce scheme told cs turn n r r1 →
     TriedOnce scheme told cs turn (n + 1) r r2
 tried_next scheme told cs turn n at d r r1 r2 place other within is_d once tried =
     let up : suc n ≡ n + 1 = omega arith in
@@ -180,9 +180,9 @@ tried_next scheme told cs turn n at d r r1 r2 place other within is_d once tried
 -- ---- the one that was tried first
 
 -- it does not have the record
-abbrev pub Turned : Scheme → (told : Option Book) → List Child → ℕ → Rectangle → (turn : ℕ) → Type 0
+abbrev pub Turned : Scheme → (told : Option PageMap) → List Child → ℕ → Rectangle → (turn : ℕ) → Type 0
 Turned scheme told cs n r turn =
-    (d : Child) → turn < length cs → d ≡ get_or cs turn d → Lacks scheme told d n r
+    (d : Child) → turn < length cs → d ≡ get_or cs turn d → LacksRecord scheme told d n r
 
 same_at : (xs : List Child) (k : ℕ) (x y : Child) → k < length xs → get_or xs k x ≡ get_or xs k y
 same_at [] k x y low = absurd (omega (arith, low))
@@ -190,19 +190,19 @@ same_at (z ∷ xs) zero x y low = refl
 same_at (z ∷ xs) (suc k) x y low = same_at xs k x y (omega (arith, low))
 
 -- after a try
-pub turned_on : (scheme : Scheme) (told : Option Book) (cs : List Child) (n : ℕ) (r : Rectangle) (i turn at : ℕ)
+pub turned_on : (scheme : Scheme) (told : Option PageMap) (cs : List Child) (n : ℕ) (r : Rectangle) (i turn at : ℕ)
     (d : Child) → at ≡ (if i == 0 then turn else i - 1) → at < length cs → d ≡ get_or cs at d →
-    Lacks scheme told d n r → (i ≢ 0 → Turned scheme told cs n r turn) → Turned scheme told cs n r turn
+    LacksRecord scheme told d n r → (i ≢ 0 → Turned scheme told cs n r turn) → Turned scheme told cs n r turn
 turned_on scheme told cs n r i turn at d place within is lacks before = by_case (i == 0) refl place
   where
     by_case : (b : Bool) → (i == 0) ≡ b → at ≡ (if b then turn else i - 1) → Turned scheme told cs n r turn
     by_case true e here = λ f low is_f.
         let same : f ≡ d = is_f ∙ ap (λ k. get_or cs k f) (sym here) ∙ same_at cs at f d within ∙ sym is in
-        subst (λ x. Lacks scheme told x n r) (sym same) lacks
+        subst (λ x. LacksRecord scheme told x n r) (sym same) lacks
     by_case false e here = before (eqb-false i 0 e)
 
 -- where none stands there
-pub turned_past : (scheme : Scheme) (told : Option Book) (cs : List Child) (n : ℕ) (r : Rectangle) (i turn at : ℕ) →
+pub turned_past : (scheme : Scheme) (told : Option PageMap) (cs : List Child) (n : ℕ) (r : Rectangle) (i turn at : ℕ) →
     at ≡ (if i == 0 then turn else i - 1) → length cs ≤ at → (i ≢ 0 → Turned scheme told cs n r turn) →
     Turned scheme told cs n r turn
 turned_past scheme told cs n r i turn at place past before = by_case (i == 0) refl place
@@ -214,16 +214,16 @@ turned_past scheme told cs n r i turn at place past before = by_case (i == 0) re
 -- ---- one after another
 
 -- the nodes below the first ones were read once
-abbrev pub SeenOnce : Scheme → (told : Option Book) → List Child → (i : ℕ) → (before after : ℕ) → Type 0
+abbrev pub SeenOnce : Scheme → (told : Option PageMap) → List Child → (i : ℕ) → (before after : ℕ) → Type 0
 SeenOnce scheme told cs i before after =
-    (a : Book) (Ps : List Placed) → told ≡ Some a → Name scheme a cs Ps →
+    (a : PageMap) (Ps : List Placed) → told ≡ Some a → NameTrees scheme a cs Ps →
     after ≤ before + whole (take i (weights Ps))
 
-pub seen_none : (scheme : Scheme) (told : Option Book) (cs : List Child) (r : ℕ) → SeenOnce scheme told cs 0 r r
+pub seen_none : (scheme : Scheme) (told : Option PageMap) (cs : List Child) (r : ℕ) → SeenOnce scheme told cs 0 r r
 seen_none scheme told cs r a Ps is named = omega arith
 
-pub seen_next : (scheme : Scheme) (told : Option Book) (cs : List Child) (i : ℕ) (d : Child) (r r1 r2 : ℕ) →
-    i < length cs → d ≡ get_or cs i d → SeenOnce scheme told cs i r r1 → ReadsOnce scheme told d r1 r2 →
+pub seen_next : (scheme : Scheme) (told : Option PageMap) (cs : List Child) (i : ℕ) (d : Child) (r r1 r2 : ℕ) →
+    i < length cs → d ≡ get_or cs i d → SeenOnce scheme told cs i r r1 → ReadsNodesOnce scheme told d r1 r2 →
     SeenOnce scheme told cs (i + 1) r r2
 seen_next scheme told cs i d r r1 r2 within is_d seen once =
     let up : suc i ≡ i + 1 = omega arith in
@@ -265,7 +265,7 @@ new_try n turn at e some same = by_case (n == 0) refl
     by_case false is = both_not (n == 0) (at == turn) e is (eq-eqb at turn same)
 
 -- it was: none has the record up to here
-pub none_again : (scheme : Scheme) (told : Option Book) (cs : List Child) (n : ℕ) (r : Rectangle) (i turn at : ℕ)
+pub none_again : (scheme : Scheme) (told : Option PageMap) (cs : List Child) (n : ℕ) (r : Rectangle) (i turn at : ℕ)
     (e : Child) → at ≡ (if i == 0 then turn else i - 1) → at < length cs → (not (i == 0) && (at == turn)) ≡ true →
     (i ≢ 0 → Turned scheme told cs n r turn) → NoneYet scheme told cs n r (i - 1) →
     NoneYet scheme told cs n r (i + 1 - 1)
@@ -279,7 +279,7 @@ none_again scheme told cs n r i turn at e place within again turned none =
     none
 
 -- where none stands there
-pub none_past : (scheme : Scheme) (told : Option Book) (cs : List Child) (n : ℕ) (r : Rectangle) (i turn at : ℕ) →
+pub none_past : (scheme : Scheme) (told : Option PageMap) (cs : List Child) (n : ℕ) (r : Rectangle) (i turn at : ℕ) →
     at ≡ (if i == 0 then turn else i - 1) → length cs ≤ at → i < length cs + 1 → NoneYet scheme told cs n r (i - 1) →
     NoneYet scheme told cs n r (i + 1 - 1)
 none_past scheme told cs n r i turn at place past within none = by_case (i == 0) refl place
@@ -293,7 +293,7 @@ none_past scheme told cs n r i turn at place past within none = by_case (i == 0)
         let later : i ≢ 0 = eqb-false i 0 e in
         absurd (omega (arith, here, later, past, within))
 
-pub turned_again : (scheme : Scheme) (told : Option Book) (cs : List Child) (n : ℕ) (r : Rectangle) (i turn at : ℕ) →
+pub turned_again : (scheme : Scheme) (told : Option PageMap) (cs : List Child) (n : ℕ) (r : Rectangle) (i turn at : ℕ) →
     (not (i == 0) && (at == turn)) ≡ true → (i ≢ 0 → Turned scheme told cs n r turn) → Turned scheme told cs n r turn
 turned_again scheme told cs n r i turn at again turned =
     turned (eqb-false i 0 (not_both (i == 0) (at == turn) again).0)

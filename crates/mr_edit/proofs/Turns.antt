@@ -22,7 +22,7 @@ use Rattle.mr_batch.specs.declared.change.Change.{Change}
 use Rattle.mr_batch.specs.declared.change.Change.TheVariants.{Add, Remove}
 use Rattle.mr_batch.specs.Changes.{Changes}
 use Rattle.mr_batch.specs.Applied.{may_make, made, IsAdmissible}
-use Rattle.mr_batch.specs.Directory.{Entries, rect_at, rect_in, IsDirectoryOf}
+use Rattle.mr_batch.specs.Directory.{DirectoryEntries, rect_at, rect_in, IsDirectoryOf}
 use Rattle.mr_batch.specs.Replay.{changed, replayed}
 use Rattle.mr_batch.specs.Peak.{peak_after, peak_along}
 use Rattle.mr_batch.proofs.Directories.{rect_in-absent}
@@ -30,10 +30,10 @@ use Rattle.mr_batch.proofs.Numbered.{Apart, apart_head}
 use Rattle.mr_batch.proofs.Permuted.{addition_leaves, apart_permuted, rects_permuted}
 use Rattle.mr_batch.proofs.Replaying.{IsOnTheWay, numbers_of, removal_mixes, at_start, next_may, after_next, tree_at_end}
 use Rattle.mr_batch.proofs.Walking.{rest_of, drop_all}
-use Rattle.mr_edit.specs.Book.{Book}
-use Rattle.mr_edit.specs.Drafted.{Inserts}
-use Rattle.mr_edit.specs.Deleted.{Deletes}
-use Rattle.mr_edit.specs.Replayed.{OnPages, ChangesOne, Replays}
+use Rattle.mr_edit.specs.PageMap.{PageMap}
+use Rattle.mr_edit.specs.Drafted.{InsertsRecord}
+use Rattle.mr_edit.specs.Deleted.{DeletesRecord}
+use Rattle.mr_edit.specs.Replayed.{OnPages, ChangesOne, ReplaysBatch}
 use Rattle.mr_edit.proofs.Directed.{directed}
 use Rattle.mr_edit.proofs.Dropped.{reaches_one}
 use Rattle.mr_edit.proofs.Once.{once_apart}
@@ -48,14 +48,16 @@ pub room_part : (b c : Bool) → (not b && c) ≡ true → c ≡ true
 room_part true c e = cc
 room_part false c e = e
 
-directory_permuted : (d : Entries) (xs ys : List Record) → Apart xs → IsPermutation xs ys → IsDirectoryOf d xs →
+directory_permuted : (d : DirectoryEntries) (xs ys : List Record) → Apart xs → IsPermutation xs ys → IsDirectoryOf
+    d xs →
     IsDirectoryOf d ys
 directory_permuted d xs ys apart mixes is = record {
   rects = λ n. is.rects n ∙ rects_permuted xs ys mixes apart n;
   count = is.count ∙ sym (length_permutation xs ys mixes);
 }
 
-directory_added : (old new : Entries) (rs : List Record) (r : Record) → is_some (rect_at old r.number) ≡ false →
+directory_added : (old new : DirectoryEntries) (rs : List Record) (r : Record) → is_some (rect_at old r.number) ≡
+    false →
     ((n : ℕ) → rect_at new n ≡ cond (eqb r.number n) (Some r.rect) (rect_at old n)) →
     length new ≡ length old + cond (is_some (rect_at old r.number)) 0 1 → IsDirectoryOf old rs →
     IsDirectoryOf new (r ∷ rs)
@@ -64,7 +66,7 @@ directory_added old new rs r none put counted is = record {
   count = omega (arith, is.count, counted ∙ ap (λ b. length old + cond b 0 1) none);
 }
 
-directory_without : (old new : Entries) (rs us : List Record) (n : ℕ) (o : Option Rectangle) → Apart rs →
+directory_without : (old new : DirectoryEntries) (rs us : List Record) (n : ℕ) (o : Option Rectangle) → Apart rs →
     WithoutOne n rs us → is_some o ≡ true →
     ((m : ℕ) → rect_at new m ≡ cond (eqb n m) None (rect_at old m)) →
     length new + cond (is_some o) 1 0 ≡ length old → IsDirectoryOf old rs → IsDirectoryOf new us
@@ -91,8 +93,9 @@ directory_without old new rs us n o apart w there taken counted is = record {
 
 -- ---- one change
 
-pub change_added : (scheme : Scheme) (told told' : Option Book) (free free' : ℕ) (root : Option Child) (c : Child)
-    (dir dir' : Entries) (one : Record) → IsRecord one → Inserts scheme told free root told' free' c one →
+pub change_added : (scheme : Scheme) (told told' : Option PageMap) (free free' : ℕ) (root : Option Child) (c : Child)
+    (dir dir' : DirectoryEntries) (one : Record) → IsRecord one → InsertsRecord scheme told free root told' free'
+    c one →
     ((n : ℕ) → rect_at dir' n ≡ cond (eqb one.number n) (Some one.rect) (rect_at dir n)) →
     length dir' ≡ length dir + cond (is_some (rect_at dir one.number)) 0 1 →
     ChangesOne scheme told free root dir told' free' (Some c) dir' (Add one)
@@ -108,9 +111,9 @@ change_added scheme told told' free free' root c dir dir' one fits inserts put c
           (directory_added dir dir' (records t) one none put counted p.directory);
     }
 
-pub change_removed : (scheme : Scheme) (told told' : Option Book) (free free' : ℕ) (root root' : Option Child)
-    (dir dir' : Entries) (n : ℕ) (rect : Rectangle) (o : Option Rectangle) → rect_at dir n ≡ Some rect →
-    o ≡ rect_at dir n → Deletes scheme told free root told' free' root' n rect →
+pub change_removed : (scheme : Scheme) (told told' : Option PageMap) (free free' : ℕ) (root root' : Option Child)
+    (dir dir' : DirectoryEntries) (n : ℕ) (rect : Rectangle) (o : Option Rectangle) → rect_at dir n ≡ Some rect →
+    o ≡ rect_at dir n → DeletesRecord scheme told free root told' free' root' n rect →
     ((m : ℕ) → rect_at dir' m ≡ cond (eqb n m) None (rect_at dir m)) →
     length dir' + cond (is_some o) 1 0 ≡ length dir →
     ChangesOne scheme told free root dir told' free' root' dir' (Remove n)
@@ -135,7 +138,7 @@ mixes_after t (Remove n) well may =
     removal_mixes n (records t) (records (del n t)) well.distinct (del_mixes n t (well_rooted t well) may)
 
 -- the first changes were made
-pub record Halfway (scheme : Scheme) (told : Option Book) (free : ℕ) (root : Option Child) (dir : Entries)
+pub record Halfway (scheme : Scheme) (told : Option PageMap) (free : ℕ) (root : Option Child) (dir : DirectoryEntries)
     (before : Tree) (cs : List Change) (i least size so_far : ℕ) : Type 0 where
   pub tree : Tree
   pub way : IsOnTheWay before cs i tree
@@ -143,13 +146,13 @@ pub record Halfway (scheme : Scheme) (told : Option Book) (free : ℕ) (root : O
   pub peak : peak_along most tree (drop i cs) ≡ peak_along so_far before cs
   pub pages : OnPages scheme told free root dir tree least size most
 
-abbrev pub ReplaysFirst : Scheme → (told : Option Book) → (free : ℕ) → Option Child → Entries →
-    (told' : Option Book) → (free' : ℕ) → Option Child → Entries → Changes → ℕ → Type 0
+abbrev pub ReplaysFirst : Scheme → (told : Option PageMap) → (free : ℕ) → Option Child → DirectoryEntries →
+    (told' : Option PageMap) → (free' : ℕ) → Option Child → DirectoryEntries → Changes → ℕ → Type 0
 ReplaysFirst scheme told free root dir told' free' root' dir' b i =
     (t : Tree) (held least size so_far : ℕ) → OnPages scheme told free root dir t least size so_far →
     IsAdmissible (records t) held b → Halfway scheme told' free' root' dir' t b.list i least size so_far
 
-pub replays_none : (scheme : Scheme) (told : Option Book) (free : ℕ) (root : Option Child) (dir : Entries)
+pub replays_none : (scheme : Scheme) (told : Option PageMap) (free : ℕ) (root : Option Child) (dir : DirectoryEntries)
     (b : Changes) → ReplaysFirst scheme told free root dir told free root dir b 0
 replays_none scheme told free root dir b t held least size so_far p is = record {
   tree = t;
@@ -159,8 +162,8 @@ replays_none scheme told free root dir b t held least size so_far p is = record 
   pages = p;
 }
 
-pub replays_more : (scheme : Scheme) (told told1 told2 : Option Book) (free free1 free2 : ℕ)
-    (root root1 root2 : Option Child) (dir dir1 dir2 : Entries) (b : Changes) (i : ℕ) (c : Change) →
+pub replays_more : (scheme : Scheme) (told told1 told2 : Option PageMap) (free free1 free2 : ℕ)
+    (root root1 root2 : Option Child) (dir dir1 dir2 : DirectoryEntries) (b : Changes) (i : ℕ) (c : Change) →
     i < length b.list → c ≡ get_or b.list i c → ReplaysFirst scheme told free root dir told1 free1 root1 dir1 b i →
     ChangesOne scheme told1 free1 root1 dir1 told2 free2 root2 dir2 c →
     ReplaysFirst scheme told free root dir told2 free2 root2 dir2 b (i + 1)
@@ -178,10 +181,10 @@ replays_more scheme told told1 told2 free free1 free2 root root1 root2 dir dir1 
       pages = q;
     }
 
-pub replays_all : (scheme : Scheme) (told told1 : Option Book) (free free1 : ℕ) (root root1 : Option Child)
-    (dir dir1 : Entries) (b : Changes) (i : ℕ) → length b.list ≤ i →
+pub replays_all : (scheme : Scheme) (told told1 : Option PageMap) (free free1 : ℕ) (root root1 : Option Child)
+    (dir dir1 : DirectoryEntries) (b : Changes) (i : ℕ) → length b.list ≤ i →
     ReplaysFirst scheme told free root dir told1 free1 root1 dir1 b i →
-    Replays scheme told free root dir told1 free1 root1 dir1 b
+    ReplaysBatch scheme told free root dir told1 free1 root1 dir1 b
 replays_all scheme told told1 free free1 root root1 dir dir1 b i past first t held least size so_far p is =
     let h = first t held least size so_far p is in
     let same = tree_at_end t h.tree b.list i past h.way in

@@ -11,47 +11,48 @@ use Rattle.mr_grow.specs.Shrink.{Rest, stays, shrunk}
 use Rattle.mr_batch.specs.declared.change.Change.{Change}
 use Rattle.mr_batch.specs.Changes.{Changes}
 use Rattle.mr_batch.specs.Applied.{may_make, IsAdmissible}
-use Rattle.mr_batch.specs.Directory.{Entries}
-use Rattle.mr_edit.specs.Book.{Book, HasFree, Owned}
+use Rattle.mr_batch.specs.Directory.{DirectoryEntries}
+use Rattle.mr_edit.specs.PageMap.{PageMap, HasFree, OwnsEachOnce}
 use Rattle.mr_edit.specs.Drafted.{Drafted}
-use Rattle.mr_edit.specs.Held.{Names, Name, pages}
+use Rattle.mr_edit.specs.Held.{NamesTree, NameTrees, pages}
 use Rattle.mr_edit.specs.Reads.{insertion_reads, change_reads, look_reads, reads_along}
-use Rattle.mr_edit.specs.Removal.{HaveRect, IsOnce}
+use Rattle.mr_edit.specs.private.Removal.{HaveRect, IsOnce}
 use Rattle.mr_edit.specs.Replayed.{OnPages}
-use Rattle.mr_edit.specs.declared.left.Left.{Left}
+use Rattle.mr_edit.specs.declared.removal.Removal.{Removal}
 
 -- ---- below entries
 
 -- each node below an entry is read once at most
-abbrev pub ReadsOnce : Scheme → (told : Option Book) → Child → (before after : ℕ) → Type 0
-ReadsOnce scheme told c before after =
-    (a : Book) (P : Placed) → told ≡ Some a → Names scheme a c P →
+abbrev pub ReadsNodesOnce : Scheme → (told : Option PageMap) → Child → (before after : ℕ) → Type 0
+ReadsNodesOnce scheme told c before after =
+    (a : PageMap) (P : Placed) → told ≡ Some a → NamesTree scheme a c P →
     after ≤ before + length (pages_of P)
 
 -- the same below some entries whose pages are freed
-abbrev pub FreesOnce : Scheme → (told : Option Book) → (free : ℕ) → List Child →
+abbrev pub FreesOnce : Scheme → (told : Option PageMap) → (free : ℕ) → List Child →
     (before after : ℕ) → Type 0
 FreesOnce scheme told free cs before after =
-    (a : Book) (chain : List ℕ) (Ps : List Placed) (others : List ℕ) → told ≡ Some a →
-    Name scheme a cs Ps → IsChain (HasFree a) free chain →
-    Owned a.size (pages Ps ++ (chain ++ others)) → after ≤ before + length (pages Ps)
+    (a : PageMap) (chain : List ℕ) (Ps : List Placed) (others : List ℕ) → told ≡ Some a →
+    NameTrees scheme a cs Ps → IsChain (HasFree a) free chain →
+    OwnsEachOnce a.size (pages Ps ++ (chain ++ others)) → after ≤ before + length (pages Ps)
 
 -- the same beside a page, which is written or freed too
-abbrev pub LeavesOnce : Scheme → (told : Option Book) → (free page : ℕ) → List Child →
+abbrev pub LeavesOnce : Scheme → (told : Option PageMap) → (free page : ℕ) → List Child →
     (before after : ℕ) → Type 0
 LeavesOnce scheme told free page cs before after =
-    (a : Book) (chain : List ℕ) (Ps : List Placed) (others : List ℕ) → told ≡ Some a →
-    Name scheme a cs Ps → IsChain (HasFree a) free chain →
-    Owned a.size (page ∷ (pages Ps ++ (chain ++ others))) → after ≤ before + length (pages Ps)
+    (a : PageMap) (chain : List ℕ) (Ps : List Placed) (others : List ℕ) → told ≡ Some a →
+    NameTrees scheme a cs Ps → IsChain (HasFree a) free chain →
+    OwnsEachOnce a.size (page ∷ (pages Ps ++ (chain ++ others))) → after ≤ before + length
+    (pages Ps)
 
 -- each node below an entry is read twice at most, where a record is taken out whose number stands
 -- once and has this rectangle: in the search, and where it is freed
-abbrev pub ReadsTwice : Scheme → (told : Option Book) → (free : ℕ) → Child → ℕ → Rectangle →
+abbrev pub ReadsTwice : Scheme → (told : Option PageMap) → (free : ℕ) → Child → ℕ → Rectangle →
     (before after : ℕ) → Type 0
 ReadsTwice scheme told free c n rect before after =
-    (a : Book) (chain : List ℕ) (P : Placed) (others : List ℕ) → told ≡ Some a →
-    Names scheme a c P → IsChain (HasFree a) free chain →
-    Owned a.size (pages_of P ++ (chain ++ others)) → HaveRect n rect (records (tree_of P)) →
+    (a : PageMap) (chain : List ℕ) (P : Placed) (others : List ℕ) → told ≡ Some a →
+    NamesTree scheme a c P → IsChain (HasFree a) free chain →
+    OwnsEachOnce a.size (pages_of P ++ (chain ++ others)) → HaveRect n rect (records (tree_of P)) →
     IsOnce n (records (tree_of P)) → after ≤ before + 2 * length (pages_of P)
 
 -- the nodes that stay in the place of a subtree below the root
@@ -61,13 +62,14 @@ nodes_left false r = sum (map nodes (stays r))
 
 -- the same; and where the subtree is not the whole tree, the nodes that stay are read only once;
 -- and all only once, where the record was not there
-abbrev pub TakesTwice : Scheme → (root : Bool) → (told : Option Book) → (free : ℕ) → Child → ℕ →
-    Rectangle → (before after : ℕ) → Option Left → Type 0
-TakesTwice scheme root told free c n rect before after None = ReadsOnce scheme told c before after
+abbrev pub TakesTwice : Scheme → (root : Bool) → (told : Option PageMap) → (free : ℕ) → Child → ℕ →
+    Rectangle → (before after : ℕ) → Option Removal → Type 0
+TakesTwice scheme root told free c n rect before after None = ReadsNodesOnce scheme told c
+    before after
 TakesTwice scheme root told free c n rect before after (Some l) =
-    (a : Book) (chain : List ℕ) (P : Placed) (others : List ℕ) → told ≡ Some a →
-    Names scheme a c P → IsChain (HasFree a) free chain →
-    Owned a.size (pages_of P ++ (chain ++ others)) → HaveRect n rect (records (tree_of P)) →
+    (a : PageMap) (chain : List ℕ) (P : Placed) (others : List ℕ) → told ≡ Some a →
+    NamesTree scheme a c P → IsChain (HasFree a) free chain →
+    OwnsEachOnce a.size (pages_of P ++ (chain ++ others)) → HaveRect n rect (records (tree_of P)) →
     IsOnce n (records (tree_of P)) →
     after + nodes_left root (shrunk n (tree_of P)) ≤ before + 2 * length (pages_of P)
 
@@ -79,14 +81,14 @@ still_due true later = 0
 still_due false later = later
 
 -- each node is read once at most, and none where all were looked at before
-abbrev pub LearnsOnce : Scheme → (told : Option Book) → (free : ℕ) → Option Child →
+abbrev pub LearnsOnce : Scheme → (told : Option PageMap) → (free : ℕ) → Option Child →
     (learned learned' : Bool) → (before after : ℕ) → Type 0
 LearnsOnce scheme told free root learned learned' before after =
     (t : Tree) (later : ℕ) → Drafted scheme told free root t →
     after + still_due learned' later ≤ before + still_due learned (max (nodes t) later)
 
 -- a record is deleted whose number stands once and has this rectangle
-abbrev pub DeletesTwice : Scheme → (told : Option Book) → (free : ℕ) → Option Child → ℕ →
+abbrev pub DeletesTwice : Scheme → (told : Option PageMap) → (free : ℕ) → Option Child → ℕ →
     Rectangle → (before after : ℕ) → Type 0
 DeletesTwice scheme told free root n rect before after =
     (t : Tree) → Drafted scheme told free root t → HaveRect n rect (records t) →
@@ -94,7 +96,8 @@ DeletesTwice scheme told free root n rect before after =
     after ≤ before + (2 * nodes t + length (shrunk n t).aside * insertion_reads)
 
 -- a change is made, if it may be: what it reads, and what a look at all nodes then takes later
-abbrev pub ChangesWithin : Scheme → (told : Option Book) → (free : ℕ) → Option Child → Entries →
+abbrev pub ChangesWithin : Scheme → (told : Option PageMap) → (free : ℕ) → Option Child →
+    DirectoryEntries →
     Change → (learned learned' : Bool) → (before after : ℕ) → Type 0
 ChangesWithin scheme told free root dir c learned learned' before after =
     (t : Tree) (least size so_far later : ℕ) →
@@ -103,7 +106,8 @@ ChangesWithin scheme told free root dir c learned learned' before after =
     ≤ before + change_reads t c + still_due learned (look_reads t c later)
 
 -- the changes of a batch that may be applied
-abbrev pub ReplaysWithin : Scheme → (told : Option Book) → (free : ℕ) → Option Child → Entries →
+abbrev pub ReplaysWithin : Scheme → (told : Option PageMap) → (free : ℕ) → Option Child →
+    DirectoryEntries →
     Changes → (before after : ℕ) → Type 0
 ReplaysWithin scheme told free root dir b before after =
     (t : Tree) (held least size so_far : ℕ) →

@@ -8,26 +8,26 @@ use Rattle.mr_tree.specs.declared.tree.Tree.{Tree}
 use Rattle.mr_pages.specs.Stands.{Placed, link_of, IsWritten, IsChain, whole_tree, whole_pages}
 use Rattle.mr_pages.specs.Walking.{child_link}
 use Rattle.mr_grow.specs.Grow.{ins}
-use Rattle.mr_edit.specs.Book.{Book, HasNode, HasFree, Owned}
-use Rattle.mr_edit.specs.Outcome.{Uses}
+use Rattle.mr_edit.specs.PageMap.{PageMap, HasNode, HasFree, OwnsEachOnce}
+use Rattle.mr_edit.specs.Outcome.{UsesPages}
 
-pub record Drafted (scheme : Scheme) (told : Option Book) (free : ℕ) (root : Option Child)
+pub record Drafted (scheme : Scheme) (told : Option PageMap) (free : ℕ) (root : Option Child)
     (t : Tree) : Type 0 where
-  pub book : Book
-  pub is : told ≡ Some book
+  pub page_map : PageMap
+  pub is : told ≡ Some page_map
   pub placed : Option Placed
   pub tree : whole_tree placed ≡ t
   pub root_is : option_map child_link root ≡ option_map (link_of scheme) placed
-  pub written : IfSome placed (IsWritten scheme (HasNode book))
+  pub written : IfSome placed (IsWritten scheme (HasNode page_map))
   pub chain : List ℕ
-  pub linked : IsChain (HasFree book) free chain
-  pub owned : Owned book.size (0 ∷ (whole_pages placed ++ chain))
+  pub linked : IsChain (HasFree page_map) free chain
+  pub owned : OwnsEachOnce page_map.size (0 ∷ (whole_pages placed ++ chain))
 
 -- an insertion: whatever the draft stood for, it then stands for that with the record, and pages
 -- were used as they may be
-abbrev pub Inserts : Scheme → (told : Option Book) → (free : ℕ) → Option Child →
-    (told' : Option Book) → (free' : ℕ) → Child → Record → Type 0
-Inserts scheme told free root told' free' c one =
+abbrev pub InsertsRecord : Scheme → (told : Option PageMap) → (free : ℕ) → Option Child →
+    (told' : Option PageMap) → (free' : ℕ) → Child → Record → Type 0
+InsertsRecord scheme told free root told' free' c one =
     (t : Tree) (d : Drafted scheme told free root t) →
     (e : Drafted scheme told' free' (Some c) (ins one t))
-    × Uses d.book.size d.chain e.book.size e.chain
+    × UsesPages d.page_map.size d.chain e.page_map.size e.chain

@@ -9,13 +9,13 @@ use Rattle.mr_tree.specs.View as view
 use Rattle.mr_tree.specs.declared.child.Child.{Child}
 use Rattle.mr_tree.specs.declared.tree.Tree.{Tree}
 use Rattle.mr_pages.specs.Stands.{Placed, tree_of, pages_of, link_of, IsWritten}
-use Rattle.mr_pages.specs.Page.{entry_of}
+use Rattle.mr_pages.specs.Page.{node_entry}
 use Rattle.mr_pages.specs.Walking.{child_link, page_node}
-use Rattle.mr_edit.specs.Book.{Book, HasNode}
-use Rattle.mr_edit.specs.declared.stand.Stand.{Stand}
+use Rattle.mr_edit.specs.PageMap.{PageMap, HasNode}
+use Rattle.mr_edit.specs.declared.inserted.Inserted.{Inserted}
 
 -- the entry is that of this tree, whose nodes stand on their pages
-pub record Names (scheme : Scheme) (b : Book) (c : Child) (P : Placed) : Type 0 where
+pub record NamesTree (scheme : Scheme) (b : PageMap) (c : Child) (P : Placed) : Type 0 where
   pub said : child_link c ≡ link_of scheme P
   pub written : IsWritten scheme (HasNode b) P
 
@@ -33,11 +33,11 @@ HaveFew cs = counted cs ≤ count_limit
 -- the entry is that of the node that a view shows
 abbrev pub IsEntryOf : Scheme → Child → view.Node → Type 0
 IsEntryOf scheme c n =
-    child_link c ≡ record { page = c.id; entry = entry_of scheme (page_node n) }
+    child_link c ≡ record { page = c.id; entry = node_entry scheme (page_node n) }
 
 -- each entry is that of its tree
-abbrev pub Name : Scheme → Book → List Child → List Placed → Type 0
-Name scheme b cs Ps = AllZip (Names scheme b) cs Ps
+abbrev pub NameTrees : Scheme → PageMap → List Child → List Placed → Type 0
+NameTrees scheme b cs Ps = AllZip (NamesTree scheme b) cs Ps
 
 -- the trees alone, and all their pages
 abbrev pub trees : List Placed → List Tree
@@ -47,5 +47,5 @@ abbrev pub pages : List Placed → List ℕ
 pages Ps = flat_map pages_of Ps
 
 -- the entries in a subtree's place
-abbrev pub entries : Stand → List Child
+abbrev pub entries : Inserted → List Child
 entries s = s.first ∷ option_to_list s.second

@@ -12,16 +12,16 @@ use Rattle.mr_batch.specs.declared.change.Change.{Change}
 use Rattle.mr_batch.specs.declared.change.Change.TheVariants.{Add, Remove}
 use Rattle.mr_batch.specs.Changes.{Changes}
 use Rattle.mr_batch.specs.Applied.{may_make, IsAdmissible}
-use Rattle.mr_batch.specs.Directory.{Entries, IsDirectoryOf}
+use Rattle.mr_batch.specs.Directory.{DirectoryEntries, IsDirectoryOf}
 use Rattle.mr_batch.specs.Replay.{changed, replayed}
 use Rattle.mr_batch.specs.Peak.{peak_after, peak_along}
-use Rattle.mr_edit.specs.Book.{Book}
-use Rattle.mr_edit.specs.Deleted.{Reaches}
+use Rattle.mr_edit.specs.PageMap.{PageMap}
+use Rattle.mr_edit.specs.Deleted.{ReachesTree}
 
 -- the draft stands for this tree, which is well formed, and the directory has its records
-pub record OnPages (scheme : Scheme) (told : Option Book) (free : ℕ) (root : Option Child)
-    (dir : Entries) (t : Tree) (least size most : ℕ) : Type 0 where
-  pub reaches : Reaches scheme told free root t least size most
+pub record OnPages (scheme : Scheme) (told : Option PageMap) (free : ℕ) (root : Option Child)
+    (dir : DirectoryEntries) (t : Tree) (least size most : ℕ) : Type 0 where
+  pub reaches : ReachesTree scheme told free root t least size most
   pub well : WellFormed t
   pub directory : IsDirectoryOf dir (records t)
 
@@ -31,17 +31,19 @@ IsOfVersion v (Add r) = HasLayer v r
 IsOfVersion v (Remove n) = ⊤
 
 -- a change is made, if it may be
-abbrev pub ChangesOne : Scheme → (told : Option Book) → (free : ℕ) → Option Child → Entries →
-    (told' : Option Book) → (free' : ℕ) → Option Child → Entries → Change → Type 0
+abbrev pub ChangesOne : Scheme → (told : Option PageMap) → (free : ℕ) → Option Child →
+    DirectoryEntries →
+    (told' : Option PageMap) → (free' : ℕ) → Option Child → DirectoryEntries → Change → Type 0
 ChangesOne scheme told free root dir told' free' root' dir' c =
     (t : Tree) (least size so_far : ℕ) →
     OnPages scheme told free root dir t least size so_far → may_make (records t) c ≡ true →
     OnPages scheme told' free' root' dir' (changed t c) least size (peak_after so_far t c)
 
 -- the changes of a batch that may be applied are made in their order
-abbrev pub Replays : Scheme → (told : Option Book) → (free : ℕ) → Option Child → Entries →
-    (told' : Option Book) → (free' : ℕ) → Option Child → Entries → Changes → Type 0
-Replays scheme told free root dir told' free' root' dir' b =
+abbrev pub ReplaysBatch : Scheme → (told : Option PageMap) → (free : ℕ) → Option Child →
+    DirectoryEntries →
+    (told' : Option PageMap) → (free' : ℕ) → Option Child → DirectoryEntries → Changes → Type 0
+ReplaysBatch scheme told free root dir told' free' root' dir' b =
     (t : Tree) (held least size so_far : ℕ) →
     OnPages scheme told free root dir t least size so_far → IsAdmissible (records t) held b →
     OnPages scheme told' free' root' dir' (replayed t b.list) least size

@@ -17,10 +17,10 @@ HasShelfCause before after errors.Fault = Rose before after
 HasShelfCause before after errors.NoMemory = ⊤
 
 -- a shelf's refusal in a change's own words
-abbrev pub Refuses : ShelfErr → EditErr → Type 0
-Refuses shelf.Missing e = e ≡ errors.Missing
-Refuses shelf.Fault e = e ≡ errors.Fault
-Refuses shelf.NoMemory e = e ≡ errors.NoMemory
+abbrev pub RefusesAsEdit : ShelfErr → EditErr → Type 0
+RefusesAsEdit shelf.Missing e = e ≡ errors.Missing
+RefusesAsEdit shelf.Fault e = e ≡ errors.Fault
+RefusesAsEdit shelf.NoMemory e = e ≡ errors.NoMemory
 
 -- the same of a file that is made: that it is missing is a fault
 abbrev pub RefusesMade : ShelfErr → EditErr → Type 0

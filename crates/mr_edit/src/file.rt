@@ -3,9 +3,9 @@
 ghost use Rattle.std.specs.Prelude.{◌≡◌, ℕ, ◌+◌, ◌<◌, ◌≤◌, Option, option_map, All, IfSome, IsSomeAnd, IfOk, IfErr, OnOk};
 ghost use Rattle.mr_tree.specs.Digest.{Scheme};
 ghost use Rattle.mr_tree.specs.View.{size, level_of, children_in, AreTold, HasCount};
-ghost use Rattle.mr_pages.specs.Page.{page_limit, entry_of};
+ghost use Rattle.mr_pages.specs.Page.{page_limit, node_entry};
 ghost use Rattle.mr_pages.specs.Walking.{child_link, page_node};
-ghost use Rattle.mr_edit.specs.Book.{Book, HasNode, HasFree, with_sheet, node_sheet, free_sheet, longer};
+ghost use Rattle.mr_edit.specs.PageMap.{PageMap, HasNode, HasFree, with_content, node_content, free_content, longer};
 ghost use Rattle.mr_edit.specs.Held.{IsEntryOf};
 ghost use Rattle.mr_edit.specs.Causes.{HasEditCause, CanRead};
 ghost use Rattle.mr_edit.specs.Outcome.{NeverMap, CanWrite};
@@ -20,7 +20,7 @@ pub trait PageFile {
     ghost scheme: { Scheme };
 
     // its pages, where they are told
-    ghost told: { Self → Option Book };
+    ghost told: { Self → Option PageMap };
 
     // how many faults there were
     ghost faults: { Self → ℕ };
@@ -41,7 +41,7 @@ pub trait PageFile {
         requires counts { All HasCount (children_in view.now) }
         ensures { child_link result ≡ record {
           page = page;
-          entry = entry_of scheme (page_node view.now);
+          entry = node_entry scheme (page_node view.now);
         } };
 
     /// Reads the node of which the child is the entry, and checks it against that.
@@ -49,7 +49,7 @@ pub trait PageFile {
         ensures same { told self.new ≡ told self.old }
         ensures page { OnOk result (1 ≤ child.now.id) }
         ensures level { OnOk result (level_of into.new ≡ child.now.level) }
-        ensures some { OnOk result (1 ≤ size into.new) }
+        ensures not_empty { OnOk result (1 ≤ size into.new) }
         ensures shown { OnOk result (AreTold scheme.version into.new) }
         ensures node { OnOk result (IfSome (told self.old)
             (λ b. HasNode b child.now.id (page_node into.new))) }
@@ -57,7 +57,7 @@ pub trait PageFile {
         ensures reads { reads self.new ≤ reads self.old + 1 }
         ensures quiet { OnOk result (faults self.new ≡ faults self.old) }
         ensures cause { IfErr result (HasEditCause (faults self.old) (faults self.new)) }
-        ensures sound { IfErr result (λ e. NeverMap e
+        ensures blames_none_told { IfErr result (λ e. NeverMap e
             (CanRead scheme (told self.old) child.now)) };
 
     /// The page that a free page names.
@@ -65,7 +65,7 @@ pub trait PageFile {
         requires { 1 ≤ page }
         ensures same { told self.new ≡ told self.old }
         ensures free { IfOk result (λ next. IfSome (told self.old) (λ b. HasFree b page next)) }
-        ensures sound { IfErr result (λ e. NeverMap e
+        ensures blames_none_told { IfErr result (λ e. NeverMap e
             (IsSomeAnd (told self.old) (λ b. (next : ℕ) × HasFree b page next))) }
         ensures kept { kept self.old self.new }
         ensures reads { reads self.new ≤ reads self.old + 1 }
@@ -78,9 +78,10 @@ pub trait PageFile {
         requires some { 1 ≤ size view.now }
         requires said { IsEntryOf scheme child.now view.now }
         requires shown { AreTold scheme.version view.now }
-        ensures sound { IfErr result (λ e. NeverMap e (CanWrite (told self.old) child.now.id)) }
+        ensures blames_none_told { IfErr result
+            (λ e. NeverMap e (CanWrite (told self.old) child.now.id)) }
         ensures put { OnOk result (told self.new
-            ≡ option_map (with_sheet child.now.id (node_sheet (page_node view.now)))
+            ≡ option_map (with_content child.now.id (node_content (page_node view.now)))
             (told self.old)) }
         ensures kept { kept self.old self.new }
         ensures reads { reads self.new ≡ reads self.old }
@@ -91,8 +92,8 @@ pub trait PageFile {
     fn write_free(&mut self, page: u32, next: u32) -> Result<(), EditErr>
         requires { 1 ≤ page }
         ensures put { OnOk result (told self.new
-            ≡ option_map (with_sheet page (free_sheet next)) (told self.old)) }
-        ensures sound { IfErr result (λ e. NeverMap e (CanWrite (told self.old) page)) }
+            ≡ option_map (with_content page (free_content next)) (told self.old)) }
+        ensures blames_none_told { IfErr result (λ e. NeverMap e (CanWrite (told self.old) page)) }
         ensures kept { kept self.old self.new }
         ensures reads { reads self.new ≡ reads self.old }
         ensures quiet { OnOk result (faults self.new ≡ faults self.old) }
@@ -103,7 +104,7 @@ pub trait PageFile {
         ensures told { OnOk result (told self.new ≡ option_map longer (told self.old)) }
         ensures positive { IfOk result (λ page. 1 ≤ page) }
         ensures last { IfOk result (λ page. IfSome (told self.old) (λ b. page ≡ b.size)) }
-        ensures sound { IfErr result (λ e. NeverMap e
+        ensures blames_none_told { IfErr result (λ e. NeverMap e
             (IsSomeAnd (told self.old) (λ b. b.size < page_limit))) }
         ensures kept { kept self.old self.new }
         ensures reads { reads self.new ≡ reads self.old }

@@ -7,23 +7,23 @@
 #![tactic(auto)]
 
 mod deleting;
-mod desk;
 mod error;
 mod file;
 mod freeing;
 mod hints;
+mod inserted;
 mod learning;
-mod left;
+mod pager;
 mod putting;
+mod removal;
 mod removing;
 mod replaying;
 mod root;
-mod stand;
 
-pub use desk::Desk;
 pub use error::EditErr;
 pub use file::PageFile;
-pub use left::Left;
+pub use inserted::Inserted;
+pub use pager::Pager;
+pub use removal::Removal;
 pub use replaying::replay;
 pub use root::insert;
-pub use stand::Stand;

@@ -10,14 +10,14 @@ ghost use Rattle.mr_edit.specs.Causes.{HasEditCause, KnowsBelow};
 ghost use Rattle.mr_edit.specs.Counted.{FreesOnce, LeavesOnce, ReadsTwice, TakesTwice};
 ghost use Rattle.mr_edit.specs.Held.{IsTold};
 ghost use Rattle.mr_edit.specs.Outcome.{NeverMap, CanWrite, IsLow};
-ghost use Rattle.mr_edit.specs.Removal.{LeavesLeaf, LeavesInner, Shortens, Searches};
-ghost use Rattle.mr_edit.specs.Removable.{CanLeave, CanTakeOut};
+ghost use Rattle.mr_edit.specs.private.Removal.{LeavesLeaf, LeavesInner, ShortensRoot, SearchesSubtree};
+ghost use Rattle.mr_edit.specs.private.Removable.{CanLeave, CanTakeOut};
 ghost use Rattle.mr_tree.specs.Limits.{inner_limit, leaf_fill, leaf_limit};
 
-use crate::desk::{look, write_inner, write_leaf};
 use crate::freeing::{free_page, free_subtrees};
 use crate::hints::Way;
-use crate::{Desk, EditErr, Left, PageFile};
+use crate::pager::{read_checked, write_inner, write_leaf};
+use crate::{EditErr, PageFile, Pager, Removal};
 use mr_geom::Rect;
 use mr_grow::position_of;
 use mr_pages::{MapFault, MapRule};
@@ -43,12 +43,12 @@ fn least_records(root: bool) -> usize
 // Writes what is left of an inner node below the root, or sets all records below it aside.
 fn leave_inner<F: PageFile>(
     alloc: Global,
-    desk: &mut Desk<F>,
+    pager: &mut Pager<F>,
     page: u32,
     level: u8,
     children: &[Child],
     mut aside: Vec<Record>,
-) -> Result<Left, EditErr>
+) -> Result<Removal, EditErr>
     requires page { 1 ≤ page }
     requires level { (1 ≤ level) × (level ≤ 7) }
     requires few { length children.now ≤ inner_limit }
@@ -56,36 +56,37 @@ fn leave_inner<F: PageFile>(
         children.now }
     requires told { AllByRecursion (IsTold F.scheme.version) children.now }
     requires layers { All (HasLayer F.scheme.version) aside.items }
-    ensures leaves { IfOk result (λ l. LeavesInner F.scheme false (F.told desk.old.file)
-        desk.old.free (F.told desk.new.file) desk.new.free page children.now aside.items
+    ensures leaves { IfOk result (λ l. LeavesInner F.scheme false (F.told pager.old.file)
+        pager.old.free (F.told pager.new.file) pager.new.free page children.now aside.items
         (option_to_list l.entry) l.aside.items) }
     ensures level { IfOk result (λ l. AllByRecursion (λ (c : child_types.Child). c.level ≡ level)
         (option_to_list l.entry)) }
-    ensures kept { F.kept desk.old.file desk.new.file }
-    ensures once { LeavesOnce F.scheme (F.told desk.old.file) desk.old.free page
-        children.now (F.reads desk.old.file) (F.reads desk.new.file) }
+    ensures kept { F.kept pager.old.file pager.new.file }
+    ensures reads_at_most { LeavesOnce F.scheme (F.told pager.old.file) pager.old.free page
+        children.now (F.reads pager.old.file) (F.reads pager.new.file) }
     ensures still { IfOk result (λ l. IfSome l.entry
-        (λ c. F.reads desk.new.file ≡ F.reads desk.old.file)) }
-    ensures quiet { OnOk result (F.faults desk.new.file ≡ F.faults desk.old.file) }
+        (λ c. F.reads pager.new.file ≡ F.reads pager.old.file)) }
+    ensures quiet { OnOk result (F.faults pager.new.file ≡ F.faults pager.old.file) }
     ensures low { IfOk result (λ l. IsLow l.entry) }
     ensures told { IfOk result (λ l. IfSome l.entry (IsTold F.scheme.version)) }
     ensures layers { IfOk result (λ l. All (HasLayer F.scheme.version) l.aside.items) }
-    ensures cause { IfErr result (HasEditCause (F.faults desk.old.file) (F.faults desk.new.file)) }
-    ensures sound { IfErr result (λ e. NeverMap e
-        (CanLeave F.scheme (F.told desk.old.file) desk.old.free page children.now)) }
+    ensures cause { IfErr result (HasEditCause (F.faults pager.old.file)
+        (F.faults pager.new.file)) }
+    ensures blames_none_told { IfErr result (λ e. NeverMap e
+        (CanLeave F.scheme (F.told pager.old.file) pager.old.free page children.now)) }
 {
     if children.len() < INNER_FILL as usize {
         let mut records = Vec::new(alloc);
-        free_page(desk, page)?;
-        free_subtrees::<F>(desk, children, &mut records)?;
+        free_page(pager, page)?;
+        free_subtrees::<F>(pager, children, &mut records)?;
         records.append(&mut aside)?;
-        Ok(Left {
+        Ok(Removal {
             entry: None,
             aside: records,
         })
     } else {
-        let entry = write_inner::<F>(desk, page, level, children)?;
-        Ok(Left {
+        let entry = write_inner::<F>(pager, page, level, children)?;
+        Ok(Removal {
             entry: Some(entry),
             aside,
         })
@@ -93,23 +94,24 @@ fn leave_inner<F: PageFile>(
 }
 
 // The root that a node gives way to: itself, unless it has one child.
-fn shorten<F: PageFile>(desk: &mut Desk<F>, child: &Child) -> Result<Child, EditErr>
+fn shorten<F: PageFile>(pager: &mut Pager<F>, child: &Child) -> Result<Child, EditErr>
     requires { IsTold F.scheme.version child.now }
-    ensures shortens { IfOk result (λ c. Shortens F.scheme (F.told desk.old.file)
-        desk.old.free (F.told desk.new.file) desk.new.free child.now c) }
-    ensures kept { F.kept desk.old.file desk.new.file }
-    ensures once { FreesOnce F.scheme (F.told desk.old.file) desk.old.free
+    ensures shortens { IfOk result (λ c. ShortensRoot F.scheme (F.told pager.old.file)
+        pager.old.free (F.told pager.new.file) pager.new.free child.now c) }
+    ensures kept { F.kept pager.old.file pager.new.file }
+    ensures reads_at_most { FreesOnce F.scheme (F.told pager.old.file) pager.old.free
         (child.now ∷ [])
-        (F.reads desk.old.file) (F.reads desk.new.file) }
-    ensures quiet { OnOk result (F.faults desk.new.file ≡ F.faults desk.old.file) }
+        (F.reads pager.old.file) (F.reads pager.new.file) }
+    ensures quiet { OnOk result (F.faults pager.new.file ≡ F.faults pager.old.file) }
     ensures low { IfOk result (λ c. IsLow (Some c)) }
     ensures told { IfOk result (IsTold F.scheme.version) }
-    ensures cause { IfErr result (HasEditCause (F.faults desk.old.file) (F.faults desk.new.file)) }
-    ensures sound { IfErr result (λ e. NeverMap e
-        (KnowsBelow F.scheme false (F.told desk.old.file) desk.old.free child.now)) }
+    ensures cause { IfErr result (HasEditCause (F.faults pager.old.file)
+        (F.faults pager.new.file)) }
+    ensures blames_none_told { IfErr result (λ e. NeverMap e
+        (KnowsBelow F.scheme false (F.told pager.old.file) pager.old.free child.now)) }
 {
     let mut view = NodeView::new();
-    look::<F>(&mut desk.file, child, false, &mut view)?;
+    read_checked::<F>(&mut pager.file, child, false, &mut view)?;
     if view.level() == 0 {
         let _records = view.records();
         return Ok(*child);
@@ -118,18 +120,18 @@ fn shorten<F: PageFile>(desk: &mut Desk<F>, child: &Child) -> Result<Child, Edit
     if children.len() != 1 {
         return Ok(*child);
     }
-    free_page(desk, child.id)?;
-    shorten::<F>(desk, &children[0])
+    free_page(pager, child.id)?;
+    shorten::<F>(pager, &children[0])
 }
 
 // Writes what is left of an inner node that is the root, or frees it where one child is left.
 fn leave_top_inner<F: PageFile>(
-    desk: &mut Desk<F>,
+    pager: &mut Pager<F>,
     page: u32,
     level: u8,
     children: &[Child],
     aside: Vec<Record>,
-) -> Result<Left, EditErr>
+) -> Result<Removal, EditErr>
     requires page { 1 ≤ page }
     requires level { (1 ≤ level) × (level ≤ 7) }
     requires few { length children.now ≤ inner_limit }
@@ -137,19 +139,20 @@ fn leave_top_inner<F: PageFile>(
         children.now }
     requires told { AllByRecursion (IsTold F.scheme.version) children.now }
     requires layers { All (HasLayer F.scheme.version) aside.items }
-    ensures leaves { IfOk result (λ l. LeavesInner F.scheme true (F.told desk.old.file)
-        desk.old.free (F.told desk.new.file) desk.new.free page children.now aside.items
+    ensures leaves { IfOk result (λ l. LeavesInner F.scheme true (F.told pager.old.file)
+        pager.old.free (F.told pager.new.file) pager.new.free page children.now aside.items
         (option_to_list l.entry) l.aside.items) }
-    ensures kept { F.kept desk.old.file desk.new.file }
-    ensures once { LeavesOnce F.scheme (F.told desk.old.file) desk.old.free page
-        children.now (F.reads desk.old.file) (F.reads desk.new.file) }
-    ensures quiet { OnOk result (F.faults desk.new.file ≡ F.faults desk.old.file) }
+    ensures kept { F.kept pager.old.file pager.new.file }
+    ensures reads_at_most { LeavesOnce F.scheme (F.told pager.old.file) pager.old.free page
+        children.now (F.reads pager.old.file) (F.reads pager.new.file) }
+    ensures quiet { OnOk result (F.faults pager.new.file ≡ F.faults pager.old.file) }
     ensures low { IfOk result (λ l. IsLow l.entry) }
     ensures told { IfOk result (λ l. IfSome l.entry (IsTold F.scheme.version)) }
     ensures layers { IfOk result (λ l. All (HasLayer F.scheme.version) l.aside.items) }
-    ensures cause { IfErr result (HasEditCause (F.faults desk.old.file) (F.faults desk.new.file)) }
-    ensures sound { IfErr result (λ e. NeverMap e
-        (CanLeave F.scheme (F.told desk.old.file) desk.old.free page children.now)) }
+    ensures cause { IfErr result (HasEditCause (F.faults pager.old.file)
+        (F.faults pager.new.file)) }
+    ensures blames_none_told { IfErr result (λ e. NeverMap e
+        (CanLeave F.scheme (F.told pager.old.file) pager.old.free page children.now)) }
 {
     if children.is_empty() {
         return Err(EditErr::Map(MapFault {
@@ -158,15 +161,15 @@ fn leave_top_inner<F: PageFile>(
         }));
     }
     if children.len() == 1 {
-        free_page(desk, page)?;
-        let entry = shorten::<F>(desk, &children[0])?;
-        Ok(Left {
+        free_page(pager, page)?;
+        let entry = shorten::<F>(pager, &children[0])?;
+        Ok(Removal {
             entry: Some(entry),
             aside,
         })
     } else {
-        let entry = write_inner::<F>(desk, page, level, children)?;
-        Ok(Left {
+        let entry = write_inner::<F>(pager, page, level, children)?;
+        Ok(Removal {
             entry: Some(entry),
             aside,
         })
@@ -176,13 +179,13 @@ fn leave_top_inner<F: PageFile>(
 // Writes what is left of an inner node, as the root or below it.
 fn leave<F: PageFile>(
     alloc: Global,
-    desk: &mut Desk<F>,
+    pager: &mut Pager<F>,
     page: u32,
     level: u8,
     children: &[Child],
     aside: Vec<Record>,
     root: bool,
-) -> Result<Left, EditErr>
+) -> Result<Removal, EditErr>
     requires page { 1 ≤ page }
     requires level { (1 ≤ level) × (level ≤ 7) }
     requires few { length children.now ≤ inner_limit }
@@ -190,65 +193,68 @@ fn leave<F: PageFile>(
         children.now }
     requires told { AllByRecursion (IsTold F.scheme.version) children.now }
     requires layers { All (HasLayer F.scheme.version) aside.items }
-    ensures leaves { IfOk result (λ l. LeavesInner F.scheme root (F.told desk.old.file)
-        desk.old.free (F.told desk.new.file) desk.new.free page children.now aside.items
+    ensures leaves { IfOk result (λ l. LeavesInner F.scheme root (F.told pager.old.file)
+        pager.old.free (F.told pager.new.file) pager.new.free page children.now aside.items
         (option_to_list l.entry) l.aside.items) }
     ensures level { IfOk result (λ l. root ≡ false → AllByRecursion
         (λ (c : child_types.Child). c.level ≡ level) (option_to_list l.entry)) }
-    ensures kept { F.kept desk.old.file desk.new.file }
-    ensures once { LeavesOnce F.scheme (F.told desk.old.file) desk.old.free page
-        children.now (F.reads desk.old.file) (F.reads desk.new.file) }
+    ensures kept { F.kept pager.old.file pager.new.file }
+    ensures reads_at_most { LeavesOnce F.scheme (F.told pager.old.file) pager.old.free page
+        children.now (F.reads pager.old.file) (F.reads pager.new.file) }
     ensures still { IfOk result (λ l. root ≡ false → IfSome l.entry
-        (λ c. F.reads desk.new.file ≡ F.reads desk.old.file)) }
-    ensures quiet { OnOk result (F.faults desk.new.file ≡ F.faults desk.old.file) }
+        (λ c. F.reads pager.new.file ≡ F.reads pager.old.file)) }
+    ensures quiet { OnOk result (F.faults pager.new.file ≡ F.faults pager.old.file) }
     ensures low { IfOk result (λ l. IsLow l.entry) }
     ensures told { IfOk result (λ l. IfSome l.entry (IsTold F.scheme.version)) }
     ensures layers { IfOk result (λ l. All (HasLayer F.scheme.version) l.aside.items) }
-    ensures cause { IfErr result (HasEditCause (F.faults desk.old.file) (F.faults desk.new.file)) }
-    ensures sound { IfErr result (λ e. NeverMap e
-        (CanLeave F.scheme (F.told desk.old.file) desk.old.free page children.now)) }
+    ensures cause { IfErr result (HasEditCause (F.faults pager.old.file)
+        (F.faults pager.new.file)) }
+    ensures blames_none_told { IfErr result (λ e. NeverMap e
+        (CanLeave F.scheme (F.told pager.old.file) pager.old.free page children.now)) }
 {
     if root {
-        leave_top_inner::<F>(desk, page, level, children, aside)
+        leave_top_inner::<F>(pager, page, level, children, aside)
     } else {
-        leave_inner::<F>(alloc, desk, page, level, children, aside)
+        leave_inner::<F>(alloc, pager, page, level, children, aside)
     }
 }
 
 // Writes what is left of a leaf, or sets it aside.
 fn leave_records<F: PageFile>(
     alloc: Global,
-    desk: &mut Desk<F>,
+    pager: &mut Pager<F>,
     page: u32,
     records: Vec<Record>,
     root: bool,
-) -> Result<Left, EditErr>
+) -> Result<Removal, EditErr>
     requires page { 1 ≤ page }
     requires few { length records.items ≤ leaf_limit }
     requires layers { All (HasLayer F.scheme.version) records.items }
-    ensures leaves { IfOk result (λ l. LeavesLeaf F.scheme root (F.told desk.old.file)
-        desk.old.free (F.told desk.new.file) desk.new.free page records.items
+    ensures leaves { IfOk result (λ l. LeavesLeaf F.scheme root (F.told pager.old.file)
+        pager.old.free (F.told pager.new.file) pager.new.free page records.items
         (option_to_list l.entry) l.aside.items) }
     ensures level { IfOk result (λ l. root ≡ false → AllByRecursion
         (λ (c : child_types.Child). c.level ≡ 0) (option_to_list l.entry)) }
-    ensures kept { F.kept desk.old.file desk.new.file }
-    ensures reads { F.reads desk.new.file ≡ F.reads desk.old.file }
-    ensures quiet { OnOk result (F.faults desk.new.file ≡ F.faults desk.old.file) }
+    ensures kept { F.kept pager.old.file pager.new.file }
+    ensures reads { F.reads pager.new.file ≡ F.reads pager.old.file }
+    ensures quiet { OnOk result (F.faults pager.new.file ≡ F.faults pager.old.file) }
     ensures low { IfOk result (λ l. IsLow l.entry) }
     ensures told { IfOk result (λ l. IfSome l.entry (IsTold F.scheme.version)) }
     ensures layers { IfOk result (λ l. All (HasLayer F.scheme.version) l.aside.items) }
-    ensures cause { IfErr result (HasEditCause (F.faults desk.old.file) (F.faults desk.new.file)) }
-    ensures sound { IfErr result (λ e. NeverMap e (CanWrite (F.told desk.old.file) page)) }
+    ensures cause { IfErr result (HasEditCause (F.faults pager.old.file)
+        (F.faults pager.new.file)) }
+    ensures blames_none_told { IfErr result
+        (λ e. NeverMap e (CanWrite (F.told pager.old.file) page)) }
 {
     if records.len() < least_records(root) {
-        free_page(desk, page)?;
-        Ok(Left {
+        free_page(pager, page)?;
+        Ok(Removal {
             entry: None,
             aside: records,
         })
     } else {
-        let entry = write_leaf::<F>(desk, page, &records)?;
-        Ok(Left {
+        let entry = write_leaf::<F>(pager, page, &records)?;
+        Ok(Removal {
             entry: Some(entry),
             aside: Vec::new(alloc),
         })
@@ -292,36 +298,38 @@ fn is_again(turn: usize, n: usize, at: usize) -> bool
 // holds the record's are read, first that to which the way leads.
 pub(crate) fn take_out<F: PageFile>(
     alloc: Global,
-    desk: &mut Desk<F>,
+    pager: &mut Pager<F>,
     child: &Child,
     number: u64,
     rect: &Rect,
     way: &Way,
     root: bool,
-) -> Result<Option<Left>, EditErr>
-    ensures searches { IfOk result (λ found. Searches F.scheme root (F.told desk.old.file)
-        desk.old.free (F.told desk.new.file) desk.new.free child.now number rect.now found) }
+) -> Result<Option<Removal>, EditErr>
+    ensures searches { IfOk result (λ found. SearchesSubtree F.scheme root (F.told pager.old.file)
+        pager.old.free (F.told pager.new.file) pager.new.free child.now number rect.now found) }
     ensures level { IfOk result (λ found. root ≡ false → IfSome found
         (λ l. AllByRecursion (λ (c : child_types.Child). c.level ≡ child.now.level)
         (option_to_list l.entry))) }
-    ensures kept { F.kept desk.old.file desk.new.file }
-    ensures twice { ReadsTwice F.scheme (F.told desk.old.file) desk.old.free child.now
-        number rect.now (F.reads desk.old.file) (F.reads desk.new.file) }
-    ensures takes { IfOk result (TakesTwice F.scheme root (F.told desk.old.file)
-        desk.old.free child.now number rect.now (F.reads desk.old.file) (F.reads desk.new.file)) }
-    ensures quiet { OnOk result (F.faults desk.new.file ≡ F.faults desk.old.file) }
+    ensures kept { F.kept pager.old.file pager.new.file }
+    ensures twice { ReadsTwice F.scheme (F.told pager.old.file) pager.old.free child.now
+        number rect.now (F.reads pager.old.file) (F.reads pager.new.file) }
+    ensures takes { IfOk result (TakesTwice F.scheme root (F.told pager.old.file)
+        pager.old.free child.now number rect.now (F.reads pager.old.file)
+        (F.reads pager.new.file)) }
+    ensures quiet { OnOk result (F.faults pager.new.file ≡ F.faults pager.old.file) }
     ensures low { IfOk result (λ found. IfSome found (λ l. IsLow l.entry)) }
     ensures told { IfOk result
         (λ found. IfSome found (λ l. IfSome l.entry (IsTold F.scheme.version))) }
     ensures layers { IfOk result
         (λ found. IfSome found (λ l. All (HasLayer F.scheme.version) l.aside.items)) }
-    ensures cause { IfErr result (HasEditCause (F.faults desk.old.file) (F.faults desk.new.file)) }
-    ensures sound { IfErr result (λ e. NeverMap e (CanTakeOut F.scheme root
-        (F.told desk.old.file) desk.old.free child.now number rect.now)) }
+    ensures cause { IfErr result (HasEditCause (F.faults pager.old.file)
+        (F.faults pager.new.file)) }
+    ensures blames_none_told { IfErr result (λ e. NeverMap e (CanTakeOut F.scheme root
+        (F.told pager.old.file) pager.old.free child.now number rect.now)) }
 {
     let mut view = NodeView::new();
-    desk.hints.count();
-    look::<F>(&mut desk.file, child, root, &mut view)?;
+    pager.hints.count();
+    read_checked::<F>(&mut pager.file, child, root, &mut view)?;
     let level = view.level();
     if level == 0 {
         let mut records = Vec::from_slice(alloc, view.records())?;
@@ -330,7 +338,7 @@ pub(crate) fn take_out<F: PageFile>(
             return Ok(None);
         }
         records.remove(at);
-        Ok(Some(leave_records::<F>(alloc, desk, child.id, records, root)?))
+        Ok(Some(leave_records::<F>(alloc, pager, child.id, records, root)?))
     } else {
         let children = view.children();
         let turn = way.turn(level, children);
@@ -345,13 +353,13 @@ pub(crate) fn take_out<F: PageFile>(
             if !may_hold(&children[at], rect) {
                 continue;
             }
-            let found = take_out::<F>(alloc, desk, &children[at], number, rect, way, false)?;
+            let found = take_out::<F>(alloc, pager, &children[at], number, rect, way, false)?;
             let Some(left) = found else {
                 continue;
             };
-            let Left { entry, aside } = left;
+            let Removal { entry, aside } = left;
             let rest = replaced(alloc, children, at, entry)?;
-            let left = leave::<F>(alloc, desk, child.id, level, &rest, aside, root)?;
+            let left = leave::<F>(alloc, pager, child.id, level, &rest, aside, root)?;
             return Ok(Some(left));
         }
         Ok(None)

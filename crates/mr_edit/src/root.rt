@@ -4,52 +4,55 @@ ghost use Rattle.std.specs.Prelude.{◌≡◌, ◌+◌, ◌≤◌, ◌∷◌, []
 ghost use Rattle.mr_record.specs.Record.{HasLayer};
 ghost use Rattle.mr_edit.specs.Causes.{HasEditCause};
 ghost use Rattle.mr_edit.specs.Held.{IsTold, HaveFew};
-ghost use Rattle.mr_edit.specs.Outcome.{Raises, NeverMap, IsAlike, IsLow, root_page, IsOfRoot};
-ghost use Rattle.mr_edit.specs.Drafted.{Inserts};
+ghost use Rattle.mr_edit.specs.Outcome.{RaisesRoot, NeverMap, IsAlike, IsLow, root_page, IsOfRoot};
+ghost use Rattle.mr_edit.specs.Drafted.{InsertsRecord};
 ghost use Rattle.mr_edit.specs.Reads.{insertion_reads};
 ghost use Rattle.mr_edit.specs.Growing.{CanAdd, CanRaise, CanInsert};
 ghost use Rattle.mr_edit.specs.declared.error.EditErr.TheVariants as errors;
 
-use crate::desk::{take_page, write_inner, write_leaf};
+use crate::pager::{take_page, write_inner, write_leaf};
 use crate::putting::put_into;
-use crate::{Desk, EditErr, PageFile, Stand};
+use crate::{EditErr, Inserted, PageFile, Pager};
 use mr_pages::{MapFault, MapRule};
 use mr_record::Record;
 use mr_tree::{Child, LEVEL_LIMIT};
 use std::alloc::Global;
 
 // The root of a map of one record.
-fn first_root<F: PageFile>(desk: &mut Desk<F>, one: &Record) -> Result<Child, EditErr>
+fn first_root<F: PageFile>(pager: &mut Pager<F>, one: &Record) -> Result<Child, EditErr>
     requires { HasLayer F.scheme.version one.now }
-    ensures inserts { IfOk result (λ c. Inserts F.scheme (F.told desk.old.file)
-        desk.old.free None (F.told desk.new.file) desk.new.free c one.now) }
-    ensures sound { IfErr result (λ e. NeverMap e (CanAdd (F.told desk.old.file) desk.old.free)) }
-    ensures kept { F.kept desk.old.file desk.new.file }
-    ensures reads { F.reads desk.new.file ≤ F.reads desk.old.file + 1 }
-    ensures quiet { OnOk result (F.faults desk.new.file ≡ F.faults desk.old.file) }
+    ensures inserts { IfOk result (λ c. InsertsRecord F.scheme (F.told pager.old.file)
+        pager.old.free None (F.told pager.new.file) pager.new.free c one.now) }
+    ensures blames_none_told { IfErr result
+        (λ e. NeverMap e (CanAdd (F.told pager.old.file) pager.old.free)) }
+    ensures kept { F.kept pager.old.file pager.new.file }
+    ensures reads { F.reads pager.new.file ≤ F.reads pager.old.file + 1 }
+    ensures quiet { OnOk result (F.faults pager.new.file ≡ F.faults pager.old.file) }
     ensures low { IfOk result (λ c. IsLow (Some c)) }
     ensures told { IfOk result (IsTold F.scheme.version) }
-    ensures cause { IfErr result (HasEditCause (F.faults desk.old.file) (F.faults desk.new.file)) }
+    ensures cause { IfErr result (HasEditCause (F.faults pager.old.file)
+        (F.faults pager.new.file)) }
 {
-    let page = take_page(desk)?;
-    write_leaf::<F>(desk, page, &[*one])
+    let page = take_page(pager)?;
+    write_leaf::<F>(pager, page, &[*one])
 }
 
 // A root above two nodes.
-fn raise<F: PageFile>(desk: &mut Desk<F>, first: Child, second: Child) -> Result<Child, EditErr>
+fn raise<F: PageFile>(pager: &mut Pager<F>, first: Child, second: Child) -> Result<Child, EditErr>
     requires alike { second.level ≡ first.level }
     requires told { IsTold F.scheme.version first × IsTold F.scheme.version second }
-    ensures raises { IfOk result (λ c. Raises F.scheme (F.told desk.old.file)
-        desk.old.free (F.told desk.new.file) desk.new.free first second c) }
-    ensures sound { IfErr result (λ e. NeverMap e
-        (CanRaise (F.told desk.old.file) desk.old.free first.level
+    ensures raises { IfOk result (λ c. RaisesRoot F.scheme (F.told pager.old.file)
+        pager.old.free (F.told pager.new.file) pager.new.free first second c) }
+    ensures blames_none_told { IfErr result (λ e. NeverMap e
+        (CanRaise (F.told pager.old.file) pager.old.free first.level
         × HaveFew (first ∷ second ∷ []))) }
-    ensures kept { F.kept desk.old.file desk.new.file }
-    ensures reads { F.reads desk.new.file ≤ F.reads desk.old.file + 1 }
-    ensures quiet { OnOk result (F.faults desk.new.file ≡ F.faults desk.old.file) }
+    ensures kept { F.kept pager.old.file pager.new.file }
+    ensures reads { F.reads pager.new.file ≤ F.reads pager.old.file + 1 }
+    ensures quiet { OnOk result (F.faults pager.new.file ≡ F.faults pager.old.file) }
     ensures low { IfOk result (λ c. IsLow (Some c)) }
     ensures told { IfOk result (IsTold F.scheme.version) }
-    ensures cause { IfErr result (HasEditCause (F.faults desk.old.file) (F.faults desk.new.file)) }
+    ensures cause { IfErr result (HasEditCause (F.faults pager.old.file)
+        (F.faults pager.new.file)) }
 {
     if first.level >= LEVEL_LIMIT {
         return Err(EditErr::Map(MapFault {
@@ -57,8 +60,8 @@ fn raise<F: PageFile>(desk: &mut Desk<F>, first: Child, second: Child) -> Result
             rule: MapRule::Page,
         }));
     }
-    let page = take_page(desk)?;
-    write_inner::<F>(desk, page, first.level + 1, &[first, second])
+    let page = take_page(pager)?;
+    write_inner::<F>(pager, page, first.level + 1, &[first, second])
 }
 
 // A fault by `Page` is one of this page, where it is one of page 0: no node stands there.
@@ -92,26 +95,27 @@ pub(crate) fn at_root(error: EditErr, page: u32) -> EditErr
 // Puts a record into a map with a root.
 fn put_below<F: PageFile>(
     alloc: Global,
-    desk: &mut Desk<F>,
+    pager: &mut Pager<F>,
     root: &Child,
     one: &Record,
 ) -> Result<Child, EditErr>
     requires { HasLayer F.scheme.version one.now }
-    ensures inserts { IfOk result (λ c. Inserts F.scheme (F.told desk.old.file)
-        desk.old.free (Some root.now) (F.told desk.new.file) desk.new.free c one.now) }
-    ensures sound { IfErr result (λ e. NeverMap e
-        (CanInsert F.scheme (F.told desk.old.file) desk.old.free (Some root.now) 1)) }
-    ensures kept { F.kept desk.old.file desk.new.file }
-    ensures reads { F.reads desk.new.file ≤ F.reads desk.old.file + insertion_reads }
-    ensures quiet { OnOk result (F.faults desk.new.file ≡ F.faults desk.old.file) }
+    ensures inserts { IfOk result (λ c. InsertsRecord F.scheme (F.told pager.old.file)
+        pager.old.free (Some root.now) (F.told pager.new.file) pager.new.free c one.now) }
+    ensures blames_none_told { IfErr result (λ e. NeverMap e
+        (CanInsert F.scheme (F.told pager.old.file) pager.old.free (Some root.now) 1)) }
+    ensures kept { F.kept pager.old.file pager.new.file }
+    ensures reads { F.reads pager.new.file ≤ F.reads pager.old.file + insertion_reads }
+    ensures quiet { OnOk result (F.faults pager.new.file ≡ F.faults pager.old.file) }
     ensures low { IfOk result (λ c. IsLow (Some c)) }
     ensures told { IfOk result (IsTold F.scheme.version) }
-    ensures cause { IfErr result (HasEditCause (F.faults desk.old.file) (F.faults desk.new.file)) }
+    ensures cause { IfErr result (HasEditCause (F.faults pager.old.file)
+        (F.faults pager.new.file)) }
 {
-    let Stand { first, second } = put_into::<F>(alloc, desk, root, true, one)?;
+    let Inserted { first, second } = put_into::<F>(alloc, pager, root, true, one)?;
     match second {
         None => Ok(first),
-        Some(second) => raise::<F>(desk, first, second),
+        Some(second) => raise::<F>(pager, first, second),
     }
 }
 
@@ -122,27 +126,28 @@ fn put_below<F: PageFile>(
 /// there is none, where it would rise too high or the file would grow past its last page.
 pub fn insert<F: PageFile>(
     alloc: Global,
-    desk: &mut Desk<F>,
+    pager: &mut Pager<F>,
     root: Option<Child>,
     one: &Record,
 ) -> Result<Child, EditErr>
     requires { HasLayer F.scheme.version one.now }
-    ensures inserts { IfOk result (λ c. Inserts F.scheme (F.told desk.old.file)
-        desk.old.free root (F.told desk.new.file) desk.new.free c one.now) }
-    ensures sound { IfErr result (λ e. NeverMap e
-        (CanInsert F.scheme (F.told desk.old.file) desk.old.free root 1)) }
+    ensures inserts { IfOk result (λ c. InsertsRecord F.scheme (F.told pager.old.file)
+        pager.old.free root (F.told pager.new.file) pager.new.free c one.now) }
+    ensures blames_none_told { IfErr result (λ e. NeverMap e
+        (CanInsert F.scheme (F.told pager.old.file) pager.old.free root 1)) }
     ensures page { IfErr result (IsOfRoot (root_page root)) }
-    ensures kept { F.kept desk.old.file desk.new.file }
-    ensures reads { F.reads desk.new.file ≤ F.reads desk.old.file + insertion_reads }
-    ensures quiet { OnOk result (F.faults desk.new.file ≡ F.faults desk.old.file) }
+    ensures kept { F.kept pager.old.file pager.new.file }
+    ensures reads { F.reads pager.new.file ≤ F.reads pager.old.file + insertion_reads }
+    ensures quiet { OnOk result (F.faults pager.new.file ≡ F.faults pager.old.file) }
     // Told or not, the root is no higher than a map's may be.
     ensures low { IfOk result (λ c. IsLow (Some c)) }
     ensures told { IfOk result (IsTold F.scheme.version) }
-    ensures cause { IfErr result (HasEditCause (F.faults desk.old.file) (F.faults desk.new.file)) }
+    ensures cause { IfErr result (HasEditCause (F.faults pager.old.file)
+        (F.faults pager.new.file)) }
 {
     match root {
-        None => first_root::<F>(desk, one),
-        Some(child) => match put_below::<F>(alloc, desk, &child, one) {
+        None => first_root::<F>(pager, one),
+        Some(child) => match put_below::<F>(alloc, pager, &child, one) {
             Ok(raised) => Ok(raised),
             Err(error) => Err(at_root(error, child.id)),
         },

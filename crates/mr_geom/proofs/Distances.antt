@@ -4,7 +4,7 @@ use Rattle.std.specs.Prelude.{unsigned_abs, FitsSigned}
 use Rattle.std.specs.Int.{int_min, int_max, w32}
 use Rattle.std.proofs.lemmas.Int.{ints, clamps}
 use Rattle.mr_geom.specs.Rectangle.{Rectangle, IsOrdered, FitsMap}
-use Rattle.mr_geom.specs.Plane.{Holds, Inside}
+use Rattle.mr_geom.specs.Plane.{HoldsPoint, Inside}
 use Rattle.mr_geom.specs.Distance.{square, squared_distance, IsLeastDistance, nearest_point, least_squared_distance}
 use Rattle.mr_geom.specs.declared.point.Point.{Point}
 
@@ -27,8 +27,8 @@ sum-0 m n h = (omega arith, omega arith)
 zero-sum : (m n : ℕ) → m ≡ 0 → n ≡ 0 → square m + square n ≡ 0
 zero-sum m n h k = rw (h, k) refl
 
-pub Holds-nearest_point : (r : Rectangle) (p : Point) → IsOrdered r → Holds r (nearest_point r p)
-Holds-nearest_point r p o = record {
+pub HoldsPoint-nearest_point : (r : Rectangle) (p : Point) → IsOrdered r → HoldsPoint r (nearest_point r p)
+HoldsPoint-nearest_point r p o = record {
   left = clamped_left r.x0 r.x1 p.x;
   right = clamped_right r.x0 r.x1 p.x o.x;
   low = clamped_left r.y0 r.y1 p.y;
@@ -38,7 +38,8 @@ Holds-nearest_point r p o = record {
 sum-≤ : (a b c d : ℕ) → a ≤ c → b ≤ d → a + b ≤ c + d
 sum-≤ a b c d p q = omega arith
 
-pub nearest : (r : Rectangle) (p q : Point) → Holds r q → squared_distance p (nearest_point r p) ≤ squared_distance p q
+pub nearest : (r : Rectangle) (p q : Point) → HoldsPoint r q → squared_distance p (nearest_point r p) ≤
+    squared_distance p q
 nearest r p q h =
     let along : square (unsigned_abs (p.x -ℤ (nearest_point r p).x)) ≤ square (unsigned_abs (p.x -ℤ q.x)) =
     square-≤ _ _ (clamped_nearest r.x0 r.x1 p.x q.x h.left h.right) in
@@ -50,7 +51,7 @@ pub IsLeastDistance-least_squared_distance : (r : Rectangle) (p : Point) → IsO
     IsLeastDistance r p (least_squared_distance r p)
 unfolding least_squared_distance
 IsLeastDistance-least_squared_distance r p o = record {
-  reached = (nearest_point r p, Holds-nearest_point r p o, refl);
+  reached = (nearest_point r p, HoldsPoint-nearest_point r p o, refl);
   least = nearest r p;
 }
 
@@ -59,7 +60,7 @@ pub least_squared_distance-Inside : (a b : Rectangle) (p : Point) → IsOrdered 
     least_squared_distance b p ≤ least_squared_distance a p
 unfolding least_squared_distance
 least_squared_distance-Inside a b p o h =
-    nearest b p (nearest_point a p) (h (nearest_point a p) (Holds-nearest_point a p o))
+    nearest b p (nearest_point a p) (h (nearest_point a p) (HoldsPoint-nearest_point a p o))
 
 square-0 : (n : ℕ) → square n ≡ 0 → n ≡ 0
 square-0 zero h = refl
@@ -73,7 +74,8 @@ clamped_within : (low high at : ℤ) → low ≤ℤ at → at ≤ℤ high → un
 clamped_within low high at h k = omega (arith, ints, clamps)
 
 -- the rectangle holds the points at distance 0, and no others
-pub least_squared_distance-0 : (r : Rectangle) (p : Point) → IsOrdered r → (least_squared_distance r p ≡ 0) ↔ Holds r p
+pub least_squared_distance-0 : (r : Rectangle) (p : Point) → IsOrdered r → (least_squared_distance r p ≡ 0) ↔
+    HoldsPoint r p
 unfolding least_squared_distance
 least_squared_distance-0 r p o = (
   λ none.

@@ -6,7 +6,7 @@ use Rattle.std.proofs.lemmas.Bool.{and_parts, cases_Bool, false≢true}
 use Rattle.std.specs.Int.{int_min, int_max}
 use Rattle.std.proofs.lemmas.Int.{ints, clamps}
 use Rattle.mr_geom.specs.Rectangle.{Rectangle, IsOrdered, union, area}
-use Rattle.mr_geom.specs.Plane.{Holds, Meets, touches, Inside, IsLeastRound}
+use Rattle.mr_geom.specs.Plane.{HoldsPoint, SharesPoint, touches, Inside, IsLeastRound}
 use Rattle.mr_geom.proofs.Rectangles.{IsOrdered-union, area-≤, true_from_T}
 
 -- what holds of two rectangles holds of those that are equal to them
@@ -51,16 +51,16 @@ int_min_second a b = omega (arith, ints, clamps)
 ≤ℤ-through : (a b c : ℤ) → a ≤ℤ b → b ≤ℤ c → a ≤ℤ c
 ≤ℤ-through a b c p q = omega (arith, ints)
 
-pub SidesMeet-Meets : (a b : Rectangle) → Meets a b → SidesMeet a b
-SidesMeet-Meets a b (p, h, k) = record {
+pub SidesMeet-SharesPoint : (a b : Rectangle) → SharesPoint a b → SidesMeet a b
+SidesMeet-SharesPoint a b (p, h, k) = record {
   left = ≤ℤ-through a.x0 p.x b.x1 h.left k.right;
   right = ≤ℤ-through b.x0 p.x a.x1 k.left h.right;
   low = ≤ℤ-through a.y0 p.y b.y1 h.low k.high;
   high = ≤ℤ-through b.y0 p.y a.y1 k.low h.high;
 }
 
-pub Meets-SidesMeet : (a b : Rectangle) → IsOrdered a → IsOrdered b → SidesMeet a b → Meets a b
-Meets-SidesMeet a b o q s = (
+pub SharesPoint-SidesMeet : (a b : Rectangle) → IsOrdered a → IsOrdered b → SidesMeet a b → SharesPoint a b
+SharesPoint-SidesMeet a b o q s = (
   record { x = int_max a.x0 b.x0; y = int_max a.y0 b.y0 },
   record {
     left = int_max_first a.x0 b.x0;
@@ -78,9 +78,9 @@ Meets-SidesMeet a b o q s = (
 
 pub SidesInside-Inside : (a b : Rectangle) → IsOrdered a → Inside a b → SidesInside a b
 SidesInside-Inside a b o h =
-    let low_corner : Holds b (record { x = a.x0; y = a.y0 }) =
+    let low_corner : HoldsPoint b (record { x = a.x0; y = a.y0 }) =
     h (record { x = a.x0; y = a.y0 }) (record { left = ≤ℤ-same a.x0; right = o.x; low = ≤ℤ-same a.y0; high = o.y }) in
-    let high_corner : Holds b (record { x = a.x1; y = a.y1 }) =
+    let high_corner : HoldsPoint b (record { x = a.x1; y = a.y1 }) =
     h (record { x = a.x1; y = a.y1 }) (record { left = o.x; right = ≤ℤ-same a.x1; low = o.y; high = ≤ℤ-same a.y1 }) in
     record { left = low_corner.left; right = high_corner.right; low = low_corner.low; high = high_corner.high }
 
@@ -104,12 +104,12 @@ IsOrdered-Inside a b o h =
 pub Inside-through : (a b c : Rectangle) → Inside a b → Inside b c → Inside a c
 Inside-through a b c h k = λ p held. k p (h p held)
 
-pub Meets_comm : (a b : Rectangle) → Meets a b → Meets b a
-Meets_comm a b (p, h, k) = (p, k, h)
+pub SharesPoint_comm : (a b : Rectangle) → SharesPoint a b → SharesPoint b a
+SharesPoint_comm a b (p, h, k) = (p, k, h)
 
 -- what meets a rectangle meets each rectangle that contains it
-pub Meets-Inside : (a b c : Rectangle) → Inside b c → Meets a b → Meets a c
-Meets-Inside a b c inside (p, h, k) = (p, h, inside p k)
+pub SharesPoint-Inside : (a b c : Rectangle) → Inside b c → SharesPoint a b → SharesPoint a c
+SharesPoint-Inside a b c inside (p, h, k) = (p, h, inside p k)
 
 pub Inside-union_first : (a b : Rectangle) → Inside a (union a b)
 Inside-union_first a b = Inside-SidesInside a (union a b) (record {
@@ -148,16 +148,16 @@ IsLeastRound-union a b o q = record {
 
 -- where the two share numbers along x, a test of the other axis says whether they meet
 pub meets_across : (a b : Rectangle) (t : Bool) → IsOrdered a → IsOrdered b → a.x0 ≤ℤ b.x1 → b.x0 ≤ℤ a.x1 →
-    (IsTrue t ↔ ((a.y0 ≤ℤ b.y1) × (b.y0 ≤ℤ a.y1))) → IsTrue t ↔ Meets a b
+    (IsTrue t ↔ ((a.y0 ≤ℤ b.y1) × (b.y0 ≤ℤ a.y1))) → IsTrue t ↔ SharesPoint a b
 meets_across a b t o q left right h = (
-  λ yes. Meets-SidesMeet a b o q (record { left = left; right = right; low = (h.0 yes).0; high = (h.0 yes).1 }),
-  λ met. let s = SidesMeet-Meets a b met in h.1 (s.low, s.high),
+  λ yes. SharesPoint-SidesMeet a b o q (record { left = left; right = right; low = (h.0 yes).0; high = (h.0 yes).1 }),
+  λ met. let s = SidesMeet-SharesPoint a b met in h.1 (s.low, s.high),
 )
 
 -- where the two share no number along x, they do not meet
 pub misses_along : (a b : Rectangle) (t : Bool) → t ≡ false → (((a.x0 ≤ℤ b.x1) × (b.x0 ≤ℤ a.x1)) → IsTrue t) →
-    IsTrue t ↔ Meets a b
-misses_along a b t fails h = (λ yes. cc, λ met. let s = SidesMeet-Meets a b met in h (s.left, s.right))
+    IsTrue t ↔ SharesPoint a b
+misses_along a b t fails h = (λ yes. cc, λ met. let s = SidesMeet-SharesPoint a b met in h (s.left, s.right))
 
 -- where the first lies in the second along x, a test of the other axis says whether it lies in it
 pub inside_across : (a b : Rectangle) (t : Bool) → IsOrdered a → b.x0 ≤ℤ a.x0 → a.x1 ≤ℤ b.x1 →
@@ -201,21 +201,22 @@ sides-touches a b t =
     }
 
 -- a test that is true exactly where the two share a point is the test on the sides
-pub touches_is : (a b : Rectangle) (r : Bool) → IsOrdered a → IsOrdered b → (IsTrue r ↔ Meets a b) → r ≡ touches a b
-touches_is a b true o q e = sym (touches-sides a b (SidesMeet-Meets a b (e.0 refl)))
+pub touches_is : (a b : Rectangle) (r : Bool) → IsOrdered a → IsOrdered b → (IsTrue r ↔ SharesPoint a b) → r ≡
+    touches a b
+touches_is a b true o q e = sym (touches-sides a b (SidesMeet-SharesPoint a b (e.0 refl)))
 touches_is a b false o q e = elim (cases_Bool (touches a b)) [
-  | inl t ↦ absurd (false≢true (e.1 (Meets-SidesMeet a b o q (sides-touches a b t))))
+  | inl t ↦ absurd (false≢true (e.1 (SharesPoint-SidesMeet a b o q (sides-touches a b t))))
   | inr f ↦ sym f
 ]
 
 -- the same of rectangles that are equal to two in order
 pub touches_at : (a a' b b' : Rectangle) (r : Bool) → a ≡ a' → b ≡ b' → IsOrdered a → IsOrdered b →
-    (IsTrue r ↔ Meets a' b') → r ≡ touches a' b'
+    (IsTrue r ↔ SharesPoint a' b') → r ≡ touches a' b'
 touches_at a a' b b' r p q o ordered = touches_is a' b' r (subst IsOrdered p o) (subst IsOrdered q ordered)
 
 -- the same, the other way round
-pub touches-meets : (a b : Rectangle) → IsOrdered a → IsOrdered b → (touches a b ≡ true) ↔ Meets a b
+pub touches-meets : (a b : Rectangle) → IsOrdered a → IsOrdered b → (touches a b ≡ true) ↔ SharesPoint a b
 touches-meets a b o q = (
-  λ t. Meets-SidesMeet a b o q (sides-touches a b t),
-  λ met. touches-sides a b (SidesMeet-Meets a b met),
+  λ t. SharesPoint-SidesMeet a b o q (sides-touches a b t),
+  λ met. touches-sides a b (SidesMeet-SharesPoint a b met),
 )

@@ -2,7 +2,7 @@
 use Rattle.std.specs.Prelude.{◌≡◌, ℕ, ◌+◌, ◌*◌, ◌≤◌, ◌-ℤ◌, unsigned_abs}
 use Rattle.std.specs.Int.{int_min, int_max}
 use Rattle.mr_geom.specs.Rectangle.{Rectangle}
-use Rattle.mr_geom.specs.Plane.{Holds}
+use Rattle.mr_geom.specs.Plane.{HoldsPoint}
 use Rattle.mr_geom.specs.declared.point.Point.{Point}
 
 abbrev pub square : ℕ → ℕ
@@ -14,8 +14,8 @@ squared_distance p q = square (unsigned_abs (p.x -ℤ q.x)) + square (unsigned_a
 
 -- `n` is the squared distance of the point to the nearest point of the rectangle
 pub record IsLeastDistance (r : Rectangle) (p : Point) (n : ℕ) : Type 0 where
-  pub reached : (q : Point) × Holds r q × (squared_distance p q ≡ n)
-  pub least : (q : Point) → Holds r q → n ≤ squared_distance p q
+  pub reached : (q : Point) × HoldsPoint r q × (squared_distance p q ≡ n)
+  pub least : (q : Point) → HoldsPoint r q → n ≤ squared_distance p q
 
 -- the point of an ordered rectangle that is nearest to `p`, which is `p` itself where the rectangle
 -- holds it

@@ -4,15 +4,15 @@ use Rattle.mr_geom.specs.Rectangle.{Rectangle, IsOrdered}
 use Rattle.mr_geom.specs.declared.point.Point.{Point}
 
 -- the rectangle holds the point, sides included
-pub record Holds (r : Rectangle) (p : Point) : Type 0 where
+pub record HoldsPoint (r : Rectangle) (p : Point) : Type 0 where
   pub left : r.x0 ≤ℤ p.x
   pub right : p.x ≤ℤ r.x1
   pub low : r.y0 ≤ℤ p.y
   pub high : p.y ≤ℤ r.y1
 
 -- the two share a point
-abbrev pub Meets : Rectangle → Rectangle → Type 0
-Meets a b = (p : Point) × Holds a p × Holds b p
+abbrev pub SharesPoint : Rectangle → Rectangle → Type 0
+SharesPoint a b = (p : Point) × HoldsPoint a p × HoldsPoint b p
 
 -- whether two ordered rectangles share a point: neither lies wholly to one side of the other
 abbrev pub touches : Rectangle → Rectangle → Bool
@@ -20,7 +20,7 @@ touches a b = (int_le a.x0 b.x1 && int_le b.x0 a.x1) && (int_le a.y0 b.y1 && int
 
 -- the first lies in the second: each of its points is one of the second
 abbrev pub Inside : Rectangle → Rectangle → Type 0
-Inside a b = (p : Point) → Holds a p → Holds b p
+Inside a b = (p : Point) → HoldsPoint a p → HoldsPoint b p
 
 -- `r` is the least rectangle round `a` and `b`: both lie in it, and it lies in each other rectangle
 -- in which both lie

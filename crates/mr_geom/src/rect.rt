@@ -3,7 +3,7 @@
 ghost use Rattle.std.specs.Prelude.{◌≡◌, ℕ, ◌+◌, ◌-◌, ◌*◌, ◌^◌, ◌<◌, ◌≤◌, ℤ, pos, ◌-ℤ◌, ◌≤ℤ◌, ◌↔◌, IsTrue, IsSome, IfSome, SomeIff, unsigned_abs};
 ghost use Rattle.std.specs.Int.{int_min, int_max};
 ghost use Rattle.mr_geom.specs.Rectangle.{Rectangle, IsOrdered, FitsMap, rectangle_of, union, join, area};
-ghost use Rattle.mr_geom.specs.Plane.{Holds, Meets, touches, Inside, IsLeastRound};
+ghost use Rattle.mr_geom.specs.Plane.{HoldsPoint, SharesPoint, touches, Inside, IsLeastRound};
 ghost use Rattle.mr_geom.specs.Distance.{square, IsLeastDistance, least_squared_distance};
 
 use crate::Point;
@@ -56,7 +56,7 @@ impl Rect {
 
     /// Whether the two share a point, be it on the border of both.
     pub fn meets(&self, other: &Rect) -> bool
-        ensures shared { IsTrue result ↔ Meets self.now other.now }
+        ensures shared { IsTrue result ↔ SharesPoint self.now other.now }
         ensures test { result ≡ touches self.now other.now }
     {
         ranges_meet(self.x0, self.x1, other.x0, other.x1)
@@ -107,7 +107,7 @@ impl Rect {
     pub fn dist2(&self, p: &Point) -> u128
         ensures value { result ≡ least_squared_distance self.now p.now }
         ensures least { IsLeastDistance self.now p.now result }
-        ensures within { (result ≡ 0) ↔ Holds self.now p.now }
+        ensures within { (result ≡ 0) ↔ HoldsPoint self.now p.now }
         ensures bound { result ≤ 2 * ((2 ^ 32 - 1) * (2 ^ 32 - 1)) }
     {
         squared(gap(self.x0, self.x1, p.x)) + squared(gap(self.y0, self.y1, p.y))

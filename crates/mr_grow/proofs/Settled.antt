@@ -7,7 +7,7 @@ use Rattle.mr_tree.specs.Tree.{records}
 use Rattle.mr_tree.specs.declared.tree.Tree.{Tree}
 use Rattle.mr_tree.specs.declared.tree.Tree.TheVariants as tree
 use Rattle.mr_grow.specs.Shrink.{Rest, is_low}
-use Rattle.mr_grow.specs.Kept.{kept}
+use Rattle.mr_grow.specs.private.Kept.{kept}
 
 module _ (ts : List Tree) (at : ℕ) (r : Rest) where
   abbrev over : Bool → Rest

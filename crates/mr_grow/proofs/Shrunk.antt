@@ -17,8 +17,8 @@ use Rattle.mr_tree.proofs.Equations.{records-Leaf, records-Empty}
 use Rattle.mr_tree.proofs.Induction.{tree_induction}
 use Rattle.mr_grow.specs.Grow.{in_place}
 use Rattle.mr_grow.specs.Found.{has, is_numbered, place_of}
-use Rattle.mr_grow.specs.Shrink.{Rest, is_low, at_place, stays, set_aside, shrunk, shrunk_step}
-use Rattle.mr_grow.specs.Kept.{kept}
+use Rattle.mr_grow.specs.Shrink.{Rest, is_low, at_position, stays, set_aside, shrunk, shrunk_step}
+use Rattle.mr_grow.specs.private.Kept.{kept}
 use Rattle.mr_grow.proofs.Below.{fewer_nodes}
 use Rattle.mr_grow.proofs.Distinct.{numbers_same}
 use Rattle.mr_grow.proofs.Cutting.{moved}
@@ -44,7 +44,7 @@ stays_beside : (f : Tree → Rest) (ts : List Tree) → map (λ (c : Tree × Res
 stays_beside f [] = refl
 stays_beside f (t ∷ ts) = ap (λ us. (t, stays (f t)) ∷ us) (stays_beside f ts)
 
-aside_beside : (f : Tree → Rest) (k : ℕ) (ts : List Tree) (x : Tree) → k < length ts → x ≡ get_or ts k x → at_place k
+aside_beside : (f : Tree → Rest) (k : ℕ) (ts : List Tree) (x : Tree) → k < length ts → x ≡ get_or ts k x → at_position k
     (λ (c : Tree × Rest). set_aside c.1) (beside f ts) ≡ set_aside (f x)
 aside_beside f k [] x within is = absurd (omega (arith, within))
 aside_beside f zero (t ∷ ts) x within is = ap (λ u. set_aside (f u)) (sym is)
@@ -59,7 +59,7 @@ shrunk-Inner n ts x within is =
     ap (shrunk n) (sym (tree.rolls-Inner ts)) ∙ para-roll-Tree Rest (shrunk_step n) (Inner ts)
     ∙ (λ i. record {
       tree = tree.Inner (in_place (holder_beside n (shrunk n) ts i) (stays_beside (shrunk n) ts i));
-      aside = at_place (holder_beside n (shrunk n) ts i) (λ (c : Tree × Rest). set_aside c.1) (beside (shrunk n) ts);
+      aside = at_position (holder_beside n (shrunk n) ts i) (λ (c : Tree × Rest). set_aside c.1) (beside (shrunk n) ts);
     })
     ∙ (λ i. record {
       tree = tree.Inner (in_place_is (λ t. stays (shrunk n t)) (holder n ts) ts x within is i);

@@ -7,4 +7,4 @@ pub mod Shrink
 pub mod Dropped
 -- what only private functions and proofs use
 pub mod Views
-pub mod Kept
+pub mod private

@@ -8,8 +8,8 @@ use Rattle.mr_grow.specs.declared.insertion.GrowErr.{GrowErr}
 use Rattle.mr_grow.specs.declared.insertion.GrowErr.TheVariants.{Present, Full, NoMemory}
 
 -- the number is there, or it is not and there are as many records as can be; the tree comes back
-abbrev pub IsCause : GrowErr → Tree → ℕ → Type 0
-IsCause (Present back number) t n = (back ≡ t) × (number ≡ n) × (has n (records t) ≡ true)
-IsCause (Full back) t n =
+abbrev pub IsGrowCause : GrowErr → Tree → ℕ → Type 0
+IsGrowCause (Present back number) t n = (back ≡ t) × (number ≡ n) × (has n (records t) ≡ true)
+IsGrowCause (Full back) t n =
     (back ≡ t) × (has n (records t) ≡ false) × (count_limit ≤ length (records t))
-IsCause NoMemory t n = ⊤
+IsGrowCause NoMemory t n = ⊤

@@ -37,10 +37,10 @@ abbrev pub set_aside : Rest → List Record
 set_aside r = if is_low r.tree then records r.tree ++ r.aside else r.aside
 
 -- what stands at a position
-abbrev pub at_place : {X A : Type 0} → ℕ → (X → List A) → List X → List A
-at_place n f [] = []
-at_place zero f (x ∷ xs) = f x
-at_place (suc n) f (x ∷ xs) = at_place n f xs
+abbrev pub at_position : {X A : Type 0} → ℕ → (X → List A) → List X → List A
+at_position n f [] = []
+at_position zero f (x ∷ xs) = f x
+at_position (suc n) f (x ∷ xs) = at_position n f xs
 
 abbrev pub shrunk_step : ℕ → Tree-F (Tree × Rest) → Rest
 shrunk_step n Empty = record { tree = tree.Empty; aside = [] }
@@ -50,7 +50,7 @@ shrunk_step n (Inner cs) =
     let at = place_of (λ (c : Tree × Rest). has n (records c.0)) cs in
     record {
       tree = tree.Inner (in_place at (map (λ (c : Tree × Rest). (c.0, stays c.1)) cs));
-      aside = at_place at (λ (c : Tree × Rest). set_aside c.1) cs;
+      aside = at_position at (λ (c : Tree × Rest). set_aside c.1) cs;
     }
 
 -- a tree that has the record, without it

@@ -7,10 +7,10 @@ use Rattle.mr_tree.specs.declared.tree.Tree.TheOpen.{Tree-F, Empty, Leaf, Inner}
 use Rattle.mr_tree.specs.declared.tree.Tree.TheViews.{out-Tree}
 use Rattle.mr_tree.specs.declared.tree.Tree.TheFolds.{every-Tree}
 use Rattle.mr_tree.specs.WellFormed.{HasOneLevel, IsFilledRoot}
-use Rattle.mr_grow.specs.declared.nodes.Stand.{Stand}
+use Rattle.mr_grow.specs.declared.nodes.Inserted.{Inserted}
 
 -- the nodes in a subtree's place
-abbrev pub nodes_of : Stand → List Tree
+abbrev pub nodes_of : Inserted → List Tree
 nodes_of s = s.first ∷ option_to_list s.second
 
 -- each inner node has a child, and no node has more entries than it may

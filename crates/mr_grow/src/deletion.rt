@@ -8,7 +8,7 @@ ghost use Rattle.mr_tree.specs.WellFormed.{WellFormed};
 ghost use Rattle.mr_tree.specs.declared.tree.Tree as trees;
 ghost use Rattle.mr_grow.specs.Found.{has as has_number, place_of};
 ghost use Rattle.mr_grow.specs.Shrink.{is_low as is_low_tree, shrunk, shortened, all_in, del, WithoutOne};
-ghost use Rattle.mr_grow.specs.Kept.{seen, kept};
+ghost use Rattle.mr_grow.specs.private.Kept.{removal_value, kept};
 ghost use Rattle.mr_grow.specs.Dropped.{IsDropCause};
 ghost use Rattle.mr_grow.specs.Views.{IsRooted};
 
@@ -21,7 +21,7 @@ use std::alloc::{AllocError, Global};
 
 // What is left of a subtree, and the records that are set aside.
 #[derive(Drop)]
-pub struct Left {
+pub struct Removal {
     pub tree: Tree,
     pub aside: Vec<Record>,
 }
@@ -53,21 +53,26 @@ fn is_low(tree: &Tree) -> bool
 }
 
 // Puts what is left of a child where it was, or sets its records aside.
-fn settle(alloc: Global, mut children: Vec<Tree>, at: usize, left: Left) -> Result<Left, AllocError>
+fn settle(
+    alloc: Global,
+    mut children: Vec<Tree>,
+    at: usize,
+    left: Removal,
+) -> Result<Removal, AllocError>
     requires { at ≤ length children.items }
-    ensures { IfOk result (λ l. seen l ≡ kept children.items at (seen left)) }
+    ensures { IfOk result (λ l. removal_value l ≡ kept children.items at (removal_value left)) }
 {
-    let Left { tree, mut aside } = left;
+    let Removal { tree, mut aside } = left;
     if is_low(&tree) {
         let mut records = records_of(alloc, &tree)?;
         records.append(&mut aside)?;
-        Ok(Left {
+        Ok(Removal {
             tree: Tree::Inner(Items::of(children)),
             aside: records,
         })
     } else {
         children.insert(at, tree)?;
-        Ok(Left {
+        Ok(Removal {
             tree: Tree::Inner(Items::of(children)),
             aside,
         })
@@ -75,12 +80,12 @@ fn settle(alloc: Global, mut children: Vec<Tree>, at: usize, left: Left) -> Resu
 }
 
 // Takes a record out of a subtree.
-fn take_out(alloc: Global, tree: Tree, number: u64) -> Result<Left, AllocError>
+fn take_out(alloc: Global, tree: Tree, number: u64) -> Result<Removal, AllocError>
     requires { has_number number (records_in tree) ≡ true }
-    ensures { IfOk result (λ l. seen l ≡ shrunk number tree) }
+    ensures { IfOk result (λ l. removal_value l ≡ shrunk number tree) }
 {
     match tree {
-        Tree::Empty => Ok(Left {
+        Tree::Empty => Ok(Removal {
             tree: Tree::Empty,
             aside: Vec::new(alloc),
         }),
@@ -88,7 +93,7 @@ fn take_out(alloc: Global, tree: Tree, number: u64) -> Result<Left, AllocError>
             let mut records = records.into_vec();
             let at = position_of(&records, number);
             records.remove(at);
-            Ok(Left {
+            Ok(Removal {
                 tree: Tree::Leaf(Items::of(records)),
                 aside: Vec::new(alloc),
             })
@@ -156,7 +161,7 @@ pub fn shrink(alloc: Global, tree: Tree, number: u64) -> Result<Tree, AllocError
     ensures well_formed { IfOk result WellFormed }
     ensures records { IfOk result (λ t. WithoutOne number (records_in tree) (records_in t)) }
 {
-    let Left { tree, mut aside } = take_out(alloc, tree, number)?;
+    let Removal { tree, mut aside } = take_out(alloc, tree, number)?;
     sort_by_number(&mut aside)?;
     put_all(alloc, shorten(tree), &aside)
 }

@@ -10,25 +10,25 @@ ghost use Rattle.mr_tree.specs.WellFormed.{WellFormed};
 ghost use Rattle.mr_tree.specs.declared.tree.Tree.TheFolds.{every-Tree};
 ghost use Rattle.mr_grow.specs.Found.{has as has_number};
 ghost use Rattle.mr_grow.specs.Grow.{grown, ins};
-ghost use Rattle.mr_grow.specs.Refused.{IsCause};
+ghost use Rattle.mr_grow.specs.Refused.{IsGrowCause};
 ghost use Rattle.mr_grow.specs.Views.{nodes_of, HasRoom};
 
 use crate::entry::place_for;
 use crate::finding::has;
-use crate::nodes::{Stand, inner_nodes, leaves};
+use crate::nodes::{Inserted, inner_nodes, leaves};
 use mr_outside::Items;
 use mr_record::{Record, is_record};
 use mr_tree::{COUNT_LIMIT, Tree, count_of};
 use std::alloc::{AllocError, Global};
 
 // Puts what stands in a child's place where the child was.
-fn put_back(mut children: Vec<Tree>, at: usize, stand: Stand) -> Result<Vec<Tree>, AllocError>
+fn put_back(mut children: Vec<Tree>, at: usize, stand: Inserted) -> Result<Vec<Tree>, AllocError>
     requires { at ≤ length children.items }
     ensures value { IfOk result (λ v. v.items
         ≡ take at children.items ++ (nodes_of stand ++ drop at children.items)) }
-    ensures few { IfOk result (λ v. length v.items ≤ length children.items + 2) }
+    ensures length_at_most { IfOk result (λ v. length v.items ≤ length children.items + 2) }
 {
-    let Stand { first, second } = stand;
+    let Inserted { first, second } = stand;
     if let Some(second) = second {
         children.insert(at, second)?;
     }
@@ -37,7 +37,7 @@ fn put_back(mut children: Vec<Tree>, at: usize, stand: Stand) -> Result<Vec<Tree
 }
 
 // Puts a record into a subtree.
-fn put_into(alloc: Global, tree: Tree, one: Record) -> Result<Stand, AllocError>
+fn put_into(alloc: Global, tree: Tree, one: Record) -> Result<Inserted, AllocError>
     requires { every-Tree HasRoom tree }
     ensures { IfOk result (λ s. nodes_of s ≡ grown one tree) }
 {
@@ -63,7 +63,7 @@ pub(crate) fn inserted(alloc: Global, tree: Tree, one: Record) -> Result<Tree, A
     requires { every-Tree HasRoom tree }
     ensures { IfOk result (λ t. t ≡ ins one tree) }
 {
-    let Stand { first, second } = put_into(alloc, tree, one)?;
+    let Inserted { first, second } = put_into(alloc, tree, one)?;
     match second {
         None => Ok(first),
         Some(second) => Ok(Tree::Inner(Items::of(Vec::from_array(alloc, [first, second])?))),
@@ -117,7 +117,7 @@ pub fn insert(alloc: Global, tree: Tree, one: Record) -> Result<Tree, GrowErr>
     ensures records { IfOk result (λ t. IsPermutation (one ∷ records tree) (records t)) }
     ensures admitted { OnOk result ((has_number one.number (records tree) ≡ false)
         × (length (records tree) < count_limit)) }
-    ensures refused { IfErr result (λ e. IsCause e tree one.number) }
+    ensures refused { IfErr result (λ e. IsGrowCause e tree one.number) }
 {
     if has(&tree, one.number) {
         return Err(GrowErr::Present(tree, one.number));

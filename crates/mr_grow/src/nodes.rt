@@ -14,25 +14,25 @@ use std::alloc::{AllocError, Global};
 
 // What stands in a subtree's place: its first node, and a second one where it was split.
 #[derive(Drop)]
-pub struct Stand {
+pub struct Inserted {
     pub first: Tree,
     pub second: Option<Tree>,
 }
 
 // A leaf of these records, or two where they are too many for one.
-pub(crate) fn leaves(alloc: Global, records: Vec<Record>) -> Result<Stand, AllocError>
+pub(crate) fn leaves(alloc: Global, records: Vec<Record>) -> Result<Inserted, AllocError>
     requires { length records.items ≤ 17 }
     ensures { IfOk result (λ s. nodes_of s ≡ leaves_over records.items) }
 {
     if records.len() > LEAF_LIMIT as usize {
         let sides = sides(alloc, &rects_of(alloc, &records)?, LEAF_FILL as usize)?;
         let (first, second) = part(alloc, records, &sides)?;
-        Ok(Stand {
+        Ok(Inserted {
             first: Tree::Leaf(Items::of(first)),
             second: Some(Tree::Leaf(Items::of(second))),
         })
     } else {
-        Ok(Stand {
+        Ok(Inserted {
             first: Tree::Leaf(Items::of(records)),
             second: None,
         })
@@ -40,19 +40,19 @@ pub(crate) fn leaves(alloc: Global, records: Vec<Record>) -> Result<Stand, Alloc
 }
 
 // An inner node over these nodes, or two where they are too many for one.
-pub(crate) fn inner_nodes(alloc: Global, children: Vec<Tree>) -> Result<Stand, AllocError>
+pub(crate) fn inner_nodes(alloc: Global, children: Vec<Tree>) -> Result<Inserted, AllocError>
     requires { length children.items ≤ 65 }
     ensures { IfOk result (λ s. nodes_of s ≡ nodes_over children.items) }
 {
     if children.len() > INNER_LIMIT as usize {
         let sides = sides(alloc, &rects_of(alloc, &children)?, INNER_FILL as usize)?;
         let (first, second) = part(alloc, children, &sides)?;
-        Ok(Stand {
+        Ok(Inserted {
             first: Tree::Inner(Items::of(first)),
             second: Some(Tree::Inner(Items::of(second))),
         })
     } else {
-        Ok(Stand {
+        Ok(Inserted {
             first: Tree::Inner(Items::of(children)),
             second: None,
         })

@@ -9,10 +9,10 @@ use Rattle.mr_journal.specs.declared.disk.DiskErr.{DiskErr}
 use Rattle.mr_journal.specs.Images.{Image, DiskState, written, InArea, Unchanged}
 use Rattle.mr_journal.specs.Torn.{Torn, TornAt}
 use Rattle.mr_journal.specs.Moments.{ImagesSince, EveryImage, IsAfterStep, AddsOnly, AddsSteps, IsDurable, IsOnlyImage, LeadsThrough}
-use Rattle.mr_journal.specs.Format.{number_of, entries, placed, put_pages, ready, carried, opens, body_of, is_open, restored}
-use Rattle.mr_journal.specs.Parsed.{places, with_pages, first_of, IsParsed}
+use Rattle.mr_journal.specs.Format.{number_of, entries, pages_fit, put_pages, ready, carried, opens, body_of, is_open, restored}
+use Rattle.mr_journal.specs.private.Parsed.{places, with_pages, first_of, IsParsed}
 use Rattle.mr_journal.specs.States.{IsShutAt, IsArmedFor, IsSettledAt, EitherOf, RestoresAs}
-use Rattle.mr_journal.specs.Progress.{HasGate, IsClearedAt, IsInvalidAt, IsFilledBy, IsArmedBy, IsCarriedBy}
+use Rattle.mr_journal.specs.private.Progress.{HasGate, IsClearedAt, IsInvalidAt, IsFilledBy, IsArmedBy, IsCarriedBy}
 use Rattle.mr_journal.proofs.Paging.{placed_more, absorbed, ready_append, carried_append, head_kept, head_put, way_long}
 use Rattle.mr_journal.proofs.Running.{Earlier, now_from, every_after, course_weaker, course_then, moves_course, answered}
 
@@ -238,7 +238,7 @@ pub armed_torn : (body : List ℕ) (size count : ℕ) (bytes : List ℕ) → IsP
     → (map : List ℕ) (d x : Image)
     → IsArmedBy body map d → InArea Map (Torn (places size (entries size count bytes))) d x → IsArmedBy body map x
 armed_torn body size count bytes p map d x a t =
-    let fit : placed size 0 (length d.map) (entries size count bytes) ≡ true = sym (p.fits (length d.map)) ∙ a.fit in
+    let fit : pages_fit size 0 (length d.map) (entries size count bytes) ≡ true = sym (p.fits (length d.map)) ∙ a.fit in
     record {
       open_by = record { rest = a.open_by.rest; is = t.1 ∙ a.open_by.is };
       fit = p.fits (length x.map) ∙ placed_more size 0 (length d.map) (length x.map) (entries size count bytes)
@@ -516,7 +516,7 @@ restored_parsed map journal body n size count bytes long is fit p =
     (ap (λ (k : ℕ). ready k body) long ∙ fit)).makes ∙ p.makes map
 
 placed_in : (map body : List ℕ) (n size count : ℕ) (bytes : List ℕ) → length map ≡ n → ready n body ≡ true
-    → IsParsed body size count bytes → placed size 0 (length map) (entries size count bytes) ≡ true
+    → IsParsed body size count bytes → pages_fit size 0 (length map) (entries size count bytes) ≡ true
 placed_in map body n size count bytes long fit p = sym (p.fits (length map)) ∙ ap (λ (k : ℕ). ready k body) long ∙ fit
 
 pub head_same : (map journal body : List ℕ) (n size count : ℕ) (bytes : List ℕ) → length map ≡ n → journal ≡ 79 ∷ body

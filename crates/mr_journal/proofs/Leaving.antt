@@ -6,7 +6,7 @@ use Rattle.mr_outside.specs.Files.{replaced}
 use Rattle.mr_journal.specs.declared.disk.Area.TheVariants.{Journal}
 use Rattle.mr_journal.specs.Images.{Image, written}
 use Rattle.mr_journal.specs.Format.{ready, body_of, is_open, restored, recovered, changed_by}
-use Rattle.mr_journal.specs.Progress.{behind, opened_by, closed_by}
+use Rattle.mr_journal.specs.private.Progress.{behind, opened_by, closed_by}
 use Rattle.mr_journal.proofs.Gating.{shut_restores, armed_whole, armed_for}
 
 pub some_body : (n : ℕ) (body : List ℕ) → ready n body ≡ true → 1 ≤ length body

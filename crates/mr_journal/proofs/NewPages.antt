@@ -8,7 +8,7 @@ use Rattle.std.proofs.Math.Nat.{mul-le-mul_right}
 use Rattle.std.proofs.lemmas.Bool.{cases_Bool, cases_lt, and_from}
 use Rattle.std.proofs.lemmas.Slice.Eq.{bytes_eq-Decides}
 use Rattle.mr_outside.specs.Files.{replaced}
-use Rattle.mr_journal.specs.Format.{Page, fits, placed, put_pages, page_of, page_size, is_version, ready, carried, spelled_number, spelled_page, spelled}
+use Rattle.mr_journal.specs.Format.{Page, fits, pages_fit, put_pages, page_of, page_size, is_version, ready, carried, spelled_number, spelled_page, spelled}
 use Rattle.mr_journal.specs.Changed.{page_in, is_changed, changed, spelled_if, IsLonger, IsChange}
 use Rattle.mr_journal.proofs.Paging.{fits_from}
 use Rattle.mr_journal.proofs.Spelled.{spelled_ready, spelled_carried}
@@ -135,20 +135,20 @@ module _ (size : ℕ) (old new : List ℕ) (some : 1 ≤ size) where
   -- they stand where they may
   placed_all : (number left low reach : ℕ) → length new ≡ (number + left) * size → number + left ≤ 2 ^ 20 → low ≤ number
       → length old ≤ reach → at number ≤ reach
-      → placed size low reach (changed size old new number left) ≡ true
-  placed_all number zero low reach whole few rises longer begins = ap (placed size low reach)
+      → pages_fit size low reach (changed size old new number left) ≡ true
+  placed_all number zero low reach whole few rises longer begins = ap (pages_fit size low reach)
       (changed_none size old new number)
   placed_all number (suc left) low reach whole few rises longer begins =
       let whole' : length new ≡ (number + 1 + left) * size = whole ∙ ap (λ (k : ℕ). k * size) (omega arith) in
       let long : length (page_in size number new) ≡ size = page_long number (number + suc left) (omega arith) whole in
       elim (cases_Bool (is_changed size number old new)) [
-        | inl is ↦ ap (placed size low reach) (changed_taken size old new number left is)
+        | inl is ↦ ap (pages_fit size low reach) (changed_taken size old new number left is)
             ∙ and_from (fits size low reach (page_of number (page_in size number new))) _
             (fits_from size low reach (page_of number (page_in size number new))
             (record { whole = long; rises = rises; below = omega (arith, few); begins = begins }))
             (placed_all (number + 1) left (number + 1) (max reach (number * size + size)) whole' (omega (arith, few))
             (omega arith) (omega (arith, longer)) (omega (arith, next number)))
-        | inr not ↦ ap (placed size low reach) (changed_left size old new number left not)
+        | inr not ↦ ap (pages_fit size low reach) (changed_left size old new number left not)
             ∙ placed_all (number + 1) left low reach whole' (omega (arith, few)) (omega (arith, rises)) longer
             (omega (arith, next number, longer, there number long (same_page size number old new not)))
       ]
@@ -203,7 +203,8 @@ is_change version pages old new body known size longer is =
     let few : length ps ≤ 2 ^ 20 = omega (arith, count_all size_of old new 0 pages, longer.few) in
     let none : 0 * size_of ≡ 0 = grind arith in
     let whole : length new ≡ (0 + pages) * size_of = longer.whole ∙ ap (λ (k : ℕ). k * size_of) (omega arith) in
-    let stand : placed size_of 0 (length old) ps ≡ true = placed_all size_of old new size 0 pages 0 (length old) whole
+    let stand : pages_fit size_of 0 (length old) ps ≡ true = placed_all size_of old new size 0 pages 0
+    (length old) whole
     (omega (arith, longer.few)) (omega arith) (omega arith) (omega arith) in
     record {
       pages = pages;

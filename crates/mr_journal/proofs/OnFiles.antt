@@ -9,7 +9,7 @@ use Rattle.mr_journal.specs.Moments.{AddsOnly}
 use Rattle.mr_journal.specs.Format.{is_open, restored, recovered}
 use Rattle.mr_journal.specs.States.{RestoresAs}
 use Rattle.mr_journal.specs.Shelves.{image_on, disk_state, images_on, KeepsBeside, KeepsShelf}
-use Rattle.mr_journal.specs.Recovered.{FilesHave, restored_in, Recovers}
+use Rattle.mr_journal.specs.Recovered.{FilesHave, restored_in, RecoversMap}
 
 same_image : (x y : Image) → Some x ≡ Some y → x ≡ y
 same_image x y e = cc
@@ -60,12 +60,12 @@ module _ (m j : List ℕ) (s u : Shelved) (kept : KeepsBeside m j s.files u.file
 
   pub recovers : (r : Result Bool DiskErr)
       → OnOk r ((disk_state m j u).contents ≡ option_map recovered (disk_state m j s).contents)
-      → IfOk r (λ was. IfSome (disk_state m j s).contents (λ k. was ≡ is_open k)) → Recovers m j s.files u.files r
+      → IfOk r (λ was. IfSome (disk_state m j s).contents (λ k. was ≡ is_open k)) → RecoversMap m j s.files u.files r
   recovers r left answer = by_files s.files refl r left answer
     where
       by_files : (o : Option Files) → s.files ≡ o → (r : Result Bool DiskErr)
           → OnOk r ((disk_state m j u).contents ≡ option_map recovered (disk_state m j s).contents)
-          → IfOk r (λ was. IfSome (disk_state m j s).contents (λ k. was ≡ is_open k)) → Recovers m j o u.files r
+          → IfOk r (λ was. IfSome (disk_state m j s).contents (λ k. was ≡ is_open k)) → RecoversMap m j o u.files r
       by_files None is r left answer = tt
       by_files (Some files) is (Ok was) left answer = (
         subst (λ (o : Option Image). IfSome o (λ k. was ≡ is_open k)) (ap (option_map (image_on m j)) is) answer,
@@ -76,7 +76,7 @@ module _ (m j : List ℕ) (s u : Shelved) (kept : KeepsBeside m j s.files u.file
           (λ new. restored_in m j new ≡ restored_in m j files) (λ new now. restores files new is now)
 
 -- nothing was done
-pub recovers_none : (m j : List ℕ) (told : Option Files) (e : DiskErr) → Recovers m j told told (Err e)
+pub recovers_none : (m j : List ℕ) (told : Option Files) (e : DiskErr) → RecoversMap m j told told (Err e)
 recovers_none m j None e = tt
 recovers_none m j (Some files) e = refl
 
@@ -85,14 +85,14 @@ pub recovers_as : (m j m0 m1 j0 j1 : List ℕ) (s u : Shelved) → m0 ≡ m → 
     → AddsOnly (disk_state m0 j0 s) (disk_state m1 j1 u) (images_on m0 j0 s) (images_on m1 j1 u)
     (RestoresAs (disk_state m0 j0 s) (images_on m0 j0 s)) → (r : Result Bool DiskErr)
     → OnOk r ((disk_state m1 j1 u).contents ≡ option_map recovered (disk_state m0 j0 s).contents)
-    → IfOk r (λ was. IfSome (disk_state m0 j0 s).contents (λ k. was ≡ is_open k)) → Recovers m j s.files u.files r
+    → IfOk r (λ was. IfSome (disk_state m0 j0 s).contents (λ k. was ≡ is_open k)) → RecoversMap m j s.files u.files r
 recovers_as m j m0 m1 j0 j1 s u name_in also kept any r left answer =
     let R : Image → Type 0 = RestoresAs (disk_state m0 j0 s) (images_on m0 j0 s) in
     let A : List ℕ → List ℕ → Type 0 = λ x y. AddsOnly (disk_state m0 j0 s) (disk_state x y u) (images_on m0 j0 s)
     (images_on x y u) R in
     let L : List ℕ → List ℕ → Type 0 = λ x y. OnOk r
     ((disk_state x y u).contents ≡ option_map recovered (disk_state m0 j0 s).contents) in
-    subst (λ x. Recovers x j s.files u.files r) name_in
-    (subst (λ y. Recovers m0 y s.files u.files r) also
+    subst (λ x. RecoversMap x j s.files u.files r) name_in
+    (subst (λ y. RecoversMap m0 y s.files u.files r) also
     (recovers m0 j0 s u kept.beside (subst (λ x. A x j0) kept.map (subst (λ y. A m1 y) kept.journal any)) r
     (subst (λ x. L x j0) kept.map (subst (λ y. L m1 y) kept.journal left)) answer))

@@ -4,10 +4,10 @@ use Rattle.std.proofs.lemmas.List.{ext_get_or, length-take, length-drop, drop-ap
 use Rattle.std.proofs.lemmas.Bool.{cases_lt, and_parts, and_from, and_right, and_left, eqb-true, leb-true, ltb-true, le-leb, lt-ltb, eq-eqb, lt-leb, false≢true}
 use Rattle.mr_outside.specs.Files.{replaced}
 use Rattle.mr_journal.specs.Torn.{Range, IsTouched, greatest, Torn, TornAt}
-use Rattle.mr_journal.specs.Format.{Page, number_of, first_page, entries, fits, placed, put_pages, ready, carried, page_size, is_version, has_count}
-use Rattle.mr_journal.specs.Parsed.{places, IsParsed}
-use Rattle.mr_journal.specs.ReplacedLaws.{length-replaced, replaced_before, replaced_within, replaced_behind}
-use Rattle.mr_journal.specs.TornLaws.{greatest_le, greatest_more}
+use Rattle.mr_journal.specs.Format.{Page, number_of, first_page, entries, fits, pages_fit, put_pages, ready, carried, page_size, is_version, has_count}
+use Rattle.mr_journal.specs.private.Parsed.{places, IsParsed}
+use Rattle.mr_journal.specs.private.ReplacedLaws.{length-replaced, replaced_before, replaced_within, replaced_behind}
+use Rattle.mr_journal.specs.private.TornLaws.{greatest_le, greatest_more}
 use Rattle.std.proofs.lemmas.List.{get_or-take, get_or-drop}
 
 -- what it says that a page fits
@@ -31,21 +31,22 @@ fits_from size low reach page f =
     (and_from (nat_le low page.number) _ (le-leb _ _ f.rises)
     (and_from (nat_lt page.number (2 ^ 20)) _ (lt-ltb _ _ f.below) (le-leb _ _ f.begins)))
 
-pub placed_parts : (size low reach : ℕ) (page : Page) (pages : List Page) → placed size low reach (page ∷ pages) ≡ true
-    → Fits size low reach page × (placed size (page.number + 1) (max reach (page.number * size + size)) pages ≡ true)
+pub placed_parts : (size low reach : ℕ) (page : Page) (pages : List Page) → pages_fit size low reach (page ∷ pages)
+    ≡ true
+    → Fits size low reach page × (pages_fit size (page.number + 1) (max reach (page.number * size + size)) pages ≡ true)
 placed_parts size low reach page pages h =
     let a = and_parts (fits size low reach page)
-    (placed size (page.number + 1) (max reach (page.number * size + size)) pages) h in
+    (pages_fit size (page.number + 1) (max reach (page.number * size + size)) pages) h in
     (fits_parts size low reach page a.0, a.1)
 
 -- they stand in a longer map too
-pub placed_more : (size low m n : ℕ) (pages : List Page) → m ≤ n → placed size low m pages ≡ true
-    → placed size low n pages ≡ true
+pub placed_more : (size low m n : ℕ) (pages : List Page) → m ≤ n → pages_fit size low m pages ≡ true
+    → pages_fit size low n pages ≡ true
 placed_more size low m n [] le h = refl
 placed_more size low m n (page ∷ pages) le h =
     let a = placed_parts size low m page pages h in
     let f = a.0 in
-    and_from (fits size low n page) (placed size (page.number + 1) (max n (page.number * size + size)) pages)
+    and_from (fits size low n page) (pages_fit size (page.number + 1) (max n (page.number * size + size)) pages)
     (fits_from size low n page (record {
       whole = f.whole;
       rises = f.rises;
@@ -87,7 +88,7 @@ torn_over at size bytes rs a c long le t = record {
 }
 
 -- Pages that are put in again over a map that is torn where they stand.
-pub absorbed : (size low : ℕ) (pages : List Page) (a c : List ℕ) → placed size low (length a) pages ≡ true
+pub absorbed : (size low : ℕ) (pages : List Page) (a c : List ℕ) → pages_fit size low (length a) pages ≡ true
     → Torn (places size pages) a c → put_pages size pages c ≡ put_pages size pages a
 absorbed size low [] a c h t = ext_get_or 0 c a (omega (arith, t.no_shorter, t.no_longer))
     (λ i lt. t.else_stays i (omega (arith, t.no_shorter, t.no_longer)) (λ x. x))
@@ -97,8 +98,8 @@ absorbed size low (page ∷ pages) a c h t =
     let at = page.number * size in
     let long : max (length a) (at + size) ≡ length (replaced at page.bytes a) = omega
     (arith, f.whole, f.begins, length-replaced at page.bytes a) in
-    let rest : placed size (page.number + 1) (length (replaced at page.bytes a)) pages ≡ true = subst
-    (λ (n : ℕ). placed size (page.number + 1) n pages ≡ true) long p.1 in
+    let rest : pages_fit size (page.number + 1) (length (replaced at page.bytes a)) pages ≡ true = subst
+    (λ (n : ℕ). pages_fit size (page.number + 1) n pages ≡ true) long p.1 in
     absorbed size (page.number + 1) pages (replaced at page.bytes a) (replaced at page.bytes c) rest
     (torn_over at size page.bytes (places size pages) a c f.whole f.begins t)
 
@@ -147,7 +148,7 @@ number_short (a ∷ b ∷ c ∷ d ∷ bytes) lt = absurd (omega arith)
 
 -- what is ignored behind the entries
 entries_append : (size low reach n : ℕ) (bytes rest : List ℕ) → 1 ≤ size
-    → placed size low reach (entries size n bytes) ≡ true → entries size n (bytes ++ rest) ≡ entries size n bytes
+    → pages_fit size low reach (entries size n bytes) ≡ true → entries size n (bytes ++ rest) ≡ entries size n bytes
 entries_append size low reach zero bytes rest some h = refl
 entries_append size low reach (suc n) bytes rest some h =
     let p = placed_parts size low reach (first_page size bytes) (entries size n (drop (4 + size) bytes)) h in
@@ -179,17 +180,17 @@ pub record Parts (n : ℕ) (body : List ℕ) : Type 0 where
   pub known : is_version version ≡ true
   pub count : has_count (number_of rest) ≡ true
   pub long : 4 ≤ length rest
-  pub placed_in : placed (page_size version) 0 n (entries (page_size version) (number_of rest) (drop 4 rest)) ≡ true
+  pub placed_in : pages_fit (page_size version) 0 n (entries (page_size version) (number_of rest) (drop 4 rest)) ≡ true
 
 pub parts : (n : ℕ) (body : List ℕ) → ready n body ≡ true → Parts n body
 unfolding ready
 parts n [] h = absurd (false≢true h)
 parts n (version ∷ rest) h =
     let a = and_parts (is_version version)
-    (has_count (number_of rest) && placed (page_size version) 0 n
+    (has_count (number_of rest) && pages_fit (page_size version) 0 n
     (entries (page_size version) (number_of rest) (drop 4 rest))) h in
     let b = and_parts (has_count (number_of rest))
-    (placed (page_size version) 0 n (entries (page_size version) (number_of rest) (drop 4 rest))) a.1 in
+    (pages_fit (page_size version) 0 n (entries (page_size version) (number_of rest) (drop 4 rest))) a.1 in
     let c = and_parts (nat_le 1 (number_of rest)) (nat_le (number_of rest) (2 ^ 20)) b.0 in
     record {
       version = version;
@@ -203,7 +204,7 @@ parts n (version ∷ rest) h =
     }
 
 pub ready_from : (n : ℕ) (version : ℕ) (rest : List ℕ) → is_version version ≡ true → has_count (number_of rest) ≡ true
-    → placed (page_size version) 0 n (entries (page_size version) (number_of rest) (drop 4 rest)) ≡ true
+    → pages_fit (page_size version) 0 n (entries (page_size version) (number_of rest) (drop 4 rest)) ≡ true
     → ready n (version ∷ rest) ≡ true
 unfolding ready
 ready_from n version rest known count h = and_from (is_version version) _ known
@@ -227,7 +228,7 @@ ready_append n body more h =
     ∙ entries_append (page_size p.version) 0 n (number_of p.rest) (drop 4 p.rest) more (sized p.version) p.placed_in in
     subst (λ (b : List ℕ). ready n (b ++ more) ≡ true) (sym p.is)
     (ready_from n p.version (p.rest ++ more) p.known (ap has_count number ∙ p.count)
-    (ap (placed (page_size p.version) 0 n) same ∙ p.placed_in))
+    (ap (pages_fit (page_size p.version) 0 n) same ∙ p.placed_in))
 
 pub carried_append : (n : ℕ) (body more map : List ℕ) → ready n body ≡ true
     → carried (body ++ more) map ≡ carried body map
@@ -265,9 +266,9 @@ parsed version rest known long low high small = record {
   small = small;
   large = large version;
   some = low;
-  fits = λ n. ap (λ (b : Bool). b && (has_count (number_of rest) && placed (page_size version) 0 n
+  fits = λ n. ap (λ (b : Bool). b && (has_count (number_of rest) && pages_fit (page_size version) 0 n
       (entries (page_size version) (number_of rest) (drop 4 rest)))) known
-      ∙ ap (λ (b : Bool). b && placed (page_size version) 0 n
+      ∙ ap (λ (b : Bool). b && pages_fit (page_size version) 0 n
       (entries (page_size version) (number_of rest) (drop 4 rest)))
       (and_from (nat_le 1 (number_of rest)) (nat_le (number_of rest) (2 ^ 20)) (le-leb _ _ low) (le-leb _ _ high));
   makes = λ map. refl;
@@ -312,13 +313,14 @@ parsed_at body size count bytes v r is a b c known long low high small large =
 pub placed_next : (size low reach left number next : ℕ) (rest after : List ℕ) → 0 < left → number ≡ number_of rest
     → after ≡ drop (4 + size) rest → next ≡ max reach (number * size + size)
     → fits size low reach (first_page size rest) ≡ true
-    → placed size (number + 1) next (entries size (left - 1) after) ≡ placed size low reach (entries size left rest)
+    → pages_fit size (number + 1) next (entries size (left - 1) after) ≡ pages_fit size low reach
+    (entries size left rest)
 placed_next size low reach zero number next rest after some is behind to fit = absurd (omega arith)
 placed_next size low reach (suc n) number next rest after some is behind to fit =
     let count : suc n - 1 ≡ n = omega arith in
     let goes : next ≡ max reach (number_of rest * size + size) = to ∙ ap (λ (k : ℕ). max reach (k * size + size)) is in
-    (λ i. placed size (is i + 1) (goes i) (entries size (count i) (behind i)))
-    ∙ sym (ap (λ (b : Bool). b && placed size (number_of rest + 1) (max reach (number_of rest * size + size))
+    (λ i. pages_fit size (is i + 1) (goes i) (entries size (count i) (behind i)))
+    ∙ sym (ap (λ (b : Bool). b && pages_fit size (number_of rest + 1) (max reach (number_of rest * size + size))
     (entries size n (drop (4 + size) rest))) fit)
 
 pub short_body : (n : ℕ) (body : List ℕ) → length body < 1 → ready n body ≡ false
@@ -327,7 +329,7 @@ short_body n (v ∷ r) lt = absurd (omega arith)
 
 -- a place below all pages
 pub put_low : (size low i : ℕ) (pages : List Page) (m : List ℕ) → 1 ≤ low → i < size
-    → placed size low (length m) pages ≡ true → get_or (put_pages size pages m) i 0 ≡ get_or m i 0
+    → pages_fit size low (length m) pages ≡ true → get_or (put_pages size pages m) i 0 ≡ get_or m i 0
 put_low size low i [] m some lt h = refl
 put_low size low i (page ∷ pages) m some lt h =
     let p = placed_parts size low (length m) page pages h in
@@ -337,7 +339,7 @@ put_low size low i (page ∷ pages) m some lt h =
     let long : max (length m) (at + size) ≡ length (replaced at page.bytes m) = omega
     (arith, f.whole, f.begins, length-replaced at page.bytes m) in
     put_low size (page.number + 1) i pages (replaced at page.bytes m) (omega arith) lt
-    (subst (λ (n : ℕ). placed size (page.number + 1) n pages ≡ true) long p.1)
+    (subst (λ (n : ℕ). pages_fit size (page.number + 1) n pages ≡ true) long p.1)
     ∙ replaced_before at page.bytes m i (omega (arith, behind)) (omega (arith, behind, f.begins))
   where
     at_least : (n size : ℕ) → 1 ≤ n → size ≤ n * size
@@ -345,7 +347,8 @@ put_low size low i (page ∷ pages) m some lt h =
     at_least (suc n) size le = grind arith
 
 -- byte 4 of the map, where page 0 is not put in, and where it is
-pub head_kept : (size n : ℕ) (bytes m : List ℕ) → 4096 ≤ size → placed size 0 (length m) (entries size n bytes) ≡ true
+pub head_kept : (size n : ℕ) (bytes m : List ℕ) → 4096 ≤ size → pages_fit size 0 (length m) (entries size n bytes)
+    ≡ true
     → (number_of bytes ≡ 0 → ⊥) → get_or (put_pages size (entries size n bytes) m) 4 0 ≡ get_or m 4 0
 head_kept size zero bytes m large h some = refl
 head_kept size (suc n) bytes m large h some =
@@ -353,9 +356,9 @@ head_kept size (suc n) bytes m large h some =
     let pages = entries size n (drop (4 + size) bytes) in
     let p = placed_parts size 0 (length m) page pages h in
     let f = p.0 in
-    let up : placed size 1 (length m) (page ∷ pages) ≡ true =
+    let up : pages_fit size 1 (length m) (page ∷ pages) ≡ true =
     and_from (fits size 1 (length m) page)
-    (placed size (page.number + 1) (max (length m) (page.number * size + size)) pages)
+    (pages_fit size (page.number + 1) (max (length m) (page.number * size + size)) pages)
     (fits_from size 1 (length m) page (record {
       whole = f.whole;
       rises = positive page.number some;
@@ -369,7 +372,7 @@ head_kept size (suc n) bytes m large h some =
     positive (suc k) ne = omega arith
 
 pub head_put : (size n : ℕ) (bytes m : List ℕ) → 4096 ≤ size → 1 ≤ n
-    → placed size 0 (length m) (entries size n bytes) ≡ true → number_of bytes ≡ 0
+    → pages_fit size 0 (length m) (entries size n bytes) ≡ true → number_of bytes ≡ 0
     → get_or (put_pages size (entries size n bytes) m) 4 0 ≡ get_or bytes 8 0
 head_put size zero bytes m large some h none = absurd (omega arith)
 head_put size (suc n) bytes m large some h none =
@@ -382,7 +385,7 @@ head_put size (suc n) bytes m large some h none =
     let long : max (length m) (at + size) ≡ length (replaced at page.bytes m) = omega
     (arith, f.whole, f.begins, length-replaced at page.bytes m) in
     put_low size (number_of bytes + 1) 4 pages (replaced at page.bytes m) (omega arith) (omega (arith, large))
-    (subst (λ (k : ℕ). placed size (number_of bytes + 1) k pages ≡ true) long p.1)
+    (subst (λ (k : ℕ). pages_fit size (number_of bytes + 1) k pages ≡ true) long p.1)
     ∙ replaced_within at page.bytes m 4 f.begins (omega (arith, start)) (omega (arith, f.whole, large))
     ∙ ap (λ (k : ℕ). get_or page.bytes (4 - k) 0) start
     ∙ get_or-take size (drop 4 bytes) 4 0 (omega (arith, large))
@@ -393,7 +396,7 @@ head_put size (suc n) bytes m large some h none =
 
 -- an entry that is left is whole
 pub way_long : (size low reach left : ℕ) (rest : List ℕ) → 1 ≤ size → 0 < left
-    → placed size low reach (entries size left rest) ≡ true → 4 + size ≤ length rest
+    → pages_fit size low reach (entries size left rest) ≡ true → 4 + size ≤ length rest
 way_long size low reach zero rest some more h = absurd (omega arith)
 way_long size low reach (suc n) rest some more h =
     let p = placed_parts size low reach (first_page size rest) (entries size n (drop (4 + size) rest)) h in

@@ -7,8 +7,8 @@ use Rattle.mr_journal.specs.declared.disk.Area.{Area}
 use Rattle.mr_journal.specs.declared.mem_disk.Call.{Call}
 use Rattle.mr_journal.specs.MemoryDisk.{AreaState, area_after, MayBeLeft}
 use Rattle.mr_journal.specs.Picks.{IsGarbledByte, IsGarbled, IsPicked}
-use Rattle.mr_journal.specs.MemoryLaws.{IsFine}
-use Rattle.mr_journal.specs.TornLaws.{torn_same}
+use Rattle.mr_journal.specs.private.MemoryLaws.{IsFine}
+use Rattle.mr_journal.specs.private.TornLaws.{torn_same}
 
 abbrev LiesIn : Range → ℕ → Type 0
 LiesIn r place = (r.0 ≤ place) × (place < r.0 + r.1)

@@ -18,9 +18,9 @@ use Rattle.mr_journal.specs.Images.{Image, part, written, InArea, Unchanged}
 use Rattle.mr_journal.specs.Torn.{Torn, TornAt}
 use Rattle.mr_journal.specs.Moments.{AddsSteps, TakesTime, IsDurable, IsDiskCall, KeepsImages}
 use Rattle.mr_journal.specs.MemoryDisk.{AreaState, at_rest, carried_out, change, area_after, contents_after, MayBeLeft, IsImage, memory_state, left_since, first_image}
-use Rattle.mr_journal.specs.Traced.{write_call}
-use Rattle.mr_journal.specs.TornLaws.{torn_same, torn_put, torn_split}
-use Rattle.mr_journal.specs.MemoryLaws.{fine_stored}
+use Rattle.mr_journal.specs.private.Traced.{write_call}
+use Rattle.mr_journal.specs.private.TornLaws.{torn_same, torn_put, torn_split}
+use Rattle.mr_journal.specs.private.MemoryLaws.{fine_stored}
 
 pub stored_more : (area : Area) (first : List ℕ) (calls : List Call) (call : Call)
     → area_after area first (calls ++ call ∷ []) ≡ change area (area_after area first calls) call

@@ -18,8 +18,8 @@ use Rattle.mr_journal.specs.declared.disk.DiskErr.TheVariants.{Fault}
 use Rattle.mr_journal.specs.Images.{Image, part, with_part, written, InArea, Unchanged}
 use Rattle.mr_journal.specs.Torn.{TornAt}
 use Rattle.mr_journal.specs.Moments.{AddsSteps, IsDiskCall, IsDurable}
-use Rattle.mr_journal.specs.Shelves.{or_none, held_in, image_on, disk_state, images_on, KeepsBeside}
-use Rattle.mr_journal.specs.FileChanges.{name_of, KeepsRest, ChangesFile, WritesFront, AppendsFront, WritesBytes}
+use Rattle.mr_journal.specs.Shelves.{or_none, bytes_or_none, image_on, disk_state, images_on, KeepsBeside}
+use Rattle.mr_journal.specs.private.FileChanges.{name_of, KeepsRest, ChangesFile, WritesFront, AppendsFront, WritesBytes}
 use Rattle.mr_journal.proofs.Running.{contents_move}
 use Rattle.mr_journal.proofs.Replaying.{written_torn}
 
@@ -53,7 +53,8 @@ turns_same name None told' is = is
 turns_same name (Some files) told' is = (files, is, refl, λ q differs. refl)
 
 pub turns_as : (name : List ℕ) (f g : List ℕ → List ℕ) (told told' : Option Files)
-    → OfFiles told (λ files. f (held_in files name) ≡ g (held_in files name)) → ChangesFile name f told told'
+    → OfFiles told (λ files. f (bytes_or_none files name) ≡ g (bytes_or_none files name)) → ChangesFile name f
+    told told'
     → ChangesFile name g told told'
 turns_as name f g None told' same turns = turns
 turns_as name f g (Some files) told' same turns = (turns.0, turns.1, turns.2 ∙ same, turns.3)
@@ -109,9 +110,9 @@ turns_changed name change (Some files) told' there is = changed_in name change f
 -- ---- a write
 
 still_held : (name : List ℕ) (at : ℕ) (o : Option Files)
-    → OfFiles o (λ files. held_in files name ≡ replaced at [] (held_in files name))
+    → OfFiles o (λ files. bytes_or_none files name ≡ replaced at [] (bytes_or_none files name))
 still_held name at None = tt
-still_held name at (Some files) = sym (replaced_none at (held_in files name))
+still_held name at (Some files) = sym (replaced_none at (bytes_or_none files name))
 
 -- nothing was written
 pub puts_none : (name : List ℕ) (at : ℕ) (bytes : List ℕ) (told told' : Option Files)
@@ -175,9 +176,9 @@ grown_none : (name : List ℕ) (told : Option Files) → ChangesFile name (λ he
 grown_none name told = turns_as name (λ held. held) (λ held. held ++ []) told told (still told)
     (turns_same name told told refl)
   where
-    still : (o : Option Files) → OfFiles o (λ files. held_in files name ≡ held_in files name ++ [])
+    still : (o : Option Files) → OfFiles o (λ files. bytes_or_none files name ≡ bytes_or_none files name ++ [])
     still None = tt
-    still (Some files) = sym (append-nil (held_in files name))
+    still (Some files) = sym (append-nil (bytes_or_none files name))
 
 pub grown_empty : (name bytes : List ℕ) (told : Option Files) → length bytes ≡ 0
     → ChangesFile name (λ held. held ++ bytes) told told
@@ -203,17 +204,17 @@ none_front [] b e = refl
 none_front (x ∷ xs) b e = absurd (omega (arith, ap length e, length-append (x ∷ xs) b))
 
 module _ (name : List ℕ) (at : ℕ) (bytes front rest : List ℕ) (a b c : Option Files) (whole : bytes ≡ front ++ rest)
-    (end : OfFiles a (λ files. (rest ≡ []) ⊎ (at + length front ≡ length (held_in files name))))
+    (end : OfFiles a (λ files. (rest ≡ []) ⊎ (at + length front ≡ length (bytes_or_none files name))))
     (first : ChangesFile name (λ held. held) a b) (second : ChangesFile name (replaced at front) b c) where
   so_far : ChangesFile name (replaced at front) a c
   so_far = turns_then name (λ held. held) (replaced at front) a b c first second
 
   as_one : (more : List ℕ) (told : Option Files) → ((rest ≡ []) → (more ≡ []))
-      → OfFiles told (λ files. (rest ≡ []) ⊎ (at + length front ≡ length (held_in files name)))
-      → OfFiles told (λ files. replaced at front (held_in files name) ++ more ≡ replaced at (front ++ more)
-      (held_in files name))
+      → OfFiles told (λ files. (rest ≡ []) ⊎ (at + length front ≡ length (bytes_or_none files name)))
+      → OfFiles told (λ files. replaced at front (bytes_or_none files name) ++ more ≡ replaced at (front ++ more)
+      (bytes_or_none files name))
   as_one more None none e = tt
-  as_one more (Some files) none e = sym (replaced_more at front more (held_in files name)
+  as_one more (Some files) none e = sym (replaced_more at front more (bytes_or_none files name)
       (⊎_elim (λ x. inl (none x)) (λ y. inr y) e))
 
   grown_on : (more : List ℕ) (d : Option Files) → ((rest ≡ []) → (more ≡ []))
@@ -243,11 +244,11 @@ module _ (name : List ℕ) (at : ℕ) (bytes front rest : List ℕ) (a b c : Opt
 -- ---- what the disk tells
 
 other_part : (name other : List ℕ) (files new : Files) → other ≢ name → KeepsRest name files new
-    → held_in new other ≡ held_in files other
+    → bytes_or_none new other ≡ bytes_or_none files other
 other_part name other files new differs kept = ap or_none (kept other differs)
 
 pub image_turned : (area : Area) (m j : List ℕ) (change : List ℕ → List ℕ) (files new : Files) → m ≢ j
-    → held_in new (name_of area m j) ≡ change (held_in files (name_of area m j))
+    → bytes_or_none new (name_of area m j) ≡ change (bytes_or_none files (name_of area m j))
     → KeepsRest (name_of area m j) files new
     → image_on m j new ≡ with_part area (change (part area (image_on m j files))) (image_on m j files)
 image_turned Map m j change files new differ is kept =
@@ -348,11 +349,11 @@ shelf_durable area m j u c is = subst (λ (o : Option Image). IsSomeAnd o (λ k.
 
 -- where the file is no shorter than the place, what lies behind what overlaps is at its end
 pub ends_there : (name : List ℕ) (at within length_ : ℕ) (front rest bytes : List ℕ) (told : Option Files)
-    → OfFiles told (λ files. at ≤ length (held_in files name))
-    → OfFiles told (λ files. length_ ≡ length (held_in files name))
+    → OfFiles told (λ files. at ≤ length (bytes_or_none files name))
+    → OfFiles told (λ files. length_ ≡ length (bytes_or_none files name))
     → (at ≤ length_ → within < length bytes → at + within ≡ length_) → within ≤ length bytes → length front ≡ within
     → bytes ≡ front ++ rest
-    → OfFiles told (λ files. (rest ≡ []) ⊎ (at + length front ≡ length (held_in files name)))
+    → OfFiles told (λ files. (rest ≡ []) ⊎ (at + length front ≡ length (bytes_or_none files name)))
 ends_there name at within length_ front rest bytes None le is end few long whole = tt
 ends_there name at within length_ front rest bytes (Some files) le is end few long whole = elim
     (cases_lt within (length bytes)) [
@@ -362,24 +363,24 @@ ends_there name at within length_ front rest bytes (Some files) le is end few lo
 
 -- what was so before a call that changes nothing
 pub kept_length : (name : List ℕ) (P : ℕ → Type 0) (told told' : Option Files)
-    → ChangesFile name (λ held. held) told told' → OfFiles told (λ files. P (length (held_in files name)))
-    → OfFiles told' (λ files. P (length (held_in files name)))
+    → ChangesFile name (λ held. held) told told' → OfFiles told (λ files. P (length (bytes_or_none files name)))
+    → OfFiles told' (λ files. P (length (bytes_or_none files name)))
 kept_length name P None told' turns p = subst
-    (λ (o : Option Files). OfFiles o (λ files. P (length (held_in files name)))) (sym turns) tt
+    (λ (o : Option Files). OfFiles o (λ files. P (length (bytes_or_none files name)))) (sym turns) tt
 kept_length name P (Some files) told' turns p = subst
-    (λ (o : Option Files). OfFiles o (λ files. P (length (held_in files name)))) (sym turns.1)
+    (λ (o : Option Files). OfFiles o (λ files. P (length (bytes_or_none files name)))) (sym turns.1)
     (subst P (ap length (sym turns.2)) p)
 
 pub has_room : (name : List ℕ) (at within : ℕ) (length_ : ℕ) (front : List ℕ) (told told' : Option Files)
-    → ChangesFile name (λ held. held) told told' → OfFiles told (λ files. at ≤ length (held_in files name))
-    → OfFiles told (λ files. length_ ≡ length (held_in files name)) → (at ≤ length_ → at + within ≤ length_)
-    → length front ≡ within → OfFiles told' (λ files. at + length front ≤ length (held_in files name))
+    → ChangesFile name (λ held. held) told told' → OfFiles told (λ files. at ≤ length (bytes_or_none files name))
+    → OfFiles told (λ files. length_ ≡ length (bytes_or_none files name)) → (at ≤ length_ → at + within ≤ length_)
+    → length front ≡ within → OfFiles told' (λ files. at + length front ≤ length (bytes_or_none files name))
 has_room name at within length_ front told told' turns le is room long = kept_length name (λ n. at + length front ≤ n)
     told told' turns (fits told le is)
   where
-    fits : (o : Option Files) → OfFiles o (λ files. at ≤ length (held_in files name))
-        → OfFiles o (λ files. length_ ≡ length (held_in files name))
-        → OfFiles o (λ files. at + length front ≤ length (held_in files name))
+    fits : (o : Option Files) → OfFiles o (λ files. at ≤ length (bytes_or_none files name))
+        → OfFiles o (λ files. length_ ≡ length (bytes_or_none files name))
+        → OfFiles o (λ files. at + length front ≤ length (bytes_or_none files name))
     fits None x y = tt
     fits (Some files) x y = omega (arith, long, y, room (omega (arith, x, y)))
 

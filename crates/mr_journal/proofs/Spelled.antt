@@ -3,7 +3,7 @@ use Rattle.std.proofs.Common.{◌≡◌, ℕ, ◌+◌, ◌*◌, ◌/◌, ◌%◌
 use Rattle.std.specs.List.{flat_map}
 use Rattle.std.proofs.lemmas.List.{take_at, drop_at}
 use Rattle.std.proofs.lemmas.Bool.{and_from, le-leb}
-use Rattle.mr_journal.specs.Format.{Page, number_of, first_page, entries, placed, put_pages, ready, carried, page_size, is_version, has_count, spelled_number, spelled_page, spelled}
+use Rattle.mr_journal.specs.Format.{Page, number_of, first_page, entries, pages_fit, put_pages, ready, carried, page_size, is_version, has_count, spelled_number, spelled_page, spelled}
 use Rattle.mr_journal.proofs.Paging.{placed_parts, ready_from, carried_is}
 
 digits : (n : ℕ) → n < 2 ^ 32 → n / 16777216 * 16777216 + n / 65536 % 256 * 65536 + n / 256 % 256 * 256 + n % 256 ≡ n
@@ -25,7 +25,7 @@ rest_again : (size : ℕ) (page : Page) (rest : List ℕ) → length page.bytes 
     → drop (4 + size) (spelled_page page ++ rest) ≡ rest
 rest_again size page rest long = drop_at (spelled_page page) rest (4 + size) (omega (arith, long))
 
-pub entries_again : (size low reach : ℕ) (pages : List Page) → placed size low reach pages ≡ true
+pub entries_again : (size low reach : ℕ) (pages : List Page) → pages_fit size low reach pages ≡ true
     → entries size (length pages) (flat_map spelled_page pages) ≡ pages
 entries_again size low reach [] h = refl
 entries_again size low reach (page ∷ pages) h =
@@ -38,7 +38,7 @@ entries_again size low reach (page ∷ pages) h =
 
 -- where the pages stand where they may, the body is ready
 pub spelled_ready : (version n : ℕ) (pages : List Page) → is_version version ≡ true → 1 ≤ length pages
-    → length pages ≤ 2 ^ 20 → placed (page_size version) 0 n pages ≡ true → ready n (spelled version pages) ≡ true
+    → length pages ≤ 2 ^ 20 → pages_fit (page_size version) 0 n pages ≡ true → ready n (spelled version pages) ≡ true
 spelled_ready version n pages known some most h =
     let rest = spelled_number (length pages) ++ flat_map spelled_page pages in
     let count : number_of rest ≡ length pages = number_again (length pages) (flat_map spelled_page pages)
@@ -47,11 +47,11 @@ spelled_ready version n pages known some most h =
     ap (λ (k : ℕ). entries (page_size version) k (drop 4 rest)) count ∙ entries_again (page_size version) 0 n pages h in
     ready_from n version rest known (ap has_count count
     ∙ and_from (nat_le 1 (length pages)) (nat_le (length pages) (2 ^ 20)) (le-leb _ _ some) (le-leb _ _ most))
-    (ap (placed (page_size version) 0 n) same ∙ h)
+    (ap (pages_fit (page_size version) 0 n) same ∙ h)
 
 -- and puts these pages in
 pub spelled_carried : (version n : ℕ) (pages : List Page) (map : List ℕ) → length pages ≤ 2 ^ 20
-    → placed (page_size version) 0 n pages ≡ true
+    → pages_fit (page_size version) 0 n pages ≡ true
     → carried (spelled version pages) map ≡ put_pages (page_size version) pages map
 spelled_carried version n pages map most h =
     let rest = spelled_number (length pages) ++ flat_map spelled_page pages in

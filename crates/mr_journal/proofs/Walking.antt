@@ -5,10 +5,10 @@ use Rattle.mr_journal.specs.declared.disk.Area.TheVariants.{Map}
 use Rattle.mr_journal.specs.Images.{Image, DiskState, written, InArea}
 use Rattle.mr_journal.specs.Torn.{Torn, TornAt}
 use Rattle.mr_journal.specs.Moments.{ImagesSince, IsAfterStep, AddsSteps}
-use Rattle.mr_journal.specs.Format.{Page, number_of, first_page, entries, placed}
-use Rattle.mr_journal.specs.Parsed.{places, with_pages}
-use Rattle.mr_journal.specs.ReplacedLaws.{length-replaced}
-use Rattle.mr_journal.specs.TornLaws.{torn_trans}
+use Rattle.mr_journal.specs.Format.{Page, number_of, first_page, entries, pages_fit}
+use Rattle.mr_journal.specs.private.Parsed.{places, with_pages}
+use Rattle.mr_journal.specs.private.ReplacedLaws.{length-replaced}
+use Rattle.mr_journal.specs.private.TornLaws.{torn_trans}
 use Rattle.mr_journal.proofs.Paging.{placed_parts, torn_page}
 use Rattle.mr_journal.proofs.Running.{Earlier, course_start, moves_then}
 
@@ -18,16 +18,16 @@ pub record OnTheWay (a b : DiskState) (s u : ImagesSince) (size : ℕ) (all : Li
   pub split : all ≡ front ++ entries size left rest
   pub low : ℕ
   pub reach : ℕ
-  pub whole : placed size low reach (entries size left rest) ≡ true
-  pub begins : IfSome b.contents (λ k. placed size low (length k.map) (entries size left rest) ≡ true)
+  pub whole : pages_fit size low reach (entries size left rest) ≡ true
+  pub begins : IfSome b.contents (λ k. pages_fit size low (length k.map) (entries size left rest) ≡ true)
   pub makes : option_map (with_pages size (entries size left rest)) b.contents ≡ option_map
       (with_pages size all) a.contents
   pub moves : AddsSteps a b s u (InArea Map (Torn (places size all)))
   pub faults : a.faults ≤ b.faults
 
 pub way_start : (a : DiskState) (s : ImagesSince) (size count : ℕ) (bytes : List ℕ) (reach : ℕ)
-    → placed size 0 reach (entries size count bytes) ≡ true
-    → IfSome a.contents (λ k. placed size 0 (length k.map) (entries size count bytes) ≡ true)
+    → pages_fit size 0 reach (entries size count bytes) ≡ true
+    → IfSome a.contents (λ k. pages_fit size 0 (length k.map) (entries size count bytes) ≡ true)
     → OnTheWay a a s s size (entries size count bytes) count bytes
 way_start a s size count bytes reach whole begins = record {
   front = [];
@@ -42,7 +42,7 @@ way_start a s size count bytes reach whole begins = record {
 }
 
 pub way_begins : (size low left : ℕ) (rest : List ℕ) (o : Option Image) → 0 < left
-    → IfSome o (λ k. placed size low (length k.map) (entries size left rest) ≡ true)
+    → IfSome o (λ k. pages_fit size low (length k.map) (entries size left rest) ≡ true)
     → IfSome o (λ k. number_of rest * size ≤ length k.map)
 way_begins size low left rest None more h = h
 way_begins size low zero rest (Some k) more h = absurd (omega arith)
@@ -50,16 +50,16 @@ way_begins size low (suc n) rest (Some k) more h =
     (placed_parts size low (length k.map) (first_page size rest) (entries size n (drop (4 + size) rest)) h).0.begins
 
 begins_next : (size low : ℕ) (page : Page) (tail : List Page) (o : Option Image)
-    → IfSome o (λ k. placed size low (length k.map) (page ∷ tail) ≡ true)
+    → IfSome o (λ k. pages_fit size low (length k.map) (page ∷ tail) ≡ true)
     → IfSome (option_map (written Map (page.number * size) page.bytes) o)
-    (λ k. placed size (page.number + 1) (length k.map) tail ≡ true)
+    (λ k. pages_fit size (page.number + 1) (length k.map) tail ≡ true)
 begins_next size low page tail None h = h
 begins_next size low page tail (Some k) h =
     let p = placed_parts size low (length k.map) page tail h in
     let f = p.0 in
     let long : max (length k.map) (page.number * size + size) ≡ length (replaced (page.number * size) page.bytes k.map)
     = omega (arith, f.whole, f.begins, length-replaced (page.number * size) page.bytes k.map) in
-    subst (λ (n : ℕ). placed size (page.number + 1) n tail ≡ true) long p.1
+    subst (λ (n : ℕ). pages_fit size (page.number + 1) n tail ≡ true) long p.1
 
 makes_next : (size : ℕ) (page : Page) (tail : List Page) (o : Option Image)
     → option_map (with_pages size tail) (option_map (written Map (page.number * size) page.bytes) o) ≡ option_map
@@ -101,7 +101,8 @@ way_step a b c s u w size (suc n) all rest after more earlier way is put moves f
       low = number_of rest + 1;
       reach = max way.reach (number_of rest * size + size);
       whole = p.1;
-      begins = subst (λ (o : Option Image). IfSome o (λ k. placed size (number_of rest + 1) (length k.map) tail ≡ true))
+      begins = subst (λ (o : Option Image). IfSome o
+          (λ k. pages_fit size (number_of rest + 1) (length k.map) tail ≡ true))
           (sym put) (begins_next size way.low page tail b.contents way.begins);
       makes = ap (option_map (with_pages size tail)) put ∙ makes_next size page tail b.contents ∙ way.makes;
       moves = way_moves a b c s u w size (suc n) all rest more earlier way moves;

@@ -44,11 +44,11 @@ fits size low reach page =
 -- All pages are whole; the first number is from `low` on, each is above the one before, and all are
 -- below the limit; and none begins past the end of a map of length `reach` as the earlier ones
 -- leave it.
-abbrev pub placed : ℕ → ℕ → ℕ → List Page → Bool
-placed size low reach [] = true
-placed size low reach (page ∷ pages) =
+abbrev pub pages_fit : ℕ → ℕ → ℕ → List Page → Bool
+pages_fit size low reach [] = true
+pages_fit size low reach (page ∷ pages) =
     fits size low reach page
-    && placed size (page.number + 1) (max reach (page.number * size + size)) pages
+    && pages_fit size (page.number + 1) (max reach (page.number * size + size)) pages
 
 -- the map with these pages put in
 abbrev pub put_pages : ℕ → List Page → List ℕ → List ℕ
@@ -66,7 +66,7 @@ ready length [] = false
 ready length (version ∷ rest) =
     is_version version
     && (has_count (number_of rest)
-    && placed (page_size version) 0 length
+    && pages_fit (page_size version) 0 length
     (entries (page_size version) (number_of rest) (drop 4 rest)))
 
 -- the map with the pages of this body put in

@@ -8,11 +8,4 @@ pub mod Shelves
 pub mod Recovered
 pub mod MemoryDisk
 pub mod Picks
-pub mod Parsed
-pub mod Progress
-pub mod FileChanges
-pub mod Traced
-pub mod ReplacedLaws
-pub mod TornLaws
-pub mod MemoryLaws
-pub mod ShelfLaws
+pub mod private

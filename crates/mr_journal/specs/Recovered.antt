@@ -17,11 +17,11 @@ FilesHave (Some files) P = P files
 -- Of files that are told. Where it is answered: the answer is whether the journal was open, and the
 -- two files are what recovery leaves of them. Where it is refused: they restore to what they
 -- restored to.
-abbrev pub Recovers : (map journal : List ℕ) → Option Files → Option Files → Result Bool DiskErr
+abbrev pub RecoversMap : (map journal : List ℕ) → Option Files → Option Files → Result Bool DiskErr
     → Type 0
-Recovers map journal None after result = ⊤
-Recovers map journal (Some files) after (Ok was) = (was ≡ is_open (image_on map journal files))
+RecoversMap map journal None after result = ⊤
+RecoversMap map journal (Some files) after (Ok was) = (was ≡ is_open (image_on map journal files))
     × FilesHave after
     (λ new. image_on map journal new ≡ recovered (image_on map journal files))
-Recovers map journal (Some files) after (Err e) =
+RecoversMap map journal (Some files) after (Err e) =
     FilesHave after (λ new. restored_in map journal new ≡ restored_in map journal files)

@@ -9,12 +9,16 @@ or_none None = []
 or_none (Some bytes) = bytes
 
 -- the bytes of the named file, none where it is absent
-abbrev pub held_in : Files → List ℕ → List ℕ
-held_in files name = or_none (file files name)
+abbrev pub bytes_or_none : Files → List ℕ → List ℕ
+bytes_or_none files name = or_none (file files name)
 
 -- the map and its journal, by the names of their files
 abbrev pub image_on : (map journal : List ℕ) → Files → Image
-image_on map journal files = record { map = held_in files map; journal = held_in files journal }
+image_on map journal files = record {
+  map = bytes_or_none files map;
+  journal = bytes_or_none files
+      journal;
+}
 
 -- what the disk tells: its contents where the shelf tells its files, and never what a crash may
 -- leave

@@ -4,7 +4,7 @@ ghost use Rattle.std.specs.Prelude.{◌≡◌, ℕ, ◌≤◌, List, length, tru
 ghost use Rattle.mr_journal.specs.Moments.{LeadsThrough, DiskCauses};
 ghost use Rattle.mr_journal.specs.Format.{ready, carried, changed_by};
 ghost use Rattle.mr_journal.specs.States.{IsShutAt, IsArmedFor, IsSettledAt, EitherOf};
-ghost use Rattle.mr_journal.specs.Progress.{opened_by, IsArmedBy};
+ghost use Rattle.mr_journal.specs.private.Progress.{opened_by, IsArmedBy};
 
 use crate::carrying::finish;
 use crate::gate::{fill, open_gate, prepare_gate};

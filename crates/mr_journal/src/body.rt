@@ -1,8 +1,8 @@
 //! The body of a journal as it is read: whether it is whole, and where its pages stand.
 
 ghost use Rattle.std.specs.Prelude.{◌≡◌, ◌==◌, ℕ, ◌+◌, ◌*◌, ◌<◌, ◌≤◌, ◌^◌, ◌∷◌, length, true, false, Option, Some, None, MatchOption};
-ghost use Rattle.mr_journal.specs.Format.{page_size, is_version, number_of, first_page, fits, entries, placed, ready, opens};
-ghost use Rattle.mr_journal.specs.Parsed.{IsParsed};
+ghost use Rattle.mr_journal.specs.Format.{page_size, is_version, number_of, first_page, fits, entries, pages_fit, ready, opens};
+ghost use Rattle.mr_journal.specs.private.Parsed.{IsParsed};
 
 use crate::gate::GATE;
 
@@ -93,7 +93,7 @@ fn page_fits(size: usize, low: u32, reach: u64, entry: &[u8]) -> bool
 // Whether all pages are whole and stand where they may, in a map of this length.
 fn are_placed(size: usize, count: u32, bytes: &[u8], map_length: u64) -> bool
     requires small { (1 ≤ size) × (size ≤ 8192) }
-    ensures { result ≡ placed size 0 map_length (entries size count bytes.now) }
+    ensures { result ≡ pages_fit size 0 map_length (entries size count bytes.now) }
 {
     let mut rest = bytes;
     let mut left = count;

@@ -4,10 +4,10 @@ ghost use Rattle.std.specs.Prelude.{◌≡◌, ℕ, ◌+◌, ◌*◌, ◌<◌, �
 ghost use Rattle.mr_journal.specs.Images.{written, InArea};
 ghost use Rattle.mr_journal.specs.Torn.{Torn, TornAt};
 ghost use Rattle.mr_journal.specs.Moments.{AddsSteps, LeadsThrough, DiskCauses};
-ghost use Rattle.mr_journal.specs.Format.{number_of, entries, placed, ready};
-ghost use Rattle.mr_journal.specs.Parsed.{places, with_pages};
+ghost use Rattle.mr_journal.specs.Format.{number_of, entries, pages_fit, ready};
+ghost use Rattle.mr_journal.specs.private.Parsed.{places, with_pages};
 ghost use Rattle.mr_journal.specs.States.{IsShutAt, IsArmedFor, IsSettledAt, EitherOf};
-ghost use Rattle.mr_journal.specs.Progress.{carried_by, closed_by, IsArmedBy, IsCarriedBy};
+ghost use Rattle.mr_journal.specs.private.Progress.{carried_by, closed_by, IsArmedBy, IsCarriedBy};
 
 use crate::body::{number_at, parse};
 use crate::gate::close_gate;
@@ -37,9 +37,9 @@ fn put_page<D: Disk>(disk: &mut D, size: usize, entry: &[u8]) -> Result<(), Disk
 // Writes the pages of so many entries into the map.
 fn put_entries<D: Disk>(disk: &mut D, size: usize, count: u32, bytes: &[u8]) -> Result<(), DiskErr>
     requires small { (1 ≤ size) × (size ≤ 8192) }
-    requires whole { (n : ℕ) × (placed size 0 n (entries size count bytes.now) ≡ true) }
+    requires whole { (n : ℕ) × (pages_fit size 0 n (entries size count bytes.now) ≡ true) }
     requires begins { IfSome (D.state disk.old).contents
-        (λ k. placed size 0 (length k.map) (entries size count bytes.now) ≡ true) }
+        (λ k. pages_fit size 0 (length k.map) (entries size count bytes.now) ≡ true) }
     ensures written { OnOk result ((D.state disk.new).contents
         ≡ option_map (with_pages size (entries size count bytes.now)) (D.state disk.old).contents) }
     ensures moves { AddsSteps (D.state disk.old) (D.state disk.new) (D.images disk.old)

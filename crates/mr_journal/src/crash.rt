@@ -2,7 +2,7 @@
 
 ghost use Rattle.std.specs.Prelude.{◌≡◌, ◌<◌, ◌≤◌, ◌+◌, true, false, vec_len, IfOk};
 ghost use Rattle.mr_journal.specs.Torn.{IsTouched};
-ghost use Rattle.mr_journal.specs.Traced.{trace_of};
+ghost use Rattle.mr_journal.specs.private.Traced.{trace_of};
 ghost use Rattle.mr_journal.specs.Picks.{IsGarbledByte, IsGarbled, IsPicked};
 
 use crate::mem_disk::Trace;

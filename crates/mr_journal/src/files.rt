@@ -3,7 +3,7 @@
 ghost use Rattle.std.specs.Prelude.{◌≡◌, ◌≢◌, ◌≤◌, false, IfOk, IsErrOf};
 ghost use Rattle.mr_outside.specs.Faults.{Rose};
 ghost use Rattle.mr_journal.specs.Shelves.{KeepsBeside};
-ghost use Rattle.mr_journal.specs.Recovered.{Recovers};
+ghost use Rattle.mr_journal.specs.Recovered.{RecoversMap};
 
 use crate::{DiskErr, RecoverErr, ShelfDisk, recover};
 use mr_outside::Shelf;
@@ -19,7 +19,8 @@ pub fn recover_files<S: Shelf>(
     journal: &str,
 ) -> (Result<bool, RecoverErr>, S)
     requires { map.now ≢ journal.now }
-    ensures recovers { Recovers map.now journal.now (S.state shelf).files (S.state result.1).files
+    ensures recovers { RecoversMap map.now journal.now (S.state shelf).files
+        (S.state result.1).files
         result.0 }
     ensures clean { IfOk result.0 (λ was. was ≡ false
         → (S.state result.1).files ≡ (S.state shelf).files) }

@@ -4,9 +4,9 @@ ghost use Rattle.std.specs.Prelude.{◌≡◌, ℕ, ◌<◌, ◌≤◌, ◌≢�
 ghost use Rattle.mr_journal.specs.Images.{written, Unchanged};
 ghost use Rattle.mr_journal.specs.Moments.{AddsSteps, LeadsThrough, DiskCauses};
 ghost use Rattle.mr_journal.specs.Format.{ready, carried};
-ghost use Rattle.mr_journal.specs.Parsed.{first_of};
+ghost use Rattle.mr_journal.specs.private.Parsed.{first_of};
 ghost use Rattle.mr_journal.specs.States.{IsShutAt, IsArmedFor, IsSettledAt, EitherOf};
-ghost use Rattle.mr_journal.specs.Progress.{behind, IsClearedAt, IsInvalidAt, HasGate, IsFilledBy, IsArmedBy, IsCarriedBy};
+ghost use Rattle.mr_journal.specs.private.Progress.{behind, IsClearedAt, IsInvalidAt, HasGate, IsFilledBy, IsArmedBy, IsCarriedBy};
 
 use crate::steps::write_and_sync;
 use crate::{Area, Disk, DiskErr};

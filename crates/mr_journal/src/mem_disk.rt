@@ -8,9 +8,9 @@ ghost use Rattle.mr_journal.specs.Images.{Image, part, written, InArea, Unchange
 ghost use Rattle.mr_journal.specs.Torn.{TornAt};
 ghost use Rattle.mr_journal.specs.Moments.{IsDurable, IsDiskCall, KeepsImages};
 ghost use Rattle.mr_journal.specs.MemoryDisk.{first_image, same_area, carried_out, wrote, at_rest, change, area_after, contents_after, IsImage, memory_state, left_since, parts_of, contents_of, told_by, images_by, fails_next, IsAsked, IsWrite, IsSync, MakesCall};
-ghost use Rattle.mr_journal.specs.Traced.{trace_of, write_call};
+ghost use Rattle.mr_journal.specs.private.Traced.{trace_of, write_call};
 ghost use Rattle.mr_journal.specs.Picks.{IsPicked};
-ghost use Rattle.mr_journal.specs.MemoryLaws.{earlier_is, contents_count, is_held, is_told};
+ghost use Rattle.mr_journal.specs.private.MemoryLaws.{earlier_is, contents_count, is_held, is_told};
 
 use crate::crash::pick_of;
 use crate::{Area, Disk, DiskErr};

@@ -9,9 +9,9 @@ ghost use Rattle.mr_outside.specs.Files.{file};
 ghost use Rattle.mr_outside.specs.Told.{OfFiles};
 ghost use Rattle.mr_outside.specs.Reading.{FillsFront, GivesFrom};
 ghost use Rattle.mr_outside.specs.Writing.{IsThere};
-ghost use Rattle.mr_journal.specs.Shelves.{held_in, disk_state, images_on, KeepsShelf};
-ghost use Rattle.mr_journal.specs.FileChanges.{name_of, ChangesFile, AppendsFront, WritesBytes};
-ghost use Rattle.mr_journal.specs.ShelfLaws.{counts_is, earlier_is, held_is, told_is, keeps_self, keeps_on};
+ghost use Rattle.mr_journal.specs.Shelves.{bytes_or_none, disk_state, images_on, KeepsShelf};
+ghost use Rattle.mr_journal.specs.private.FileChanges.{name_of, ChangesFile, AppendsFront, WritesBytes};
+ghost use Rattle.mr_journal.specs.private.ShelfLaws.{counts_is, earlier_is, held_is, told_is, keeps_self, keeps_on};
 
 use crate::{Area, Disk, DiskErr};
 use mr_outside::{Shelf, ShelfErr};
@@ -93,7 +93,7 @@ fn name_in<'a>(area: Area, map: &'a str, journal: &'a str) -> &'a str
 // How many bytes the file has.
 fn length_of<S: Shelf>(shelf: &mut S, name: &str) -> Result<u64, DiskErr>
     ensures length { IfOk result (λ n. OfFiles (S.state shelf.old).files
-        (λ files. n ≡ length (held_in files name.now))) }
+        (λ files. n ≡ length (bytes_or_none files name.now))) }
     ensures files { (S.state shelf.new).files ≡ (S.state shelf.old).files }
     ensures reads { (S.state shelf.new).reads ≡ (S.state shelf.old).reads }
     ensures fault { IsErrOf result DiskErr.Fault
@@ -118,7 +118,7 @@ fn read_existing<S: Shelf>(
     requires { IsThere (S.state shelf.old).files name.now }
     ensures fills { IfOk result (λ n. FillsFront into.old into.new n) }
     ensures gives { IfOk result (λ n. OfFiles (S.state shelf.old).files
-        (λ files. GivesFrom at into.old into.new n (held_in files name.now))) }
+        (λ files. GivesFrom at into.old into.new n (bytes_or_none files name.now))) }
     ensures files { (S.state shelf.new).files ≡ (S.state shelf.old).files }
     ensures reads { (S.state shelf.old).reads ≤ (S.state shelf.new).reads }
     ensures fault { IsErrOf result DiskErr.Fault
@@ -142,7 +142,7 @@ fn read_or_empty<S: Shelf>(
 ) -> Result<usize, DiskErr>
     ensures fills { IfOk result (λ n. FillsFront into.old into.new n) }
     ensures gives { IfOk result (λ n. OfFiles (S.state shelf.old).files
-        (λ files. GivesFrom at into.old into.new n (held_in files name.now))) }
+        (λ files. GivesFrom at into.old into.new n (bytes_or_none files name.now))) }
     ensures files { (S.state shelf.new).files ≡ (S.state shelf.old).files }
     ensures reads { (S.state shelf.old).reads ≤ (S.state shelf.new).reads }
     ensures fault { IsErrOf result DiskErr.Fault
@@ -178,7 +178,7 @@ fn create_file<S: Shelf>(shelf: &mut S, name: &str) -> Result<(), DiskErr>
 fn size_or_create<S: Shelf>(shelf: &mut S, name: &str) -> Result<u64, DiskErr>
     ensures there { OnOk result (IsThere (S.state shelf.new).files name.now) }
     ensures length { IfOk result (λ n. OfFiles (S.state shelf.old).files
-        (λ files. n ≡ length (held_in files name.now))) }
+        (λ files. n ≡ length (bytes_or_none files name.now))) }
     ensures turns { ChangesFile name.now (λ held. held) (S.state shelf.old).files
         (S.state shelf.new).files }
     ensures reads { (S.state shelf.new).reads ≡ (S.state shelf.old).reads }
@@ -213,7 +213,7 @@ fn overlap(length: u64, at: u64, count: usize) -> usize
 fn overwrite<S: Shelf>(shelf: &mut S, name: &str, at: u64, bytes: &[u8]) -> Result<(), DiskErr>
     requires there { IsThere (S.state shelf.old).files name.now }
     requires room { OfFiles (S.state shelf.old).files
-        (λ files. at + length bytes.now ≤ length (held_in files name.now)) }
+        (λ files. at + length bytes.now ≤ length (bytes_or_none files name.now)) }
     ensures there { OnOk result (IsThere (S.state shelf.new).files name.now) }
     ensures puts { WritesBytes name.now at bytes.now (S.state shelf.old).files
         (S.state shelf.new).files result }
@@ -258,7 +258,8 @@ fn append<S: Shelf>(shelf: &mut S, name: &str, bytes: &[u8]) -> Result<(), DiskE
 
 // Replaces the bytes of a file from a place on, and lengthens it where they go past its end.
 fn write_bytes<S: Shelf>(shelf: &mut S, name: &str, at: u64, bytes: &[u8]) -> Result<(), DiskErr>
-    requires { OfFiles (S.state shelf.old).files (λ files. at ≤ length (held_in files name.now)) }
+    requires { OfFiles (S.state shelf.old).files
+        (λ files. at ≤ length (bytes_or_none files name.now)) }
     ensures puts { WritesBytes name.now at bytes.now (S.state shelf.old).files
         (S.state shelf.new).files result }
     ensures reads { (S.state shelf.new).reads ≡ (S.state shelf.old).reads }

@@ -10,7 +10,7 @@ use Rattle.std.specs.declared.cmp.Ordering.TheVariants.{Less, Equal, Greater}
 use Rattle.mr_outside.specs.Files.{Files, file, with_file, with_found, with_change, grown, replaced, overwritten}
 use Rattle.mr_outside.specs.Told.{OfFile}
 use Rattle.mr_outside.specs.Memory.{MemoryShelf, shelved}
-use Rattle.mr_outside.specs.Writing.{IsThere, IsChanged, IsChangedPartly, Writes}
+use Rattle.mr_outside.specs.Writing.{IsThere, IsChanged, IsChangedPartly, WritesOrFront}
 use Rattle.mr_outside.specs.declared.shelf.ShelfErr.{ShelfErr}
 
 -- ---- one file
@@ -155,16 +155,16 @@ by_front change front rest bytes old new whole is =
     record { front = front; rest = rest; whole = whole; changed = ap Some is }
 
 -- It was made by all of them or, at a refusal, by none.
-pub Writes-tried : (change : List ℕ → Files → Files) (bytes : List ℕ) (before after : MemoryShelf)
+pub WritesOrFront-tried : (change : List ℕ → Files → Files) (bytes : List ℕ) (before after : MemoryShelf)
     (result : Result (Unit {0}) ShelfErr) → change [] before.files ≡ before.files → after.reads ≡ before.reads
     → OnOk result (after.files ≡ change bytes before.files) → OnErr result (after.files ≡ before.files)
-    → Writes change bytes (shelved before) (shelved after) result
-Writes-tried change bytes before after (Ok x) none reads done refused = record {
+    → WritesOrFront change bytes (shelved before) (shelved after) result
+WritesOrFront-tried change bytes before after (Ok x) none reads done refused = record {
   whole = ap Some done;
   front = by_front change bytes [] bytes before.files after.files (sym (append-nil bytes)) done;
   reads = reads;
 }
-Writes-tried change bytes before after (Err e) none reads done refused = record {
+WritesOrFront-tried change bytes before after (Err e) none reads done refused = record {
   whole = tt;
   front = by_front change [] bytes bytes before.files after.files refl (refused ∙ sym none);
   reads = reads;

@@ -21,12 +21,12 @@ MayMiss None name before now = Rose before now
 MayMiss (Some files) name before now = file files name ≡ None
 
 -- these bytes went to the end of what was taken, where that is told; and it is told after as before
-abbrev pub Takes : Sunk → Sunk → List ℕ → Type 0
-Takes before after bytes = after.taken ≡ option_map (λ taken. taken ++ bytes) before.taken
+abbrev pub TakesBytes : Sunk → Sunk → List ℕ → Type 0
+TakesBytes before after bytes = after.taken ≡ option_map (λ taken. taken ++ bytes) before.taken
 
 -- some front of these bytes was taken, possibly all or none
 pub record TakesFront (before after : Sunk) (bytes : List ℕ) : Type 0 where
   pub front : List ℕ
   pub rest : List ℕ
   pub whole : bytes ≡ front ++ rest
-  pub takes : Takes before after front
+  pub takes : TakesBytes before after front

@@ -24,7 +24,7 @@ pub record IsChangedPartly (change : List ℕ → Files → Files) (bytes : List
 
 -- A call that changes the files by these bytes: by all of them where it answers, and by some front
 -- of them where it is refused.
-pub record Writes {A : Type 0} (change : List ℕ → Files → Files) (bytes : List ℕ)
+pub record WritesOrFront {A : Type 0} (change : List ℕ → Files → Files) (bytes : List ℕ)
     (before after : Shelved) (result : Result A ShelfErr) : Type 0 where
   pub whole : OnOk result (IsChanged change bytes before.files after.files)
   pub front : IsChangedPartly change bytes before.files after.files

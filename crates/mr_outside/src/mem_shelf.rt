@@ -6,7 +6,7 @@ ghost use Rattle.mr_outside.specs.Files.{file, with_file, grown, replaced, overw
 ghost use Rattle.mr_outside.specs.Told.{OfFile};
 ghost use Rattle.mr_outside.specs.Causes.{ShelfCauses, CountsRead};
 ghost use Rattle.mr_outside.specs.Reading.{FillsFront, GivesFrom};
-ghost use Rattle.mr_outside.specs.Writing.{IsThere, Writes};
+ghost use Rattle.mr_outside.specs.Writing.{IsThere, WritesOrFront};
 ghost use Rattle.mr_outside.specs.Memory.{no_calls, next_fails, called, half_of, shelved, files_of};
 ghost use Rattle.std.specs.FinMap as finite;
 
@@ -143,7 +143,7 @@ impl Shelf for MemShelf {
         ensures failing { IsTrue (next_fails self.old.calls)
             → IsErrOf result ShelfErr.Fault ⊎ IsErrOf result ShelfErr.NoMemory }
         ensures there { OnOk result (IsThere (Some self.old.files) name.now) }
-        ensures writes { Writes (grown name.now) bytes.now
+        ensures writes { WritesOrFront (grown name.now) bytes.now
             (shelved self.old) (shelved self.new) result }
         ensures causes { ShelfCauses name.now (shelved self.old) (shelved self.new) result }
     {
@@ -168,7 +168,7 @@ impl Shelf for MemShelf {
         ensures fails { IsErrOf result ShelfErr.Fault ↔ IsTrue (next_fails self.old.calls) }
         ensures memory { ¬ IsErrOf result ShelfErr.NoMemory }
         ensures there { OnOk result (IsThere (Some self.old.files) name.now) }
-        ensures writes { Writes (overwritten name.now at) bytes.now
+        ensures writes { WritesOrFront (overwritten name.now at) bytes.now
             (shelved self.old) (shelved self.new) result }
         ensures causes { ShelfCauses name.now (shelved self.old) (shelved self.new) result }
     {

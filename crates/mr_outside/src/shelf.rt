@@ -7,7 +7,7 @@ ghost use Rattle.mr_outside.specs.State.{Shelved};
 ghost use Rattle.mr_outside.specs.Told.{OfFile};
 ghost use Rattle.mr_outside.specs.Causes.{ShelfCauses, CountsRead};
 ghost use Rattle.mr_outside.specs.Reading.{FillsFront, GivesFrom};
-ghost use Rattle.mr_outside.specs.Writing.{IsThere, IsChanged, Writes};
+ghost use Rattle.mr_outside.specs.Writing.{IsThere, IsChanged, WritesOrFront};
 
 use std::alloc::AllocError;
 use thiserror::Error;
@@ -74,7 +74,7 @@ pub trait Shelf {
     /// Puts the bytes to the end of the file. After a refusal it has grown by some front of them.
     fn append(&mut self, name: &str, bytes: &[u8]) -> Result<(), ShelfErr>
         ensures there { OnOk result (IsThere (state self.old).files name.now) }
-        ensures writes { Writes (grown name.now) bytes.now
+        ensures writes { WritesOrFront (grown name.now) bytes.now
             (state self.old) (state self.new) result }
         ensures causes { ShelfCauses name.now (state self.old) (state self.new) result };
 
@@ -84,7 +84,7 @@ pub trait Shelf {
         requires { OfFile (state self.old).files name.now ⊤
             (λ held. at + length bytes.now ≤ length held) }
         ensures there { OnOk result (IsThere (state self.old).files name.now) }
-        ensures writes { Writes (overwritten name.now at) bytes.now
+        ensures writes { WritesOrFront (overwritten name.now at) bytes.now
             (state self.old) (state self.new) result }
         ensures causes { ShelfCauses name.now (state self.old) (state self.new) result };
 

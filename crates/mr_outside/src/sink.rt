@@ -2,7 +2,7 @@
 
 ghost use Rattle.std.specs.Prelude.{◌≡◌, ◌<◌, ◌≤◌, length, take, IfOk, OnOk, OnErr};
 ghost use Rattle.mr_outside.specs.State.{Sunk};
-ghost use Rattle.mr_outside.specs.Told.{Takes, TakesFront};
+ghost use Rattle.mr_outside.specs.Told.{TakesBytes, TakesFront};
 ghost use Rattle.mr_outside.specs.Causes.{SinkCauses};
 
 use std::alloc::AllocError;
@@ -38,14 +38,14 @@ pub trait Sink {
         ensures within { IfOk result (λ n. n ≤ length bytes.now) }
         ensures progress { IfOk result (λ n. 0 < length bytes.now → 0 < n) }
         ensures front { IfOk result (λ n.
-            Takes (state self.old) (state self.new) (take n bytes.now)) }
+            TakesBytes (state self.old) (state self.new) (take n bytes.now)) }
         ensures refused { OnErr result ((state self.new).taken ≡ (state self.old).taken) }
         ensures causes { SinkCauses (state self.old) (state self.new) result };
 }
 
 /// Gives all the bytes to the sink. After a refusal some front of them was taken.
 pub fn write_all<W: Sink>(out: &mut W, bytes: &[u8]) -> Result<(), SinkErr>
-    ensures whole { OnOk result (Takes (W.state out.old) (W.state out.new) bytes.now) }
+    ensures whole { OnOk result (TakesBytes (W.state out.old) (W.state out.new) bytes.now) }
     ensures front { TakesFront (W.state out.old) (W.state out.new) bytes.now }
     ensures causes { SinkCauses (W.state out.old) (W.state out.new) result }
 {

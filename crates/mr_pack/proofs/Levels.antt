@@ -6,28 +6,29 @@ use Rattle.std.proofs.lemmas.Simd.{map-map}
 use Rattle.mr_geom.specs.Rectangle.{Rectangle}
 use Rattle.mr_tree.specs.Tree.{rect}
 use Rattle.mr_tree.specs.declared.tree.Tree.{Tree}
-use Rattle.mr_pack.specs.Entries.{placed}
+use Rattle.mr_pack.specs.Entries.{placed_item}
 use Rattle.mr_pack.specs.Pack.{placed_nodes}
-use Rattle.mr_pack.specs.Views.{with_item}
+use Rattle.mr_pack.specs.private.Views.{with_item}
 use Rattle.mr_pack.specs.declared.placed.Placed.{Placed}
 
 node_entries_more : (i : ℕ) (ts : List Tree) (t : Tree) →
-    placed_nodes i (ts ++ t ∷ []) ≡ placed_nodes i ts ++ placed (rect t) (i + length ts) t ∷ []
-node_entries_more i [] t = let e : i ≡ i + 0 = omega arith in ap (λ n. placed (rect t) n t ∷ []) e
+    placed_nodes i (ts ++ t ∷ []) ≡ placed_nodes i ts ++ placed_item (rect t) (i + length ts) t ∷ []
+node_entries_more i [] t = let e : i ≡ i + 0 = omega arith in ap (λ n. placed_item (rect t) n t ∷ []) e
 node_entries_more i (u ∷ us) t =
     let e : (i + 1) + length us ≡ i + suc (length us) = omega arith in
-    ap (λ es. placed (rect u) i u ∷ es)
-    (node_entries_more (i + 1) us t ∙ ap (λ n. placed_nodes (i + 1) us ++ placed (rect t) n t ∷ []) e)
+    ap (λ es. placed_item (rect u) i u ∷ es)
+    (node_entries_more (i + 1) us t ∙ ap (λ n. placed_nodes (i + 1) us ++ placed_item (rect t) n t ∷ []) e)
 
 pub item_of_entry : {S T : Type 0} (f : S → T) (r : Option Rectangle) (tie : ℕ) (x : S) →
-    with_item f (placed r tie x) ≡ placed r tie (f x)
+    with_item f (placed_item r tie x) ≡ placed_item r tie (f x)
 item_of_entry f None tie x = refl
 item_of_entry f (Some r) tie x = refl
 
 -- the next node of a level
 pub one_more_entry : {S : Type 0} (f : S → Tree) (entries now : List (Placed S)) (nodes : List S) (node : S)
     (one : Placed S) (bounds : Option Rectangle) (position : ℕ) →
-    now ≡ entries ++ one ∷ [] → one ≡ placed bounds position node → rect (f node) ≡ bounds → position ≡ length nodes →
+    now ≡ entries ++ one ∷ [] → one ≡ placed_item bounds position node → rect (f node) ≡ bounds → position ≡ length
+    nodes →
     map (with_item f) entries ≡ placed_nodes 0 (map f nodes) →
     map (with_item f) now ≡ placed_nodes 0 (map f (nodes ++ node ∷ []))
 one_more_entry f entries now nodes node one bounds position is here round at so_far =
@@ -35,7 +36,7 @@ one_more_entry f entries now nodes node one bounds position is here round at so_
     ap (map (with_item f)) is
     ∙ map_push (with_item f) entries one
     ∙ (λ i. so_far i ++ (ap (with_item f) here ∙ item_of_entry f bounds position node) i ∷ [])
-    ∙ (λ i. placed_nodes 0 (map f nodes) ++ placed (sym round i) (e i) (f node) ∷ [])
+    ∙ (λ i. placed_nodes 0 (map f nodes) ++ placed_item (sym round i) (e i) (f node) ∷ [])
     ∙ sym (node_entries_more 0 (map f nodes) (f node))
     ∙ ap (placed_nodes 0) (sym (map_push f nodes node))
 

@@ -6,7 +6,7 @@ use Rattle.std.proofs.lemmas.List.{length-map, map-append, take-map, drop-map}
 use Rattle.mr_pack.specs.Cuts.{parts, group_count, slice_count, group_start, slice_start}
 use Rattle.mr_pack.specs.Entries.{is_left, is_below, arranged, in_groups, grouped}
 use Rattle.mr_record.specs.Sorting.{put_in, sorted_by}
-use Rattle.mr_pack.specs.Views.{with_item}
+use Rattle.mr_pack.specs.private.Views.{with_item}
 use Rattle.mr_pack.specs.declared.placed.Placed.{Placed}
 
 put_map : {A B : Type 0} (f : A → B) (before : A → A → Bool) (before' : B → B → Bool) →

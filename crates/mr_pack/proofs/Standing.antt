@@ -17,7 +17,7 @@ use Rattle.mr_tree.proofs.Equations.{level-Inner, level-Leaf, level-Empty}
 use Rattle.mr_tree.proofs.Induction.{every-Empty, every-Leaf, every-Inner}
 use Rattle.mr_pack.specs.Cuts.{group_count}
 use Rattle.mr_pack.specs.HalfFull.{IsHalfFull, AreChildrenHalfFull, IsHalfFullBelow}
-use Rattle.mr_pack.specs.Entries.{in_groups, grouped, placed}
+use Rattle.mr_pack.specs.Entries.{in_groups, grouped, placed_item}
 use Rattle.mr_tree.specs.Limits.{leaf_limit, inner_limit}
 use Rattle.mr_pack.specs.Pack.{placed_record, placed_nodes, leaves_of, level_above, root_above, pack}
 use Rattle.mr_pack.proofs.Groups.{IsGroup, all_groups, items}
@@ -132,7 +132,7 @@ pub items_of_nodes : (i : ℕ) (ts : List Tree) → items (placed_nodes i ts) �
 items_of_nodes i [] = refl
 items_of_nodes i (t ∷ ts) = λ k. item_is (rect t) i t k ∷ items_of_nodes (i + 1) ts k
   where
-    item_is : (r : Option Rectangle) (tie : ℕ) (u : Tree) → (placed r tie u).item ≡ u
+    item_is : (r : Option Rectangle) (tie : ℕ) (u : Tree) → (placed_item r tie u).item ≡ u
     item_is None tie u = refl
     item_is (Some r) tie u = refl
 

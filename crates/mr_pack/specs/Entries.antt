@@ -8,9 +8,15 @@ use Rattle.mr_record.specs.Sorting.{sorted_by}
 use Rattle.mr_pack.specs.declared.placed.Placed.{Placed}
 
 -- an item with twice the middle of its rectangle, and the number that decides between equal middles
-abbrev pub placed : {T : Type 0} → Option Rectangle → ℕ → T → Placed T
-placed None tie item = record { x = pos 0; y = pos 0; tie = tie; item = item }
-placed (Some r) tie item = record { x = r.x0 +ℤ r.x1; y = r.y0 +ℤ r.y1; tie = tie; item = item }
+abbrev pub placed_item : {T : Type 0} → Option Rectangle → ℕ → T → Placed T
+placed_item None tie item = record { x = pos 0; y = pos 0; tie = tie; item = item }
+placed_item (Some r) tie item = record {
+  x = r.x0 +ℤ r.x1;
+  y = r.y0 +ℤ r.y1;
+  tie = tie;
+  item =
+      item;
+}
 
 -- the middle of the one lies left of the other's, or on one line with it and decided for
 abbrev pub is_left : {T : Type 0} → Placed T → Placed T → Bool

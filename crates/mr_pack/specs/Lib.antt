@@ -2,8 +2,7 @@ pub mod Cuts
 pub mod Entries
 pub mod HalfFull
 pub mod Least
-pub mod Leaves
 pub mod Pack
 pub mod Repeats
 pub mod Twice
-pub mod Views
+pub mod private

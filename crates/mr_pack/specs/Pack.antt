@@ -6,18 +6,18 @@ use Rattle.mr_tree.specs.Limits.{leaf_limit, inner_limit}
 use Rattle.mr_tree.specs.Tree.{rect}
 use Rattle.mr_tree.specs.declared.tree.Tree.{Tree}
 use Rattle.mr_tree.specs.declared.tree.Tree.TheVariants as tree
-use Rattle.mr_pack.specs.Entries.{placed, grouped}
+use Rattle.mr_pack.specs.Entries.{placed_item, grouped}
 use Rattle.mr_pack.specs.declared.placed.Placed.{Placed}
 
 -- the number of a record decides between equal middles
 abbrev pub placed_record : Record → Placed Record
-placed_record r = placed (Some r.rect) r.number r
+placed_record r = placed_item (Some r.rect) r.number r
 
 -- the position of a node in its level decides between equal middles; the first of these stands at
 -- position i
 abbrev pub placed_nodes : (i : ℕ) → List Tree → List (Placed Tree)
 placed_nodes i [] = []
-placed_nodes i (t ∷ ts) = placed (rect t) i t ∷ placed_nodes (i + 1) ts
+placed_nodes i (t ∷ ts) = placed_item (rect t) i t ∷ placed_nodes (i + 1) ts
 
 -- the lowest level
 unfoldable pub leaves_of : List Record → List Tree

@@ -10,6 +10,6 @@ abbrev pub numbers_of : List Record → List ℕ
 numbers_of records = map (λ (r : Record). r.number) records
 
 -- two records have one number, and the refusal names the least such number; or memory ran out
-abbrev pub IsCause : PackErr → List Record → Type 0
-IsCause (NumberTwice n) records = IsLeastTwice n (numbers_of records)
-IsCause NoMemory records = ⊤
+abbrev pub IsPackCause : PackErr → List Record → Type 0
+IsPackCause (NumberTwice n) records = IsLeastTwice n (numbers_of records)
+IsPackCause NoMemory records = ⊤

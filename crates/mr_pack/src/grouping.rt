@@ -14,7 +14,7 @@ fn group_count(count: usize, capacity: usize) -> usize
     requires { 0 < capacity }
     ensures value { result ≡ count_of_groups count capacity }
     ensures within { result ≤ count }
-    ensures some { 0 < count → 0 < result }
+    ensures not_empty { 0 < count → 0 < result }
 {
     count.div_ceil(capacity)
 }
@@ -24,7 +24,7 @@ fn slice_count(groups: usize) -> usize
     requires { groups ≤ 2 ^ 20 }
     ensures value { result ≡ count_of_slices groups }
     ensures within { result ≤ groups }
-    ensures some { 0 < groups → 0 < result }
+    ensures not_empty { 0 < groups → 0 < result }
 {
     let mut slices = 0;
     while slices * slices < groups {

@@ -9,16 +9,16 @@ ghost use Rattle.mr_record.specs.Record.{HasLayer};
 ghost use Rattle.mr_tree.specs.Limits.{leaf_limit};
 ghost use Rattle.mr_tree.specs.Tree.{level as level_in};
 ghost use Rattle.mr_tree.specs.Digest.{by, entry, root};
-ghost use Rattle.mr_tree.specs.Slim.{IsSlim};
+ghost use Rattle.mr_tree.specs.private.Slim.{IsSlim};
 ghost use Rattle.mr_tree.specs.WellFormed.{WellFormed, HasOneLevel};
 ghost use Rattle.mr_tree.specs.declared.tree.Tree.TheFolds.{every-Tree};
-ghost use Rattle.mr_pack.specs.Leaves.{leaves as leaves_in, leaf_entry as entry_of_leaf, leaf_entries};
+ghost use Rattle.mr_pack.specs.private.Leaves.{leaves as leaves_in, leaf_entry as entry_of_leaf, leaf_entries};
 
-use mr_halves::{Work, in_halves};
+use mr_fork_join::{Work, in_halves};
 use mr_outside::Gate;
 use mr_record::{Record, Version, u64_of_bytes};
 use mr_tree::{
-    Entry, Gathering, Hash32, Hashes, Tree, count_of, empty_entry, leaf_entry, level_of,
+    Entry, Hash32, Hashes, NodeHasher, Tree, count_of, empty_entry, leaf_entry, level_of,
     root_digest,
 };
 use std::alloc::{AllocError, Global};
@@ -128,7 +128,7 @@ fn entry_over<H: Hashes>(tree: &Tree, level: u8, entries: &[Entry]) -> Entry
         Tree::Empty => empty_entry::<H>(),
         Tree::Leaf(_) => entries[0],
         Tree::Inner(children) => {
-            let mut all = Gathering::<H>::inner(level, children.as_slice().len() as u8);
+            let mut all = NodeHasher::<H>::inner(level, children.as_slice().len() as u8);
             let mut rest = entries;
             for child in children.as_slice() {
                 let (front, back) = rest.split_at(leaf_count(child));

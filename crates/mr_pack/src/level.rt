@@ -9,7 +9,7 @@ ghost use Rattle.mr_tree.specs.Tree.{rect};
 ghost use Rattle.mr_tree.specs.declared.tree.Tree.TheVariants as variants;
 ghost use Rattle.mr_pack.specs.Pack.{leaves_of, level_above, placed_record, placed_nodes};
 ghost use Rattle.mr_pack.specs.declared.node.Node.{Node as node};
-ghost use Rattle.mr_pack.specs.Views.{seen, with_tree};
+ghost use Rattle.mr_pack.specs.private.Views.{record_value, with_tree};
 
 use crate::grouping::group;
 use crate::node::Node;
@@ -72,7 +72,7 @@ fn inner(alloc: Global, nodes: Vec<Node>) -> Result<Node, AllocError>
 
 // The entries of some records.
 fn record_entries(alloc: Global, records: &[Record]) -> Result<Vec<Placed<&Record>>, AllocError>
-    ensures { IfOk result (λ v. map seen v.items ≡ map placed_record records.now) }
+    ensures { IfOk result (λ v. map record_value v.items ≡ map placed_record records.now) }
 {
     let mut entries = Vec::with_capacity(alloc, records.len())?;
     for record in records {

@@ -10,7 +10,7 @@ ghost use Rattle.mr_tree.specs.Tree.{records};
 ghost use Rattle.mr_tree.specs.WellFormed.{WellFormed};
 ghost use Rattle.mr_pack.specs.HalfFull.{IsHalfFullBelow};
 ghost use Rattle.mr_pack.specs.Pack.{root_above, pack};
-ghost use Rattle.mr_pack.specs.Twice.{IsCause};
+ghost use Rattle.mr_pack.specs.Twice.{IsPackCause};
 ghost use Rattle.mr_pack.specs.declared.load.PackErr.TheVariants as errors;
 ghost use Rattle.mr_pack.specs.declared.node.Node.{Node as node};
 
@@ -78,7 +78,7 @@ fn packed(alloc: Global, list: &[Record]) -> Result<Tree, AllocError>
 fn check_numbers(alloc: Global, list: &[Record]) -> Result<(), PackErr>
     ensures apart { OnOk result
         (AllPairs (λ (a b : types.Record). a.number ≢ b.number) list.now) }
-    ensures refused { IfErr result (λ e. IsCause e list.now) }
+    ensures refused { IfErr result (λ e. IsPackCause e list.now) }
     ensures only_memory { AllPairs (λ (a b : types.Record). a.number ≢ b.number) list.now
         → IfErr result (λ e. e ≡ errors.NoMemory) }
 {
@@ -138,7 +138,7 @@ pub fn pack(alloc: Global, list: Vec<Record>) -> Result<Tree, PackErr>
     ensures well_formed { IfOk result WellFormed }
     ensures half_full { IfOk result IsHalfFullBelow }
     ensures same_records { IfOk result (λ t. IsPermutation list.items (records t)) }
-    ensures refused { IfErr result (λ e. IsCause e list.items) }
+    ensures refused { IfErr result (λ e. IsPackCause e list.items) }
     ensures only_memory { AllPairs (λ (a b : types.Record). a.number ≢ b.number) list.items
         → IfErr result (λ e. e ≡ errors.NoMemory) }
 {
@@ -147,7 +147,8 @@ pub fn pack(alloc: Global, list: Vec<Record>) -> Result<Tree, PackErr>
 }
 
 /// Packs at most 2^20 records as `pack` does, and gives the root digest of the map beside the tree,
-/// at batch 0. The leaves are hashed in joined halves (`mr_halves`): piece `i` is the leaf at place
+/// at batch 0. The leaves are hashed in joined halves (`mr_fork_join`): piece `i` is the leaf at
+/// place
 /// `i` from the left, counted from 0, and the gate is told the last 8 bytes of its digest as a
 /// big-endian number. No answer depends on the gate.
 pub fn pack_joined<H: Hash32, G: Gate, R: Threads + Sync>(
@@ -165,7 +166,7 @@ pub fn pack_joined<H: Hash32, G: Gate, R: Threads + Sync>(
     ensures well_formed { IfOk result (λ p. WellFormed p.0) }
     ensures half_full { IfOk result (λ p. IsHalfFullBelow p.0) }
     ensures same_records { IfOk result (λ p. IsPermutation list.items (records p.0)) }
-    ensures refused { IfErr result (λ e. IsCause e list.items) }
+    ensures refused { IfErr result (λ e. IsPackCause e list.items) }
     ensures only_memory { AllPairs (λ (a b : types.Record). a.number ≢ b.number) list.items
         → IfErr result (λ e. e ≡ errors.NoMemory) }
 {

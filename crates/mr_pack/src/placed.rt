@@ -1,7 +1,7 @@
 //! An entry with what decides where it goes.
 
 ghost use Rattle.std.specs.Prelude.{◌≡◌, ◌+ℤ◌};
-ghost use Rattle.mr_pack.specs.Entries.{placed};
+ghost use Rattle.mr_pack.specs.Entries.{placed_item};
 
 use mr_geom::Rect;
 
@@ -24,7 +24,7 @@ fn twice_middle(low: i32, high: i32) -> i64
 
 // The item, placed by its rectangle.
 pub(crate) fn place<T>(rect: Option<Rect>, tie: u64, item: T) -> Placed<T>
-    ensures { result ≡ placed rect tie item }
+    ensures { result ≡ placed_item rect tie item }
 {
     match rect {
         None => Placed {

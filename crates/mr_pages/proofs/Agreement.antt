@@ -8,7 +8,7 @@ use Rattle.std.proofs.lemmas.Bool.{eqb-true, eqb-false, eq-eqb, ne_eqb, ltb-fals
 use Rattle.std.proofs.lemmas.List.Elements.{All-take, All-drop, recursion_from_All}
 use Rattle.std.proofs.lemmas.Nat.{div-add-mod'}
 use Rattle.std.proofs.Math.Nat.{mul-mod_left, mul-div_cancel, mul-pos}
-use Rattle.mr_record.specs.Bytes.{AreBytes}
+use Rattle.mr_record.specs.private.Bytes.{AreBytes}
 use Rattle.mr_record.specs.Version.{told}
 use Rattle.mr_tree.specs.Limits.{count_limit}
 use Rattle.mr_tree.proofs.Told.{count_told}
@@ -22,8 +22,8 @@ use Rattle.mr_pages.specs.declared.rule.MapRule.{MapRule}
 use Rattle.mr_pages.specs.declared.rule.MapRule.TheVariants as rule
 use Rattle.mr_pages.specs.Page.{Node, Head, page_limit, IsNode, IsRoot, IsHead, Form, IsForm}
 use Rattle.mr_pages.specs.File.{File, IsFile, page_at, is_odd_size, file_of}
-use Rattle.mr_pages.specs.Stands.{Placed, Row, Leaf, Inner, no_more, first, tree_of, pages_of, page_of, link_of, IsWritten, AreWritten, IsChain, AreAllPages, whole_tree, whole_pages, HasNode, HasFree, Stands}
-use Rattle.mr_pages.specs.Law.{Agrees}
+use Rattle.mr_pages.specs.Stands.{Placed, Row, Leaf, Inner, no_more, first, tree_of, pages_of, page_of, link_of, IsWritten, AreWritten, IsChain, AreAllPages, whole_tree, whole_pages, HasNode, HasFree, StandsForTree}
+use Rattle.mr_pages.specs.Law.{AgreesWithFault}
 use Rattle.mr_pages.proofs.Lists.{all_left, all_right, all_weaker}
 use Rattle.mr_pages.proofs.Chains.{all_within}
 use Rattle.mr_pages.proofs.Building.{IsRead}
@@ -147,7 +147,7 @@ ok_again (Err x) h e = cc
 
 module _ (form : Form) (is : IsForm form) (hash : List ℕ → List ℕ) (bytes : List ℕ) where
   pub spelled_as_read : AreBytes bytes → (t : Tree) (b : ℕ) → StandsRead hash (file_of form bytes) t b →
-      Stands form hash bytes t b
+      StandsForTree form hash bytes t b
   spelled_as_read all t b s =
       let h = head_read form is bytes all s.head s.sealed in
       record {
@@ -221,7 +221,7 @@ module _ (form : Form) (is : IsForm form) (hash : List ℕ → List ℕ) (bytes 
       not_first (Inner p Ps) all e = let low : 0 < p = all.0.0 in omega (arith, low, e)
 
   pub read_as_spelled : ((xs : List ℕ) → length (hash xs) ≡ 32) →
-      (t : Tree) (b : ℕ) → WellFormed t → HasLayers form.version t → Stands form hash bytes t b →
+      (t : Tree) (b : ℕ) → WellFormed t → HasLayers form.version t → StandsForTree form hash bytes t b →
       StandsRead hash (file_of form bytes) t b
   read_as_spelled sized t b well layers s =
       let n = s.head.pages in
@@ -266,7 +266,7 @@ module _ (form : Form) (is : IsForm form) (hash : List ℕ → List ℕ) (bytes 
 -- ---- the law
 
 pub agrees : (form : Form) → IsForm form → (hash : List ℕ → List ℕ) → ((xs : List ℕ) → length (hash xs) ≡ 32) →
-    (bytes : List ℕ) → AreBytes bytes → Agrees form hash bytes
+    (bytes : List ℕ) → AreBytes bytes → AgreesWithFault form hash bytes
 agrees form is hash sized bytes all =
     let good = is_file form is bytes all in
     record {

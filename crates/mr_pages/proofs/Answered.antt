@@ -2,7 +2,7 @@
 use Rattle.std.proofs.Common.{Fits, w8, ◌≡◌, ℕ, zero, suc, ◌+◌, ◌*◌, ◌/◌, ◌<◌, ◌≤◌, ◌^◌, true, false, List, [], ◌++◌, length, take, drop, get_or, sym, refl, ap, subst, ◌∙◌, arith, inl, inr}
 use Rattle.std.specs.Prelude.{⊤, Bool, max, min, Option, Some, None, option_map, Result, Ok, Err, replicate, if◌then◌else◌, MatchOption, IfOk, IfSome, IsSome}
 use Rattle.std.proofs.lemmas.List.{get_or_default}
-use Rattle.mr_record.specs.Bytes.{AreBytes}
+use Rattle.mr_record.specs.private.Bytes.{AreBytes}
 use Rattle.mr_tree.specs.WellFormed.{WellFormed, HasLayers}
 use Rattle.mr_tree.specs.declared.tree.Tree.{Tree}
 use Rattle.std.proofs.lemmas.Bool.{both_ways}
@@ -23,17 +23,17 @@ use Rattle.mr_pages.specs.declared.error.MapErr.{MapErr}
 use Rattle.mr_pages.specs.declared.error.MapErr.TheVariants as errors
 use Rattle.mr_pages.specs.Page.{Form, IsForm, page_limit}
 use Rattle.mr_pages.specs.File.{File, page_at, is_odd_size, pages_of, file_of, version_of, form_at}
-use Rattle.mr_pages.specs.Stands.{Stands}
+use Rattle.mr_pages.specs.Stands.{StandsForTree}
 use Rattle.mr_pages.specs.Faults.{file_faults, first_of, mapfault}
-use Rattle.mr_pages.specs.Law.{IsOnlyMap, Agrees}
-use Rattle.mr_pages.specs.Walking.{Opens, child_link, head_of}
+use Rattle.mr_pages.specs.Law.{IsOnlyMap, AgreesWithFault}
+use Rattle.mr_pages.specs.Walking.{OpensFile, child_link, head_of}
 use Rattle.mr_pages.specs.declared.checking.Checked.{Checked}
 use Rattle.mr_record.specs.declared.version.Version.{Version}
 use Rattle.mr_record.specs.declared.version.Version.TheVariants.{One, Two}
 use Rattle.std.proofs.Math.Nat.{mul-div_cancel}
 use Rattle.mr_pages.specs.PageBytes.{page_size, head_bytes, form_by}
-use Rattle.mr_pages.specs.Opening.{of_shelf, pages_in, Fails, OrFails, Answers, SomeBytes, SomeFile, Tells, MapCauses}
-use Rattle.mr_pages.specs.Source.{Settles, GivesFile, CheckedWhole, Checks, MakesTree, HasPages, IsPaged, IsFront, HasFirst, TellsPage, on_shelf, told_bytes}
+use Rattle.mr_pages.specs.Opening.{of_shelf, pages_in, FailsWithoutFault, OrFails, AnswersMap, SomeBytes, SomeFile, TellsBytes, MapCauses}
+use Rattle.mr_pages.specs.Source.{IfNotFailed, GivesFile, CheckedWhole, ChecksFile, MakesTree, HasWholePages, IsPaged, IsFrontOfFile, HasFirst, TellsPage, on_shelf, told_bytes}
 use Rattle.mr_pages.proofs.HeadLaws.{first_form_is, second_form_is}
 use Rattle.mr_pages.proofs.PageReads.{if_there}
 use Rattle.mr_pages.proofs.Short.{at_least}
@@ -64,16 +64,16 @@ odd_fault form hash bytes odd =
     (if b then Err rule.Size else form.head_in (length bytes / form.size) (page_at form bytes 0)))) odd
 
 module _ (form : Form) (is : IsForm form) (hash : List ℕ → List ℕ) (bytes : List ℕ) where
-  pub answered : AreBytes bytes → (r : Result Opened MapErr) → Opens hash (file_of form bytes) r →
-      Answers form hash bytes r
+  pub answered : AreBytes bytes → (r : Result Opened MapErr) → OpensFile hash (file_of form bytes) r →
+      AnswersMap form hash bytes r
   answered all (Ok r) o =
       let s = stands_there hash (file_of form bytes) (is_file form is bytes all) o.0 o.2 o.3 in (
         o.1,
         record {
           well = subst WellFormed (sym o.4) s.well;
           layers = subst (HasLayers form.version) (sym o.4) s.layers;
-          stands = subst (λ t. Stands form hash bytes t r.batch) (sym o.4)
-              (subst (Stands form hash bytes _) (sym o.5) (spelled_as_read form is hash bytes all _ _ s.stands));
+          stands = subst (λ t. StandsForTree form hash bytes t r.batch) (sym o.4)
+              (subst (StandsForTree form hash bytes _) (sym o.5) (spelled_as_read form is hash bytes all _ _ s.stands));
         },
       )
   answered all (Err (errors.Map f)) o = o
@@ -125,7 +125,8 @@ OfFile-and (Some files) name A B P Q h k = at (file files name) h k
 
 module _ (form : Form) (is : IsForm form) (hash : List ℕ → List ℕ) (sized : (xs : List ℕ) → length (hash xs) ≡ 32) where
   -- the call failed
-  pub tells_failed : (bytes : List ℕ) → AreBytes bytes → (r : Result Opened MapErr) → Fails r → Tells form hash bytes r
+  pub tells_failed : (bytes : List ℕ) → AreBytes bytes → (r : Result Opened MapErr) → FailsWithoutFault r → TellsBytes
+      form hash bytes r
   tells_failed bytes all (Ok m) f = absurd f
   tells_failed bytes all (Err (errors.Map g)) f = absurd f
   tells_failed bytes all (Err errors.Missing) f =
@@ -136,8 +137,8 @@ module _ (form : Form) (is : IsForm form) (hash : List ℕ → List ℕ) (sized 
       record { are = all; answers = tt; fault = λ g e. inr tt; map = λ t b k. inr tt }
 
   -- the bytes were read
-  pub tells_read : (bytes : List ℕ) → AreBytes bytes → (r : Result Opened MapErr) → Answers form hash bytes r →
-      Tells form hash bytes r
+  pub tells_read : (bytes : List ℕ) → AreBytes bytes → (r : Result Opened MapErr) → AnswersMap form hash bytes r →
+      TellsBytes form hash bytes r
   tells_read bytes all (Ok m) a =
       let law = agrees form is hash sized bytes all in
       record {
@@ -161,7 +162,7 @@ module _ (form : Form) (is : IsForm form) (hash : List ℕ → List ℕ) (sized 
 
   -- they are no whole pages
   pub tells_odd : (bytes : List ℕ) → AreBytes bytes → is_odd_size form.size (length bytes) ≡ true →
-      Tells form hash bytes (Err (errors.Map size_fault))
+      TellsBytes form hash bytes (Err (errors.Map size_fault))
   tells_odd bytes all odd = record {
     are = all;
     answers = odd_fault form hash bytes odd;
@@ -173,7 +174,7 @@ module _ (form : Form) (is : IsForm form) (hash : List ℕ → List ℕ) (sized 
         (are_whole_pages form.size (length bytes) s.head.pages is.some s.size s.some s.few) odd);
   }
 
-  pub some_failed : (r : Result Opened MapErr) → Fails r → SomeBytes form hash r
+  pub some_failed : (r : Result Opened MapErr) → FailsWithoutFault r → SomeBytes form hash r
   some_failed r f =
       let none = All-nil (λ b. b < 2 ^ 8) in
       ([], none, (tells_failed [] none r f).answers)
@@ -193,27 +194,27 @@ module _ (form : Form) (is : IsForm form) (hash : List ℕ → List ℕ) (sized 
   -- ---- the same of a named file
 
   pub told_failed : (told : Option Files) (name : List ℕ) (r : Result Opened MapErr) → OfFile told name ⊤ AreBytes →
-      Fails r → OfFile told name (Fails r) (λ bytes. Tells form hash bytes r)
+      FailsWithoutFault r → OfFile told name (FailsWithoutFault r) (λ bytes. TellsBytes form hash bytes r)
   told_failed told name r all f =
       OfFile-or told name _ _ _ _ (λ absent. f) (λ bytes are. tells_failed bytes are r f) all
 
   pub told_odd : (told : Option Files) (name : List ℕ) (n : ℕ) → OfFile told name ⊥ AreBytes →
       OfFile told name ⊥ (λ bytes. length bytes ≡ n) → is_odd_size form.size n ≡ true →
-      OfFile told name (Fails (Err (errors.Map size_fault)))
-      (λ bytes. Tells form hash bytes (Err (errors.Map size_fault)))
+      OfFile told name (FailsWithoutFault (Err (errors.Map size_fault)))
+      (λ bytes. TellsBytes form hash bytes (Err (errors.Map size_fault)))
   told_odd told name n all long odd =
       OfFile-or told name _ _ _ _ (λ absent. absurd absent.1)
       (λ bytes both. tells_odd bytes both.0 (subst (λ m. is_odd_size form.size m ≡ true) (sym both.1) odd))
       (OfFile-and told name _ _ _ _ all long)
 
   pub told_answers : (told : Option Files) (name : List ℕ) (r : Result Opened MapErr) → OfFile told name ⊥ AreBytes →
-      OfFile told name ⊥ (λ bytes. Answers form hash bytes r) →
-      OfFile told name (Fails r) (λ bytes. Tells form hash bytes r)
+      OfFile told name ⊥ (λ bytes. AnswersMap form hash bytes r) →
+      OfFile told name (FailsWithoutFault r) (λ bytes. TellsBytes form hash bytes r)
   told_answers told name r all a =
       OfFile-or told name _ _ _ _ (λ absent. absurd absent.1) (λ bytes both. tells_read bytes both.0 r both.1)
       (OfFile-and told name _ _ _ _ all a)
 
-pub fails_of : (e : ShelfErr) → Fails (Err (of_shelf e))
+pub fails_of : (e : ShelfErr) → FailsWithoutFault (Err (of_shelf e))
 fails_of shelf.Missing = tt
 fails_of shelf.Fault = tt
 fails_of shelf.NoMemory = tt
@@ -241,50 +242,50 @@ causes_quiet name before after f same =
 module _ (form : Form) (fits : IsForm form) (hash : List ℕ → List ℕ) (name : List ℕ) (lent pages : ℕ) (s : Shelved)
     (paged : IsPaged form pages s.files name) where
   answered_err : (bytes : List ℕ) (e : MapErr) → AreBytes bytes →
-      Checks {M = Tree} hash (file_of form bytes) (Err e) → Answers form hash bytes (Err e)
+      ChecksFile {M = Tree} hash (file_of form bytes) (Err e) → AnswersMap form hash bytes (Err e)
   answered_err bytes (errors.Map f) all c = c
   answered_err bytes errors.Missing all c = tt
   answered_err bytes errors.Fault all c = tt
   answered_err bytes errors.NoMemory all c = tt
 
   answered_ok : (bytes : List ℕ) (c : Checked Tree) → AreBytes bytes →
-      Checks hash (file_of form bytes) (Ok c) →
+      ChecksFile hash (file_of form bytes) (Ok c) →
       MakesTree (λ (m t : Tree). m ≡ t) (option_map child_link c.head.root) c.made (file_of form bytes) →
-      Answers form hash bytes (Ok (record { tree = c.made; version = form.version; batch = c.head.batch }))
+      AnswersMap form hash bytes (Ok (record { tree = c.made; version = form.version; batch = c.head.batch }))
   answered_ok bytes c all checks made =
       answered form fits hash bytes all (Ok (record { tree = c.made; version = form.version; batch = c.head.batch }))
       (checks.0, refl, head_of c.head, checks.1, made, refl)
 
   -- of the file that is told
   told_of : (P : List ℕ → Type 0) → ((bytes : List ℕ) → told_bytes s.files name ≡ Some bytes →
-      HasPages form pages bytes → P bytes) → OfFile s.files name ⊥ P
+      HasWholePages form pages bytes → P bytes) → OfFile s.files name ⊥ P
   told_of P go = by_files s.files paged go
     where
       by_files : (told : Option Files) → IsPaged form pages told name →
-          ((bytes : List ℕ) → told_bytes told name ≡ Some bytes → HasPages form pages bytes → P bytes) →
+          ((bytes : List ℕ) → told_bytes told name ≡ Some bytes → HasWholePages form pages bytes → P bytes) →
           OfFile told name ⊥ P
       by_files None has on = tt
       by_files (Some files) has on = at (file files name) has.there has.file_ on
         where
-          at : (o : Option (List ℕ)) → IsSome o → IfSome o (HasPages form pages) →
-              ((bytes : List ℕ) → o ≡ Some bytes → HasPages form pages bytes → P bytes) → MatchOption o ⊥ P
+          at : (o : Option (List ℕ)) → IsSome o → IfSome o (HasWholePages form pages) →
+              ((bytes : List ℕ) → o ≡ Some bytes → HasWholePages form pages bytes → P bytes) → MatchOption o ⊥ P
           at None there has on = absurd (cc)
           at (Some bytes) there has on = on bytes refl has
 
   pub told_err : (e : MapErr) → ((f : File) → (on_shelf form lent pages s name).file ≡ Some f →
-      f.version ≡ form.version → f.pages ≡ pages → Checks {M = Tree} hash f (Err e)) →
-      OfFile s.files name ⊥ (λ bytes. Answers form hash bytes (Err e))
-  told_err e checks = told_of (λ bytes. Answers form hash bytes (Err e)) (λ bytes is has.
+      f.version ≡ form.version → f.pages ≡ pages → ChecksFile {M = Tree} hash f (Err e)) →
+      OfFile s.files name ⊥ (λ bytes. AnswersMap form hash bytes (Err e))
+  told_err e checks = told_of (λ bytes. AnswersMap form hash bytes (Err e)) (λ bytes is has.
       answered_err bytes e has.are
       (checks (file_of form bytes) (ap (option_map (file_of form)) is) refl (sym has.count)))
 
   pub told_ok : (c : Checked Tree) → ((f : File) → (on_shelf form lent pages s name).file ≡ Some f →
-      f.version ≡ form.version → f.pages ≡ pages → Checks hash f (Ok c)) →
+      f.version ≡ form.version → f.pages ≡ pages → ChecksFile hash f (Ok c)) →
       ((f : File) → (on_shelf form lent pages s name).file ≡ Some f →
       MakesTree (λ (m t : Tree). m ≡ t) (option_map child_link c.head.root) c.made f) →
-      OfFile s.files name ⊥ (λ bytes. Answers form hash bytes (Ok (record
+      OfFile s.files name ⊥ (λ bytes. AnswersMap form hash bytes (Ok (record
       { tree = c.made; version = form.version; batch = c.head.batch })))
-  told_ok c checks made = told_of (λ bytes. Answers form hash bytes (Ok (record
+  told_ok c checks made = told_of (λ bytes. AnswersMap form hash bytes (Ok (record
       { tree = c.made; version = form.version; batch = c.head.batch }))) (λ bytes is has.
       let there = ap (option_map (file_of form)) is in
       answered_ok bytes c has.are (checks (file_of form bytes) there refl (sym has.count))
@@ -301,7 +302,7 @@ module _ (form : Form) (fits : IsForm form) (hash : List ℕ → List ℕ) (name
         (are_whole_pages form.size (length bytes) pages fits.some size some few)
 
     pub some_err : (e : MapErr) → ((xs : List ℕ) → length (hash xs) ≡ 32) →
-        Settles {A = Checked Tree} (Err e) (GivesFile (on_shelf form lent pages s name)
+        IfNotFailed {A = Checked Tree} (Err e) (GivesFile (on_shelf form lent pages s name)
         (CheckedWhole form.version hash (λ (m t : Tree). m ≡ t) pages (Err e))) → SomeBytes form hash (Err e)
     some_err (errors.Map f) sized g = (
       g.bytes,
@@ -333,7 +334,7 @@ paged_of form (Some files) name size pages all long even count = at (file files 
     at None e all long = absurd long
     at (Some bytes) e all long = record {
       there = subst (IsSome {T = List ℕ}) (sym e) refl;
-      file_ = subst (λ o. IfSome o (HasPages form pages)) (sym e) (record {
+      file_ = subst (λ o. IfSome o (HasWholePages form pages)) (sym e) (record {
         are = all;
         even = subst (λ n. is_odd_size form.size n ≡ false) (sym long) even;
         count = count ∙ ap (λ n. n / form.size) (sym long);
@@ -343,7 +344,7 @@ paged_of form (Some files) name size pages all long even count = at (file files 
 -- page 0 is the front of the file
 pub first_told : (form : Form) → 0 < form.size → (pages : ℕ) (told : Option Files) (name room first : List ℕ) →
     1 ≤ pages → form.size ≤ length room → first ≡ take form.size room → AreBytes room →
-    OfFile told name ⊥ (λ bytes. IsFront bytes room) → HasFirst form told name first
+    OfFile told name ⊥ (λ bytes. IsFrontOfFile bytes room) → HasFirst form told name first
 first_told form some pages told name room first there long is are front = record {
   is = record {
     size = ap length is ∙ length-take-le form.size room long;
@@ -362,7 +363,7 @@ once_of form None name before after pages paged some few = tt
 once_of form (Some files) name before after pages paged some few =
     at (file files name) paged.there paged.file_
   where
-    at : (o : Option (List ℕ)) → IsSome o → IfSome o (HasPages form pages) →
+    at : (o : Option (List ℕ)) → IsSome o → IfSome o (HasWholePages form pages) →
         MatchOption o (after ≤ before) (λ bytes. after + 1 ≤ before + max 1 (length bytes / form.size))
     at None there has = absurd (cc)
     at (Some bytes) there has =
@@ -404,7 +405,7 @@ ok_same m t v b (inr f) = absurd f
 
 pub only_of : (form : List ℕ → Form) (hash : List ℕ → List ℕ) (told : Option Files) (name : List ℕ)
     (r : Result Opened MapErr) →
-    OfFile told name (Fails r) (λ bytes. Tells (form bytes) hash bytes r) →
+    OfFile told name (FailsWithoutFault r) (λ bytes. TellsBytes (form bytes) hash bytes r) →
     IfOk r (λ m. OfFile told name ⊥ (λ bytes. IsOnlyMap (form bytes) hash bytes m.tree m.batch))
 only_of form hash told name (Ok m) tells =
     OfFile-map told name _ _ (λ bytes t u c k. ok_same m u (form bytes).version c (t.map u c k)) tells
@@ -412,7 +413,8 @@ only_of form hash told name (Err e) tells = tt
 
 pub fault_of : (form : List ℕ → Form) (hash : List ℕ → List ℕ) (told : Option Files) (name : List ℕ)
     (r : Result Opened MapErr) →
-    OfFile told name (Fails r) (λ bytes. Tells (form bytes) hash bytes r) → (f : MapFault) → r ≡ Err (errors.Map f) →
+    OfFile told name (FailsWithoutFault r) (λ bytes. TellsBytes (form bytes) hash bytes r) → (f : MapFault) → r ≡ Err
+    (errors.Map f) →
     OfFile told name ⊥ (λ bytes. mapfault hash (file_of (form bytes) bytes) ≡ Some f)
 fault_of form hash told name (Ok m) tells f e = absurd (cc)
 fault_of form hash told name (Err (errors.Map g)) tells f e =
@@ -433,12 +435,12 @@ form_by_is Two = second_form_is
 
 -- the version that stands in front is the file's
 pub told_by : (hash : List ℕ → List ℕ) (told : Option Files) (name room : List ℕ) (v : Version)
-    (r : Result Opened MapErr) → v ≡ version_of room → OfFile told name ⊥ (λ bytes. IsFront bytes room) →
-    OfFile told name (Fails r) (λ bytes. Tells (form_by v) hash bytes r) →
-    OfFile told name (Fails r) (λ bytes. Tells (form_at bytes) hash bytes r)
+    (r : Result Opened MapErr) → v ≡ version_of room → OfFile told name ⊥ (λ bytes. IsFrontOfFile bytes room) →
+    OfFile told name (FailsWithoutFault r) (λ bytes. TellsBytes (form_by v) hash bytes r) →
+    OfFile told name (FailsWithoutFault r) (λ bytes. TellsBytes (form_at bytes) hash bytes r)
 told_by hash told name room v r is front tells =
     OfFile-or told name _ _ _ _ (λ absent. absurd absent.0)
-    (λ bytes both. subst (λ u. Tells (form_by u) hash bytes r) (is ∙ both.0.version) both.1)
+    (λ bytes both. subst (λ u. TellsBytes (form_by u) hash bytes r) (is ∙ both.0.version) both.1)
     (OfFile-and told name _ _ _ _ front tells)
 
 -- how often was read, behind the read of the front
@@ -450,7 +452,7 @@ page_is_there Two n a b some few = omega (arith, some, few)
 
 pub once_by : (told : Option Files) (name room : List ℕ) (size : ℕ) (v : Version) (before mid after : ℕ) →
     v ≡ version_of room → page_size ≤ size → mid ≤ before + 1 → OfFile told name ⊥ (λ bytes. length bytes ≡ size) →
-    OfFile told name ⊥ (λ bytes. IsFront bytes room) →
+    OfFile told name ⊥ (λ bytes. IsFrontOfFile bytes room) →
     OfFile told name (after ≤ mid) (λ bytes. after + 1 ≤ mid + max 1 (length bytes / (form_by v).size)) →
     OfFile told name (after ≡ before) (λ bytes. after ≤ before + pages_in bytes)
 once_by told name room size v before mid after is some one long front few =
@@ -475,8 +477,8 @@ small_is_odd v n small = at v (is_odd_size (form_by v).size n) refl
 
 pub told_small : (hash : List ℕ → List ℕ) → ((xs : List ℕ) → length (hash xs) ≡ 32) → (told : Option Files)
     (name : List ℕ) (size : ℕ) → OfFile told name ⊤ AreBytes → OfFile told name ⊥ (λ bytes. length bytes ≡ size) →
-    size < page_size → OfFile told name (Fails (Err (errors.Map size_fault)))
-    (λ bytes. Tells (form_at bytes) hash bytes (Err (errors.Map size_fault)))
+    size < page_size → OfFile told name (FailsWithoutFault (Err (errors.Map size_fault)))
+    (λ bytes. TellsBytes (form_at bytes) hash bytes (Err (errors.Map size_fault)))
 told_small hash sized told name size all long small =
     OfFile-or told name _ _ _ _ (λ absent. absurd absent.1)
     (λ bytes both. tells_odd (form_at bytes) (form_by_is (version_of bytes)) hash sized bytes both.0
@@ -495,15 +497,15 @@ once_failed (Some files) name before after same = at (file files name)
 
 pub agrees_at : (hash : List ℕ → List ℕ) → ((xs : List ℕ) → length (hash xs) ≡ 32) →
     (told : Option Files) (name : List ℕ) → OfFile told name ⊤ AreBytes →
-    OfFile told name ⊤ (λ bytes. Agrees (form_at bytes) hash bytes)
+    OfFile told name ⊤ (λ bytes. AgreesWithFault (form_at bytes) hash bytes)
 agrees_at hash sized told name all =
     OfFile-or told name _ _ _ _ (λ absent. tt)
     (λ bytes are. agrees (form_at bytes) (form_by_is (version_of bytes)) hash sized bytes are) all
 
 pub stands_of : (hash : List ℕ → List ℕ) (told : Option Files) (name : List ℕ) (r : Result Opened MapErr) →
-    OfFile told name (Fails r) (λ bytes. Tells (form_at bytes) hash bytes r) →
+    OfFile told name (FailsWithoutFault r) (λ bytes. TellsBytes (form_at bytes) hash bytes r) →
     IfOk r (λ m. OfFile told name ⊥
-    (λ bytes. (m.version ≡ version_of bytes) × Stands (form_at bytes) hash bytes m.tree m.batch))
+    (λ bytes. (m.version ≡ version_of bytes) × StandsForTree (form_at bytes) hash bytes m.tree m.batch))
 stands_of hash told name (Ok m) tells =
     OfFile-map told name _ _ (λ bytes t. (t.answers.0 ∙ version_by (version_of bytes), t.answers.1.stands)) tells
 stands_of hash told name (Err e) tells = tt
@@ -516,7 +518,7 @@ well_of hash (Err e) s = tt
 
 -- a file that stands for a map in a version is read in that one
 pub stands_version : (v : Version) (hash : List ℕ → List ℕ) (bytes : List ℕ) (t : Tree) (b : ℕ) →
-    Stands (form_by v) hash bytes t b → version_of bytes ≡ v
+    StandsForTree (form_by v) hash bytes t b → version_of bytes ≡ v
 unfolding head_bytes
 stands_version One hash bytes t b s =
     ap (λ (xs : List ℕ). version_of xs) (sym (take-append-drop 4096 bytes)
@@ -528,8 +530,8 @@ stands_version Two hash bytes t b s =
 -- the front of a file of this size
 pub front_of : (told : Option Files) (name : List ℕ) (size : ℕ) (room : List ℕ) →
     OfFile told name ⊥ (λ bytes. size ≡ length bytes) →
-    OfFile told name ⊥ (λ bytes. length bytes ≡ size → IsFront bytes room) →
-    OfFile told name ⊥ (λ bytes. IsFront bytes room)
+    OfFile told name ⊥ (λ bytes. length bytes ≡ size → IsFrontOfFile bytes room) →
+    OfFile told name ⊥ (λ bytes. IsFrontOfFile bytes room)
 front_of told name size room long front =
     OfFile-or told name _ _ _ _ (λ absent. absent.0) (λ bytes both. both.1 (sym both.0))
     (OfFile-and told name _ _ _ _ long front)
@@ -545,8 +547,8 @@ size_there told name size = OfFile-map told name _ _ (λ bytes e. sym e)
 
 -- the failure of a call, whatever the version
 pub tells_at : (hash : List ℕ → List ℕ) → ((xs : List ℕ) → length (hash xs) ≡ 32) → (told : Option Files)
-    (name : List ℕ) (r : Result Opened MapErr) → OfFile told name ⊤ AreBytes → Fails r →
-    OfFile told name (Fails r) (λ bytes. Tells (form_at bytes) hash bytes r)
+    (name : List ℕ) (r : Result Opened MapErr) → OfFile told name ⊤ AreBytes → FailsWithoutFault r →
+    OfFile told name (FailsWithoutFault r) (λ bytes. TellsBytes (form_at bytes) hash bytes r)
 tells_at hash sized told name r all f =
     OfFile-or told name _ _ _ _ (λ absent. f)
     (λ bytes are. tells_failed (form_at bytes) (form_by_is (version_of bytes)) hash sized bytes are r f) all

@@ -27,7 +27,7 @@ use Rattle.mr_pages.specs.File.{File, IsFile}
 use Rattle.mr_pages.specs.declared.rule.MapRule.TheVariants as rule
 use Rattle.mr_pages.specs.Stands.{Placed, tree_of, pages_of, link_of, AreAllPages, whole_tree, whole_pages}
 use Rattle.mr_pages.specs.Faults.{fault_if, Visit, walk, reached, all_records, numbers_of, walk_faults, chain, chain_faults, lost_faults, free_faults, head_faults, file_faults, faults, first_of, mapfault}
-use Rattle.mr_pages.specs.Spelled.{place, placed_at}
+use Rattle.mr_pages.specs.private.Spelled.{place, placed_at}
 use Rattle.mr_pages.proofs.Lists.{nil_left, nil_right, nil_both, not_broken, no_fault, all_map, all_left, fresh_left, fresh_apart, apart_fresh}
 use Rattle.mr_pages.proofs.Rules.{IsSound, walk_sound, sound_walk}
 use Rattle.mr_pages.proofs.Chains.{ReadsChain, free_sound, sound_free, all_within}

@@ -11,7 +11,7 @@ use Rattle.mr_pages.specs.Page.{Node, level_of, Head, page_limit}
 use Rattle.mr_pages.specs.declared.layout.Layout.{Layout}
 use Rattle.mr_pages.specs.PageBytes.{form_of, node_limit, node_in, free_in, free_page, head_in, SpellsNode, SpellsHead}
 use Rattle.mr_pages.specs.Faults.{of_level}
-use Rattle.mr_pages.specs.Walking.{page_node, Shows, head_of, Heads}
+use Rattle.mr_pages.specs.Walking.{page_node, ShowsWanted, head_of, AnswersHead}
 use Rattle.mr_pages.proofs.PageLaws.{chosen, node_again, node_is}
 use Rattle.mr_pages.proofs.HeadLaws.{free_again, free_is, head_again, head_is}
 use Rattle.mr_pages.proofs.ManyReads.{of_same}
@@ -27,7 +27,7 @@ of_level_some level (Some m) n e =
     (p.1, ap level_of (sym same) ∙ eqb-true (level_of m) level p.0)
 
 pub node_written : (layout : Layout) (page : List ℕ) (level : ℕ) (shown : Bool) (n : view.Node) → IsBytes page
-    → Shows shown n (of_level level (node_in layout page)) → shown ≡ true →
+    → ShowsWanted shown n (of_level level (node_in layout page)) → shown ≡ true →
     SpellsNode (form_of layout) level page (page_node n)
 node_written layout page level true n fits s t =
     let p = of_level_some level (node_in layout page) (page_node n) s in
@@ -36,7 +36,7 @@ node_written layout page level true n fits s t =
 node_written layout page level false n fits s t = absurd cc
 
 pub node_found : (layout : Layout) (page : List ℕ) (level : ℕ) (shown : Bool) (n : view.Node) (m : Node) →
-    node_limit layout.version ≤ layout.size → Shows shown n (of_level level (node_in layout page)) →
+    node_limit layout.version ≤ layout.size → ShowsWanted shown n (of_level level (node_in layout page)) →
     SpellsNode (form_of layout) level page m → (shown ≡ true) × (page_node n ≡ m)
 node_found layout page level shown n m room s is =
     let there : node_in layout page ≡ Some m = ap (node_in layout) is.is ∙ node_again layout m room is.fits in
@@ -48,7 +48,7 @@ node_found layout page level shown n m room s is =
     some_same : (k m : Node) → Some k ≡ Some m → k ≡ m
     some_same k m e = cc
 
-    shows_it : (shown : Bool) (n : view.Node) (m : Node) (o : Option Node) → Shows shown n o → o ≡ Some m →
+    shows_it : (shown : Bool) (n : view.Node) (m : Node) (o : Option Node) → ShowsWanted shown n o → o ≡ Some m →
         (shown ≡ true) × (page_node n ≡ m)
     shows_it true n m o s e = (refl, some_same (page_node n) m (sym s ∙ e))
     shows_it false n m o s e = let none : None ≡ Some m = sym s ∙ e in absurd cc
@@ -67,7 +67,7 @@ free_found size page o g e below is = e ∙ ap (free_in size) is ∙ free_again 
 -- ---- page 0
 
 pub head_written : (layout : Layout) (pages : ℕ) (page : List ℕ) (r : Result MapHead MapRule) →
-    node_limit layout.version ≤ layout.size → IsBytes page → Heads r (head_in layout pages page) → 1 ≤ pages →
+    node_limit layout.version ≤ layout.size → IsBytes page → AnswersHead r (head_in layout pages page) → 1 ≤ pages →
     pages ≤ page_limit
     → IfOk r (λ h. SpellsHead (form_of layout) pages page (head_of h))
 head_written layout pages page (Ok h) room fits e some few =
@@ -76,13 +76,13 @@ head_written layout pages page (Ok h) room fits e some few =
 head_written layout pages page (Err rule) room fits e some few = tt
 
 pub head_found : (layout : Layout) (pages : ℕ) (page : List ℕ) (r : Result MapHead MapRule) (h : Head) →
-    node_limit layout.version ≤ layout.size → Heads r (head_in layout pages page) →
+    node_limit layout.version ≤ layout.size → AnswersHead r (head_in layout pages page) →
     SpellsHead (form_of layout) pages page h
     → MatchResult r (λ found. head_of found ≡ h) (λ rule. ⊥)
 head_found layout pages page r h room e is =
     judge r (ap (head_in layout pages) is.is ∙ head_again layout pages h room is.fits.0 is.fits.1) e
   where
     judge : (r : Result MapHead MapRule) → head_in layout pages page ≡ Ok h →
-        Heads r (head_in layout pages page) → MatchResult r (λ found. head_of found ≡ h) (λ rule. ⊥)
+        AnswersHead r (head_in layout pages page) → MatchResult r (λ found. head_of found ≡ h) (λ rule. ⊥)
     judge (Ok found) there e = let same : Ok (head_of found) ≡ Ok h = sym e ∙ there in cc
     judge (Err rule) there e = let none : Err rule ≡ Ok h = sym e ∙ there in absurd cc

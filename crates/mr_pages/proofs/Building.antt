@@ -18,11 +18,11 @@ use Rattle.mr_tree.specs.declared.tree.Tree.TheViews.{out-Tree}
 use Rattle.mr_tree.specs.declared.tree.Tree.TheFolds.{every-Tree}
 use Rattle.mr_tree.proofs.Equations.{level-Inner, level-Leaf, records-Inner, records-Leaf, entry_level, entry-Inner, entry-Leaf}
 use Rattle.mr_tree.proofs.Induction.{every-Leaf, every-Inner, here-Leaf, here-Inner, every_child}
-use Rattle.mr_pages.specs.Page.{Link, Node, level_of, entry_of, IsNode}
+use Rattle.mr_pages.specs.Page.{Link, Node, level_of, node_entry, IsNode}
 use Rattle.mr_pages.specs.Stands as placed
 use Rattle.mr_pages.specs.Stands.{Placed, Row, no_more, first, tree_of, trees_of, pages_of, all_pages, page_of, link_of, links_of, IsWritten, AreWritten}
-use Rattle.mr_pages.specs.Faults.{Visit, of_level, found, children, records_in, visit, visits, reached, all_records, size, least}
-use Rattle.mr_pages.specs.Spelled.{row, place}
+use Rattle.mr_pages.specs.Faults.{Visit, of_level, found, children, records_in, visit, visits, reached, all_records, size, least_fill}
+use Rattle.mr_pages.specs.private.Spelled.{row, place}
 use Rattle.mr_pages.proofs.Lists.{all_append, all_left, all_right, all_weaker}
 use Rattle.mr_pages.proofs.Rules.{IsSound}
 use Rattle.mr_pages.proofs.PageLaws.{FitsRecord}
@@ -42,11 +42,11 @@ entries_of hash no_more = refl
 entries_of hash (first P Ps) = ap (λ es. entry hash (tree_of P) ∷ es) (entries_of hash Ps)
 
 -- an inner node's entry is that of its tree
-pub entry_inner : (hash : Scheme) (Ps : Row) → entry_of hash (Inner (links_of hash Ps))
+pub entry_inner : (hash : Scheme) (Ps : Row) → node_entry hash (Inner (links_of hash Ps))
     ≡ entry hash (tree.Inner (trees_of Ps))
 entry_inner hash Ps = ap (λ es. entry_step hash (Inner es)) (entries_of hash Ps) ∙ sym (entry-Inner hash (trees_of Ps))
 
-pub entry_leaf : (hash : Scheme) (rs : List Record) → entry_of hash (Leaf rs) ≡ entry hash (tree.Leaf rs)
+pub entry_leaf : (hash : Scheme) (rs : List Record) → node_entry hash (Leaf rs) ≡ entry hash (tree.Leaf rs)
 entry_leaf hash rs = sym (entry-Leaf hash rs)
 
 pub leaf_there : (rs : List Record) → tree.Leaf rs ≢ tree.Empty
@@ -103,16 +103,16 @@ levels_all : (ls : List Link) → map (λ (e : Entry). e.level) (map (λ (l : Li
 levels_all [] = refl
 levels_all (l ∷ ls) = ap (λ ns. l.entry.level ∷ ns) (levels_all ls)
 
-pub level_is : (hash : Scheme) (node : Node) → (entry_of hash node).level ≡ level_of node
+pub level_is : (hash : Scheme) (node : Node) → (node_entry hash node).level ≡ level_of node
 level_is hash Empty = refl
 level_is hash (Leaf rs) = refl
 level_is hash (Inner ls) = ap (λ ns. first_level ns + 1) (levels_all ls)
 
 -- a sound node's entry is what is said of it
 said : (hash : Scheme) (at : ℕ → Option Node) (link : Link) (node : Node) → Found at link node →
-    (entry_of hash node).digest ≡ link.entry.digest → (entry_of hash node).rect ≡ link.entry.rect →
-    (entry_of hash node).mask ≡ link.entry.mask → (entry_of hash node).count ≡ link.entry.count →
-    entry_of hash node ≡ link.entry
+    (node_entry hash node).digest ≡ link.entry.digest → (node_entry hash node).rect ≡ link.entry.rect →
+    (node_entry hash node).mask ≡ link.entry.mask → (node_entry hash node).count ≡ link.entry.count →
+    node_entry hash node ≡ link.entry
 said hash at link node f d r m c = λ i. record {
   level = (level_is hash node ∙ f.level) i;
   rect = r i;
@@ -128,17 +128,18 @@ abbrev pub FilledAs : Bool → Tree → Type 0
 FilledAs true t = IsFilledRoot (out-Tree t)
 FilledAs false t = every-Tree IsFilled t
 
-pub filled_leaf : (root : Bool) (rs : List Record) → least root (Leaf rs) ≤ length rs → length rs ≤ 16 →
+pub filled_leaf : (root : Bool) (rs : List Record) → least_fill root (Leaf rs) ≤ length rs → length rs ≤ 16 →
     FilledAs root (tree.Leaf rs)
 filled_leaf true rs full few = subst IsFilledRoot (sym (tree.outs-Leaf rs)) (full, few)
 filled_leaf false rs full few = every-Leaf IsFilled rs (full, few)
 
-pub leaf_filled : (root : Bool) (rs : List Record) → FilledAs root (tree.Leaf rs) → least root (Leaf rs) ≤ length rs
+pub leaf_filled : (root : Bool) (rs : List Record) → FilledAs root (tree.Leaf rs) → least_fill root (Leaf rs) ≤
+    length rs
 leaf_filled true rs f = (subst IsFilledRoot (tree.outs-Leaf rs) f).0
 leaf_filled false rs f = (here-Leaf IsFilled rs f).0
 
 pub filled_inner : (root : Bool) (ls : List Link) (ts : List Tree) → length ts ≡ length ls →
-    least root (Inner ls) ≤ length ls → length ls ≤ 64 → AllByRecursion (every-Tree IsFilled) ts →
+    least_fill root (Inner ls) ≤ length ls → length ls ≤ 64 → AllByRecursion (every-Tree IsFilled) ts →
     FilledAs root (tree.Inner ts)
 filled_inner true ls ts e full few all =
     subst IsFilledRoot (sym (tree.outs-Inner ts)) (
@@ -161,7 +162,7 @@ inner_few false ls ts e f = omega (arith, e, (here-Inner IsFilled ts f).1)
 
 pub inner_filled : (root : Bool) (ls : List Link) (ts : List Tree) → length ts ≡ length ls →
     FilledAs root (tree.Inner ts) →
-    least root (Inner ls) ≤ length ls
+    least_fill root (Inner ls) ≤ length ls
 inner_filled true ls ts e f = omega (arith, e, (subst IsFilledRoot (tree.outs-Inner ts) f).0)
 inner_filled false ls ts e f = omega (arith, e, (here-Inner IsFilled ts f).0)
 
@@ -201,8 +202,8 @@ record RowBuilt (hash : Scheme) (at : ℕ → Option Node) (n : ℕ) (ls : List 
   each : All (FitsRecord hash.version) (flat_map records (trees_of Ps))
 
 record SaidOf (hash : Scheme) (root : Bool) (link : Link) (node : Node) : Type 0 where
-  known : (root ≡ true → (entry_of hash node).count ≡ link.entry.count) → entry_of hash node ≡ link.entry
-  full : least root node ≤ size node
+  known : (root ≡ true → (node_entry hash node).count ≡ link.entry.count) → node_entry hash node ≡ link.entry
+  full : least_fill root node ≤ size node
   good : IsNode hash.version node
 
 built_leaf : (hash : Scheme) (at : ℕ → Option Node) (root : Bool) (link : Link) (rs : List Record) →
@@ -245,8 +246,8 @@ built_inner hash at root n link ls Ps vs is s r =
     let ts = trees_of Ps in
     let size_is : length ts ≡ length ls = length_row hash Ps ∙ ap length r.named in
     let some : 0 < length ts = omega (arith, size_is, s.good.0) in
-    let same : entry hash (tree.Inner ts) ≡ entry_of hash (Inner ls) =
-    sym (entry_inner hash Ps) ∙ ap (λ ks. entry_of hash (Inner ks)) r.named in
+    let same : entry hash (tree.Inner ts) ≡ node_entry hash (Inner ls) =
+    sym (entry_inner hash Ps) ∙ ap (λ ks. node_entry hash (Inner ks)) r.named in
     record {
       written = (is ∙ ap (λ ks. Some (Inner ks)) (sym r.named), r.written);
       known = λ c. same ∙ s.known (λ one. sym (ap (λ (e : Entry). e.count) same) ∙ c one);

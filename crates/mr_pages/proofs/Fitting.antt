@@ -21,7 +21,7 @@ use Rattle.mr_tree.proofs.Induction.{every_child}
 use Rattle.mr_pages.specs.Page.{Link, Node, HasRect, IsLink, IsNode}
 use Rattle.mr_pages.specs.Stands as placed
 use Rattle.mr_pages.specs.Stands.{Placed, Row, no_more, first, tree_of, trees_of, pages_of, all_pages, page_of, link_of, links_of, IsWritten, AreWritten}
-use Rattle.mr_pages.specs.Faults.{least}
+use Rattle.mr_pages.specs.Faults.{least_fill}
 use Rattle.mr_pages.proofs.Lists.{all_left, all_right, all_weaker}
 use Rattle.mr_pages.proofs.PageLaws.{FitsRecord}
 use Rattle.mr_pages.proofs.Building.{FilledAs, leaf_filled, inner_filled, filled_below, below_levels, no_level_zero, length_row, of_images, leaf_few, inner_few}
@@ -134,7 +134,7 @@ module _ (hash : Scheme) (sized : (xs : List ℕ) → length (hash.of xs) ≡ 32
         some = some;
       }
     where
-      least_one : (b : Bool) → least b (Leaf rs) ≤ length rs → 1 ≤ length rs
+      least_one : (b : Bool) → least_fill b (Leaf rs) ≤ length rs → 1 ≤ length rs
       least_one true h = h
       least_one false h = omega (arith, h)
 
@@ -175,7 +175,7 @@ module _ (hash : Scheme) (sized : (xs : List ℕ) → length (hash.of xs) ≡ 32
         some = some;
       }
     where
-      least_one : (b : Bool) → least b (Inner (links_of hash Ps)) ≤ length (links_of hash Ps) →
+      least_one : (b : Bool) → least_fill b (Inner (links_of hash Ps)) ≤ length (links_of hash Ps) →
           1 ≤ length (links_of hash Ps)
       least_one true h = omega (arith, h)
       least_one false h = omega (arith, h)

@@ -4,7 +4,7 @@ use Rattle.std.specs.Prelude.{if◌then◌else◌, ◌==◌}
 use Rattle.std.proofs.lemmas.Bool.{cases_lt}
 use Rattle.std.proofs.lemmas.List.{take-append-le, take-take, take_all, length-take-le, get_or-take}
 use Rattle.mr_record.specs.declared.version.Version.TheVariants.{One, Two}
-use Rattle.mr_pages.specs.Source.{IsFront}
+use Rattle.mr_pages.specs.Source.{IsFrontOfFile}
 
 abbrev zeros : ℕ → List ℕ
 zeros n = replicate n 0
@@ -28,7 +28,7 @@ front_at file k i cut low = elim (cases_lt i k) [
 ]
 
 pub is_front : (file front room : List ℕ) (n k : ℕ) → k ≡ min (length file) 8192 → front ≡ take k file →
-    room ≡ front ++ zeros n → length room ≡ 8192 → IsFront file room
+    room ≡ front ++ zeros n → length room ≡ 8192 → IsFrontOfFile file room
 is_front file front room n k cut is whole long =
     let made : room ≡ take k file ++ zeros n = whole ∙ ap (λ (xs : List ℕ). xs ++ zeros n) is in
     let size : length (take k file) ≡ k = length-take-le k file (omega (arith, cut)) in

@@ -5,32 +5,32 @@ use Rattle.std.proofs.lemmas.List.{length-replicate, length-append, take_at}
 use Rattle.std.proofs.lemmas.List.Elements.{All-nil, All-cons, All-append}
 use Rattle.mr_outside.specs.declared.shelf.ShelfErr.{ShelfErr}
 use Rattle.mr_outside.specs.declared.shelf.ShelfErr.TheVariants as shelf
-use Rattle.mr_record.specs.Bytes.{AreBytes}
+use Rattle.mr_record.specs.private.Bytes.{AreBytes}
 use Rattle.mr_pages.specs.declared.error.MapErr.{MapErr}
 use Rattle.mr_pages.specs.declared.error.MapErr.TheVariants as errors
-use Rattle.mr_pages.specs.declared.seen.Seen.{Seen}
+use Rattle.mr_pages.specs.declared.visited.Visited.{Visited}
 use Rattle.mr_pages.specs.Page.{Form}
 use Rattle.mr_pages.specs.File.{File, page_at, pages_of}
 use Rattle.mr_pages.specs.declared.rule.MapRule.{MapRule}
 use Rattle.mr_pages.specs.Faults.{file_faults, first_of, mapfault}
 use Rattle.mr_pages.specs.Opening.{of_shelf}
-use Rattle.mr_pages.specs.Source.{Sourced, Origin, IsPage, HasPage, GivesPage, GivesHead, Gives, GivesAll, GivesFile, IsAsRead, Comes, Settles, Checks, ChecksBehind}
+use Rattle.mr_pages.specs.Source.{Sourced, Origin, IsPage, HasPage, GivesPage, GivesHead, GivesPages, GivesAll, GivesFile, IsAsRead, ReachesNewPage, IfNotFailed, ChecksFile, ChecksBehind}
 
 -- ---- what settles nothing
 
-pub shelf_failed : (A : Type 0) (e : ShelfErr) (P : Type 0) → Settles {A = A} (Err (of_shelf e)) P
+pub shelf_failed : (A : Type 0) (e : ShelfErr) (P : Type 0) → IfNotFailed {A = A} (Err (of_shelf e)) P
 shelf_failed A shelf.Missing P = tt
 shelf_failed A shelf.Fault P = tt
 shelf_failed A shelf.NoMemory P = tt
 
-pub err_settles : (A B : Type 0) (e : MapErr) {P Q : Type 0} → Settles {A = A} (Err e) P → (P → Q) →
-    Settles {A = B} (Err e) Q
+pub err_settles : (A B : Type 0) (e : MapErr) {P Q : Type 0} → IfNotFailed {A = A} (Err e) P → (P → Q) →
+    IfNotFailed {A = B} (Err e) Q
 err_settles A B (errors.Map x) p f = f p
 err_settles A B errors.Missing p f = tt
 err_settles A B errors.Fault p f = tt
 err_settles A B errors.NoMemory p f = tt
 
-pub so_settles : {A : Type 0} (r : Result A MapErr) {P Q : Type 0} → Settles r P → (P → Q) → Settles r Q
+pub so_settles : {A : Type 0} (r : Result A MapErr) {P Q : Type 0} → IfNotFailed r P → (P → Q) → IfNotFailed r Q
 so_settles (Ok a) p f = f p
 so_settles {A} (Err e) p f = err_settles A A e p f
 
@@ -49,9 +49,9 @@ page_gives s page Q R g p = record { bytes = p.bytes; is = p.is; so = λ f is. g
 
 -- ---- pages that were reached
 
-module _ (s : Sourced) (a b : Seen) where
+module _ (s : Sourced) (a b : Visited) where
   -- nothing was read
-  pub gives_none : (Q : File → Type 0) → b.reached ≡ a.reached → ((f : File) → Q f) → Gives s a b Q
+  pub gives_none : (Q : File → Type 0) → b.reached ≡ a.reached → ((f : File) → Q f) → GivesPages s a b Q
   gives_none Q same q = record {
     more = λ p on. ap (λ v. slice_index_or v.items p false) same ∙ on;
     given = λ p. replicate s.origin.form.size 0;
@@ -60,7 +60,7 @@ module _ (s : Sourced) (a b : Seen) where
   }
 
   -- one page was reached and read
-  pub gives_one : (page : ℕ) (Q : File → Type 0) → Comes a page b → GivesPage s page Q → Gives s a b Q
+  pub gives_one : (page : ℕ) (Q : File → Type 0) → ReachesNewPage a page b → GivesPage s page Q → GivesPages s a b Q
   gives_one page Q comes g = record {
     more = comes.more;
     given = λ p. g.bytes;
@@ -71,11 +71,11 @@ module _ (s : Sourced) (a b : Seen) where
     ]);
   }
 
-  pub gives_so : (Q R : File → Type 0) → ((f : File) → Q f → R f) → Gives s a b Q → Gives s a b R
+  pub gives_so : (Q R : File → Type 0) → ((f : File) → Q f → R f) → GivesPages s a b Q → GivesPages s a b R
   gives_so Q R h g = record { more = g.more; given = g.given; pages = g.pages; so = λ f is. h f (g.so f is) }
 
   -- no more pages were reached since
-  pub gives_still : (c : Seen) (Q : File → Type 0) → c.reached ≡ b.reached → Gives s a b Q → Gives s a c Q
+  pub gives_still : (c : Visited) (Q : File → Type 0) → c.reached ≡ b.reached → GivesPages s a b Q → GivesPages s a c Q
   gives_still c Q same g = record {
     more = λ p on. ap (λ v. slice_index_or v.items p false) same ∙ g.more p on;
     given = g.given;
@@ -87,8 +87,8 @@ module _ (s : Sourced) (a b : Seen) where
   }
 
   -- from a later moment of the same source
-  pub gives_from : (t : Sourced) (Q : File → Type 0) → t.origin ≡ s.origin → t.file ≡ s.file → Gives t a b Q →
-      Gives s a b Q
+  pub gives_from : (t : Sourced) (Q : File → Type 0) → t.origin ≡ s.origin → t.file ≡ s.file → GivesPages t a b Q →
+      GivesPages s a b Q
   gives_from t Q here same g = record {
     more = g.more;
     given = g.given;
@@ -106,7 +106,7 @@ is_false : (b : Bool) → (b ≡ true → ⊥) → b ≡ false
 is_false true no' = absurd (no' refl)
 is_false false no' = refl
 
-module _ (s : Sourced) (a b c : Seen) (Q R : File → Type 0) (g : Gives s a b Q) (h : Gives s b c R) where
+module _ (s : Sourced) (a b c : Visited) (Q R : File → Type 0) (g : GivesPages s a b Q) (h : GivesPages s b c R) where
   -- what was read where: first, or then
   abbrev choice : Bool → ℕ → List ℕ
   choice first p = if first then g.given p else h.given p
@@ -130,7 +130,7 @@ module _ (s : Sourced) (a b c : Seen) (Q R : File → Type 0) (g : Gives s a b Q
       (ap (λ first. choice first p) (is_false (slice_index_or b.reached.items p false) new'))
       (read p low on (λ before. new' (g.more p before))))
 
-  pub gives_both : Gives s a c (λ f. Q f × R f)
+  pub gives_both : GivesPages s a c (λ f. Q f × R f)
   gives_both = record {
     more = λ p on. h.more p (g.more p on);
     given = both_given;
@@ -139,8 +139,8 @@ module _ (s : Sourced) (a b c : Seen) (Q R : File → Type 0) (g : Gives s a b Q
   }
 
 -- the same where the second is of a later moment
-pub gives_next : (s t : Sourced) (a b c : Seen) (Q R : File → Type 0) → t.origin ≡ s.origin → t.file ≡ s.file →
-    Gives s a b Q → Gives t b c R → Gives s a c (λ f. Q f × R f)
+pub gives_next : (s t : Sourced) (a b c : Visited) (Q R : File → Type 0) → t.origin ≡ s.origin → t.file ≡ s.file →
+    GivesPages s a b Q → GivesPages t b c R → GivesPages s a c (λ f. Q f × R f)
 gives_next s t a b c Q R here same g h = gives_both s a b c Q R g (gives_from s b c t R here same h)
 
 -- ---- all pages
@@ -151,8 +151,8 @@ reached_inside [] (suc p) e = absurd (cc)
 reached_inside (x ∷ xs) zero e = omega arith
 reached_inside (x ∷ xs) (suc p) e = let rest : p < length xs = reached_inside xs p e in omega (arith, rest)
 
-pub gives_all : (s : Sourced) (a b : Seen) (Q R : File → Type 0) → length b.reached.items ≡ s.pages →
-    ((f : File) → Q f → R f) → Gives s a b Q → GivesAll s R
+pub gives_all : (s : Sourced) (a b : Visited) (Q R : File → Type 0) → length b.reached.items ≡ s.pages →
+    ((f : File) → Q f → R f) → GivesPages s a b Q → GivesAll s R
 gives_all s a b Q R size h g = record {
   given = g.given;
   pages = g.pages;
@@ -266,14 +266,14 @@ all_from s t Q here same count g = record {
 -- ---- what is behind page 0, and that
 
 pub behind_err : (M : Type 0) (hash : List ℕ → List ℕ) (f : File) (e : MapErr) →
-    ChecksBehind {A = M} hash f (Err e) → Checks {M = M} hash f (Err e)
+    ChecksBehind {A = M} hash f (Err e) → ChecksFile {M = M} hash f (Err e)
 behind_err M hash f (errors.Map x) c = c
 behind_err M hash f errors.Missing c = tt
 behind_err M hash f errors.Fault c = tt
 behind_err M hash f errors.NoMemory c = tt
 
 pub checks_stopped : (M : Type 0) (hash : List ℕ → List ℕ) (f : File) (e : MapErr) {P : Type 0} →
-    Settles {A = M} (Err e) P → (P → ChecksBehind {A = M} hash f (Err e)) → Checks {M = M} hash f (Err e)
+    IfNotFailed {A = M} (Err e) P → (P → ChecksBehind {A = M} hash f (Err e)) → ChecksFile {M = M} hash f (Err e)
 checks_stopped M hash f (errors.Map x) p c = c p
 checks_stopped M hash f errors.Missing p c = tt
 checks_stopped M hash f errors.Fault p c = tt

@@ -13,12 +13,12 @@ use Rattle.mr_tree.specs.Limits.{count_limit, level_limit}
 use Rattle.mr_tree.proofs.Told.{told_le}
 use Rattle.mr_pages.specs.declared.rule.MapRule.{MapRule}
 use Rattle.mr_pages.specs.declared.rule.MapRule.TheVariants.{Unsealed, Header}
-use Rattle.mr_pages.specs.Page.{Link, Head, IsRoot, IsHead, FitsHead, IsForm, page_limit}
+use Rattle.mr_pages.specs.Page.{Link, Head, IsRoot, IsHead, FitsMapHead, IsForm, page_limit}
 use Rattle.mr_record.specs.Version.{told}
 use Rattle.mr_record.specs.declared.version.Version.{Version}
 use Rattle.mr_record.specs.declared.version.Version.TheVariants.{One, Two}
 use Rattle.mr_pages.specs.declared.layout.Layout.{Layout}
-use Rattle.mr_pages.specs.PageBytes.{filled, root_size, root_link_in, node_bytes, node_limit, IsLayout, free_tag, free_page, free_in, root_place, free_place, head_size, seal, seal_place, root_level, root_bytes, head_bytes, head_page, root_in, fields_in, is_root, is_head, is_sealed, head_in, form_of, first_layout, first_form, second_layout, second_form}
+use Rattle.mr_pages.specs.PageBytes.{filled, root_size, root_link_in, node_bytes, node_limit, IsLayout, free_tag, free_page, free_in, root_place, free_place, head_size, seal, seal_place, root_level, root_link_bytes, head_bytes, head_page, root_in, fields_in, is_root, is_head, is_sealed, head_in, form_of, first_layout, first_form, second_layout, second_form}
 use Rattle.mr_pages.proofs.PageLaws.{from_bytes, quarter_below, chosen, spelled_root, root_link_again, root_link_is, root_level_read, length-root_link, length-filled, both_true, node_again, node_is, node_room}
 
 same_bytes : (xs ys : List ℕ) → bytes_eq xs ys ≡ true → xs ≡ ys
@@ -49,15 +49,15 @@ free_is size page g fits e =
 
 -- ---- the root node on page 0
 
-pub length-root_bytes : (v : Version) (count : ℕ) (root : Option Link) → IsRoot v count root →
-    length (root_bytes v root) ≡ root_size v
-unfolding root_bytes
-length-root_bytes v count None is = length-replicate {A = ℕ} (root_size v) 0
-length-root_bytes v count (Some l) is = length-root_link v l is.3
+pub length-root_link_bytes : (v : Version) (count : ℕ) (root : Option Link) → IsRoot v count root →
+    length (root_link_bytes v root) ≡ root_size v
+unfolding root_link_bytes
+length-root_link_bytes v count None is = length-replicate {A = ℕ} (root_size v) 0
+length-root_link_bytes v count (Some l) is = length-root_link v l is.3
 
 root_again : (v : Version) (count : ℕ) (root : Option Link) → IsRoot v count root →
-    root_in v count (root_level root) (root_bytes v root) ≡ root
-unfolding root_in root_bytes
+    root_in v count (root_level root) (root_link_bytes v root) ≡ root
+unfolding root_in root_link_bytes
 root_again v count None is =
     ap (λ (b : Bool). cond b None (root_link_in v count 0 (replicate (root_size v) 0))) (eq-eqb count 0 is)
 root_again v count (Some l) is =
@@ -100,10 +100,10 @@ unfolding fields_in head_bytes
 fields_again form h is =
     let v : Version = form.version in
     let page : List ℕ = head_page form h in
-    let R : List ℕ = root_bytes v h.root in
+    let R : List ℕ = root_link_bytes v h.root in
     let F : List ℕ = to_be_bytes w32 h.free in
     let Z : List ℕ = replicate (seal_place form.size - length (head_bytes v h)) 0 in
-    let long : length R ≡ root_size v = length-root_bytes v h.count h.root is.root in
+    let long : length R ≡ root_size v = length-root_link_bytes v h.count h.root is.root in
     let batch : from_be_bytes w64 (slice_range page 6 14) ≡ h.batch =
     from_be_bytes-to_be_bytes_8 h.batch is.batch in
     let count : from_be_bytes w64 (slice_range page 14 22) ≡ h.count =
@@ -129,8 +129,8 @@ fields_again form h is =
 length-head_bytes : (v : Version) (h : Head) → IsHead v h → length (head_bytes v h) ≡ head_size v
 unfolding head_bytes
 length-head_bytes v h is =
-    let R : List ℕ = root_bytes v h.root in
-    let long : length R ≡ root_size v = length-root_bytes v h.count h.root is.root in
+    let R : List ℕ = root_link_bytes v h.root in
+    let long : length R ≡ root_size v = length-root_link_bytes v h.count h.root is.root in
     omega (arith, long, length-append R (to_be_bytes w32 h.free))
 
 -- what page 0 says has room before the seal
@@ -222,7 +222,7 @@ less_told Two = omega arith
 
 pub head_is : (form : Layout) (pages : ℕ) (page : List ℕ) (h : Head) → node_limit form.version ≤ form.size → 1 ≤ pages →
     pages ≤ page_limit → IsBytes page
-    → result_ok (head_in form pages page) ≡ Some h → FitsHead form.version pages h × (head_page form h ≡ page)
+    → result_ok (head_in form pages page) ≡ Some h → FitsMapHead form.version pages h × (head_page form h ≡ page)
 unfolding fields_in
 head_is form pages page h big some few fits e =
     let v : Version = form.version in
@@ -258,7 +258,7 @@ head_is form pages page h big some few fits e =
       free = quarter_below (slice_range page (free_place v) (head_size v))
           (part (free_place v) (head_size v - free_place v));
     } in
-    subst (λ (x : Head). FitsHead v pages x × (head_page form x ≡ page)) p.1 ((is, same), spelled)
+    subst (λ (x : Head). FitsMapHead v pages x × (head_page form x ≡ page)) p.1 ((is, same), spelled)
 
 -- ---- whole pages
 

@@ -28,11 +28,11 @@ use Rattle.mr_pages.specs.Page.{Form, Head, page_limit}
 use Rattle.mr_pages.specs.declared.layout.Layout.{Layout}
 use Rattle.mr_pages.specs.PageBytes.{page_size, first_layout, layout_by, form_of, first_form, form_by, IsLayout, head_bytes, head_page, head_in, seal, seal_place}
 use Rattle.mr_pages.specs.File.{page_at, is_odd_size, file_of, version_of, form_at}
-use Rattle.mr_pages.specs.Stands.{Stands, Placed, pages_of, whole_pages, link_of}
+use Rattle.mr_pages.specs.Stands.{StandsForTree, Placed, pages_of, whole_pages, link_of}
 use Rattle.mr_pages.specs.Faults.{file_faults, first_of, mapfault}
 use Rattle.mr_pages.specs.Walking.{child_link}
-use Rattle.mr_pages.specs.Saved.{whole_nodes, numbered, unless_empty, numbered_whole, saved_pages, saved_head, saved_nodes, saved, IsUnsealed, MayStand, Leaves}
-use Rattle.mr_pages.specs.Putting.{HasEntries, CanBePut, IsPut, IsImage}
+use Rattle.mr_pages.specs.Saved.{whole_nodes, numbered, unless_empty, numbered_whole, saved_pages, saved_head, saved_nodes, saved, IsUnsealed, MayStand, LeavesFile}
+use Rattle.mr_pages.specs.private.Putting.{HasEntries, CanBePut, IsPut, IsImage}
 use Rattle.mr_pages.specs.Making.{IsBegun}
 use Rattle.mr_pages.proofs.Agreement.{whole_pages_are}
 use Rattle.mr_pages.proofs.Numbered.{tree_numbered, whole_numbered}
@@ -371,7 +371,7 @@ module _ (layout : Layout) (fit : IsLayout layout) (by_version : layout ≡ layo
       (name : List ℕ) (before between after : Option Files)
       (put : IsChanged (with_file name) pages before between) where
     pub seal_leaves : IsChangedPartly (overwritten name 0) head between after →
-        Leaves (MayStand (form_of layout) hash t batch) name before after
+        LeavesFile (MayStand (form_of layout) hash t batch) name before after
     seal_leaves p =
         inr (
           replaced 0 p.front pages,
@@ -388,7 +388,7 @@ module _ (layout : Layout) (fit : IsLayout layout) (by_version : layout ≡ layo
 
 pub leaves_as : (P Q : List ℕ → Type 0) → ((bytes : List ℕ) → P bytes → Q bytes) →
     (name : List ℕ) (before after : Option Files) →
-    Leaves P name before after → Leaves Q name before after
+    LeavesFile P name before after → LeavesFile Q name before after
 leaves_as P Q f name before after (inl same) = inl same
 leaves_as P Q f name before after (inr h) = inr (h.0, f h.0 h.1, h.2)
 
@@ -419,8 +419,8 @@ pages_fit form hash t bytes root well some image =
 pub file_stands : {A E : Type 0} (form : Form) (hash : List ℕ → List ℕ) (t : Tree) (batch : ℕ) (name : List ℕ)
     (before after : Option Files)
     (r : Result A E) → OnOk r (IsChanged (with_file name) (saved form hash t batch) before after) →
-    Stands form hash (saved form hash t batch) t batch →
-    OnOk r (OfFile after name ⊥ (λ bytes. Stands form hash bytes t batch))
+    StandsForTree form hash (saved form hash t batch) t batch →
+    OnOk r (OfFile after name ⊥ (λ bytes. StandsForTree form hash bytes t batch))
 file_stands form hash t batch name before after (Ok a) put s =
-    OfFile-put name (saved form hash t batch) ⊥ (λ bytes. Stands form hash bytes t batch) before after put s
+    OfFile-put name (saved form hash t batch) ⊥ (λ bytes. StandsForTree form hash bytes t batch) before after put s
 file_stands form hash t batch name before after (Err e) put s = tt

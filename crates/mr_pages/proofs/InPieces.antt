@@ -13,9 +13,9 @@ use Rattle.mr_tree.specs.declared.child.Child.{Child}
 use Rattle.mr_tree.specs.declared.tree.Tree.{Tree}
 use Rattle.mr_tree.specs.declared.tree.Tree.TheVariants as tree
 use Rattle.mr_tree.specs.declared.tree.Tree.TheOpen as node
-use Rattle.mr_pages.specs.Page.{Form, page_limit, entry_of}
-use Rattle.mr_pages.specs.Making.{HasMade, RowMade, IsMade}
-use Rattle.mr_pages.specs.Putting.{CanBePut, IsPut, IsImage, PutSoFar, some_row}
+use Rattle.mr_pages.specs.Page.{Form, page_limit, node_entry}
+use Rattle.mr_pages.specs.Making.{HasMade, RowMade, HasMadePages}
+use Rattle.mr_pages.specs.private.Putting.{CanBePut, IsPut, IsImage, PutSoFar, some_row}
 use Rattle.mr_pages.specs.Saved.{number_row, numbered, all_nodes, saved_pages}
 use Rattle.mr_pages.specs.Stands.{pages_of, all_pages, whole_pages}
 use Rattle.mr_pages.specs.Walking.{child_link, page_node}
@@ -126,8 +126,8 @@ pub root_made : {shows : view.Node} (form : Form) (hash : List ℕ → List ℕ)
     HasMade name (replaced form.size page row.bytes) before after →
     shown ≡ links → shows ≡ node.Inner shown → page ≡ form.node_page (page_node shows) → length page ≡ form.size →
     form.size + form.size ≤ length row.bytes →
-    child_link child ≡ record { page = 1; entry = entry_of (by form.version hash) (page_node shows) } →
-    IsMade form hash (tree.Inner ts) name before after (Some child) next
+    child_link child ≡ record { page = 1; entry = node_entry (by form.version hash) (page_node shows) } →
+    HasMadePages form hash (tree.Inner ts) name before after (Some child) next
 root_made {shows = shows} form hash ts name before now after links shown next page child well row made same
     shows_is page_is long
     room said =
@@ -174,7 +174,7 @@ row_long form hash ts i bytes links put =
 pub made_at_once : (form : Form) (hash : List ℕ → List ℕ) (t : Tree) (name : List ℕ) (before after : Shelved)
     (bytes shown : List ℕ) (root : Option Child) (pages : ℕ) → 0 < form.size → IsImage form hash t bytes root →
     shown ≡ bytes → HasMade name shown before after → pages ≡ length bytes / form.size →
-    IsMade form hash t name before after root pages
+    HasMadePages form hash t name before after root pages
 made_at_once form hash t name before after bytes shown root pages some image same made many = record {
   bytes = bytes;
   image = image;

@@ -9,15 +9,15 @@ use Rattle.mr_tree.specs.View as view
 use Rattle.mr_tree.specs.declared.child.Child.{Child}
 use Rattle.mr_tree.specs.declared.tree.Tree.TheOpen.{Empty, Leaf, Inner}
 use Rattle.mr_tree.specs.Tree.{first_level}
-use Rattle.mr_pages.specs.Page.{Link, level_of, entry_of}
+use Rattle.mr_pages.specs.Page.{Link, level_of, node_entry}
 use Rattle.mr_pages.specs.Walking.{child_link, page_node}
 
-entries : (cs : List Child) → map (λ (l : Link). l.entry) (map child_link cs) ≡ map view.entry_of cs
+entries : (cs : List Child) → map (λ (l : Link). l.entry) (map child_link cs) ≡ map view.child_entry cs
 entries [] = refl
-entries (c ∷ cs) = ap (λ es. view.entry_of c ∷ es) (entries cs)
+entries (c ∷ cs) = ap (λ es. view.child_entry c ∷ es) (entries cs)
 
 -- what is to be said of it
-pub entry_same : (hash : Scheme) (n : view.Node) → view.entry_over hash n ≡ entry_of hash (page_node n)
+pub entry_same : (hash : Scheme) (n : view.Node) → view.entry_over hash n ≡ node_entry hash (page_node n)
 entry_same hash Empty = refl
 entry_same hash (Leaf rs) = refl
 entry_same hash (Inner cs) = ap (λ es. entry_step hash (Inner es)) (sym (entries cs))
@@ -39,7 +39,7 @@ joined_there a (Some b ∷ xs) e = joined_there (union a b) xs e
 
 -- a node with an entry has a rectangle
 pub rect_there : (hash : Scheme) (n : view.Node) → 1 ≤ view.size n →
-    (entry_of hash (page_node n)).rect ≡ None → ⊥
+    (node_entry hash (page_node n)).rect ≡ None → ⊥
 rect_there hash Empty some e = omega (arith, some)
 rect_there hash (Leaf []) some e = omega (arith, some)
 rect_there hash (Leaf (r ∷ rs)) some e = joined_there r.rect (map (λ (x : Record). Some x.rect) rs) e

@@ -23,7 +23,7 @@ use Rattle.mr_pages.specs.Stands as placed
 use Rattle.mr_pages.specs.Stands.{Row, no_more, first, trees_of, links_of}
 use Rattle.mr_pages.specs.Saved.{number_row, numbered}
 use Rattle.mr_pages.specs.Walking.{child_link}
-use Rattle.mr_pages.specs.Putting.{HasEntries, CanBePut, PutSoFar, some_row}
+use Rattle.mr_pages.specs.private.Putting.{HasEntries, CanBePut, PutSoFar, some_row}
 use Rattle.mr_pages.proofs.Lists.{all_left, all_right}
 use Rattle.mr_pages.proofs.Building.{of_images, inner_there}
 use Rattle.mr_pages.proofs.Numbered.{tree_numbered}

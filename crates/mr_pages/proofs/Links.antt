@@ -5,10 +5,10 @@ use Rattle.std.specs.List.{flat_map}
 use Rattle.std.proofs.lemmas.Bool.{cases_eq, ne_eqb, not_from_true, not_from_false}
 use Rattle.std.proofs.lemmas.List.{append-nil, take-append-drop}
 use Rattle.mr_pages.specs.declared.rule.MapRule.TheVariants as rule
-use Rattle.mr_pages.specs.declared.seen.Seen.{Seen}
+use Rattle.mr_pages.specs.declared.visited.Visited.{Visited}
 use Rattle.mr_pages.specs.Faults.{fault_if, has, chain, chain_faults, count_from, first_of}
-use Rattle.mr_pages.specs.Walking.{Saw, Loses}
-use Rattle.mr_pages.specs.Source.{Steps}
+use Rattle.mr_pages.specs.Walking.{Saw, LosesPage}
+use Rattle.mr_pages.specs.Source.{StepsOnChain}
 use Rattle.mr_pages.proofs.Lists.{nil_both, no_fault}
 use Rattle.mr_pages.proofs.Walks.{first_front, first_behind}
 
@@ -42,12 +42,12 @@ take_whole : {A : Type 0} (xs : List A) (i : ℕ) → drop i xs ≡ [] → take 
 take_whole xs i e = sym (append-nil (take i xs)) ∙ ap (λ ys. take i xs ++ ys) (sym e) ∙ take-append-drop i xs
 
 -- so many pages of the chain were followed, and this is the next
-pub record Followed (free : ℕ → Option ℕ) (pages f i next : ℕ) (ps ns : List ℕ) (s : Seen) : Type 0 where
+pub record Followed (free : ℕ → Option ℕ) (pages f i next : ℕ) (ps ns : List ℕ) (s : Visited) : Type 0 where
   pub on : drop i (chain free pages f) ≡ chain free (pages - i) next
   pub none : chain_faults free pages ps (take i (chain free pages f)) ≡ []
   pub saw : Saw pages s (ps ++ take i (chain free pages f)) ns
 
-pub follow_starts : (free : ℕ → Option ℕ) (pages f : ℕ) (ps ns : List ℕ) (s : Seen) → Saw pages s ps ns →
+pub follow_starts : (free : ℕ → Option ℕ) (pages f : ℕ) (ps ns : List ℕ) (s : Visited) → Saw pages s ps ns →
     Followed free pages f 0 f ps ns s
 follow_starts free pages f ps ns s saw =
     let same : pages ≡ pages - 0 = omega arith in
@@ -66,9 +66,9 @@ next_on_chain free pages f i next low some on =
     on ∙ ap (λ n. chain free n next) one ∙ ap (λ b. cond b []
     (next ∷ chain free (pages - (i + 1)) (unwrap_or (free next) 0))) (ne_eqb next 0 some)
 
-pub follow_more : (free : ℕ → Option ℕ) (pages f i next after : ℕ) (ps ns : List ℕ) (s r : Seen) → i < pages →
+pub follow_more : (free : ℕ → Option ℕ) (pages f i next after : ℕ) (ps ns : List ℕ) (s r : Visited) → i < pages →
     next ≢ 0 → Followed free pages f i next ps ns s →
-    Steps free pages next (ps ++ take i (chain free pages f)) ns (Ok after) r →
+    StepsOnChain free pages next (ps ++ take i (chain free pages f)) ns (Ok after) r →
     Followed free pages f (i + 1) after ps ns r
 follow_more free pages f i next after ps ns s r low some d step =
     let ch = chain free pages f in
@@ -86,7 +86,7 @@ follow_more free pages f i next after ps ns s r low some d step =
           step.2;
     }
 
-pub follow_ends : (free : ℕ → Option ℕ) (pages f i next : ℕ) (ps ns : List ℕ) (s : Seen) →
+pub follow_ends : (free : ℕ → Option ℕ) (pages f i next : ℕ) (ps ns : List ℕ) (s : Visited) →
     Followed free pages f i next ps ns s → chain free (pages - i) next ≡ [] →
     (chain_faults free pages ps (chain free pages f) ≡ []) × Saw pages s (ps ++ chain free pages f) ns
 follow_ends free pages f i next ps ns s d e =
@@ -101,7 +101,7 @@ chain_of_none free (suc n) f e = ap (λ g. cond (g == 0) [] (f ∷ chain free n 
 pub chain_far : (free : ℕ → Option ℕ) (pages i next : ℕ) → i ≡ pages → chain free (pages - i) next ≡ []
 chain_far free pages i next e = let none : pages - i ≡ 0 = omega (arith, e) in ap (λ n. chain free n next) none
 
-pub follow_fails : (free : ℕ → Option ℕ) (pages f i next : ℕ) (ps ns : List ℕ) (s : Seen) → i < pages → next ≢ 0 →
+pub follow_fails : (free : ℕ → Option ℕ) (pages f i next : ℕ) (ps ns : List ℕ) (s : Visited) → i < pages → next ≢ 0 →
     Followed free pages f i next ps ns s →
     (nat_le pages next || (has next (ps ++ take i (chain free pages f)) || is_none (free next))) ≡ true →
     first_of (chain_faults free pages ps (chain free pages f)) ≡ Some (record { page = next; rule = rule.Free })
@@ -136,5 +136,5 @@ first_in ps a (suc n) p before here low high =
     (cases_eq a p)
 
 pub first_lost : (pages : ℕ) (ps : List ℕ) (p : ℕ) → ((q : ℕ) → 1 ≤ q → q < p → has q ps ≡ true) → has p ps ≡ false →
-    1 ≤ p → p < pages → Loses pages ps (Some (record { page = p; rule = rule.Free }))
+    1 ≤ p → p < pages → LosesPage pages ps (Some (record { page = p; rule = rule.Free }))
 first_lost pages ps p before here low high = first_in ps 1 (pages - 1) p before here low (omega (arith, low, high))

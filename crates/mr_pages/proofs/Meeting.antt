@@ -3,10 +3,10 @@ use Rattle.std.proofs.Common.{◌≡◌, ℕ, ◌+◌, ◌<◌, Bool, true, fals
 use Rattle.std.specs.Prelude.{◌||◌, slice_index_or}
 use Rattle.std.proofs.lemmas.List.{map-append, take_more, take-append-drop}
 use Rattle.mr_record.specs.declared.record.Record.{Record}
-use Rattle.mr_pages.specs.declared.seen.Seen.{Seen}
+use Rattle.mr_pages.specs.declared.visited.Visited.{Visited}
 use Rattle.mr_pages.specs.Faults.{has, repeats, numbers_of}
 use Rattle.mr_pages.specs.Walking.{Saw}
-use Rattle.mr_pages.specs.Numbers.{Met}
+use Rattle.mr_pages.specs.private.Numbers.{Met}
 use Rattle.mr_pages.proofs.Walks.{repeats_append}
 
 -- one more number
@@ -41,7 +41,7 @@ met_again ns rs i r within is none {old} met is_old =
     sym (ap (repeats ns) (sym (split_numbers rs (i + 1)))
     ∙ rest_repeats ns (numbers_of (take (i + 1) rs)) (numbers_of (drop (i + 1) rs)) now)
 
-pub met_all : (pages : ℕ) (ps ns : List ℕ) (s : Seen) (rs xs : List Record) → xs ≡ rs →
+pub met_all : (pages : ℕ) (ps ns : List ℕ) (s : Visited) (rs xs : List Record) → xs ≡ rs →
     repeats ns (numbers_of xs) ≡ false → Saw pages s ps (ns ++ numbers_of xs) →
     (false ≡ repeats ns (numbers_of rs)) × Saw pages s ps (ns ++ numbers_of rs)
 met_all pages ps ns s rs xs e none saw = (
@@ -58,7 +58,7 @@ still_none ns rs i r within is none {old} met is_new =
     ap (repeats ns) (numbers_push rs i r within is) ∙ new_or_not ns (numbers_of (take i rs)) r.number none
     ∙ sym met ∙ is_new
 
-pub saw_more : (pages : ℕ) (ps ns : List ℕ) (s r' : Seen) (rs : List Record) (i : ℕ) (r : Record) → i < length rs →
+pub saw_more : (pages : ℕ) (ps ns : List ℕ) (s r' : Visited) (rs : List Record) (i : ℕ) (r : Record) → i < length rs →
     r ≡ get_or rs i r → Saw pages s ps (ns ++ numbers_of (take i rs)) → r'.reached ≡ s.reached →
     Met r'.numbers ((ns ++ numbers_of (take i rs)) ++ r.number ∷ []) →
     Saw pages r' ps (ns ++ numbers_of (take (i + 1) rs))

@@ -8,7 +8,7 @@ use Rattle.mr_outside.specs.Told.{OfFile}
 use Rattle.mr_pages.specs.declared.rule.MapRule.TheVariants as rule
 use Rattle.mr_pages.specs.Page.{Form}
 use Rattle.mr_pages.specs.File.{File, page_at, file_of}
-use Rattle.mr_pages.specs.Source.{told_bytes, on_shelf, HasPages, IsPaged, IsPage, HasFirst, HasPage, GivesPage, GivesHead, TellsPage}
+use Rattle.mr_pages.specs.Source.{told_bytes, on_shelf, HasWholePages, IsPaged, IsPage, HasFirst, HasPage, GivesPage, GivesHead, TellsPage}
 use Rattle.mr_pages.proofs.Agreement.{whole_pages_are}
 use Rattle.mr_pages.proofs.Filled.{IsPiece}
 
@@ -46,14 +46,14 @@ if_there (Some files) name Q g = here (file files name) g
     here (Some bytes) g = g
 
 module _ (form : Form) (some : 0 < form.size) (name : List ℕ) (lent pages page : ℕ) (p : List ℕ) where
-  whole_of : (bytes : List ℕ) → HasPages form pages bytes → length bytes ≡ pages * form.size
+  whole_of : (bytes : List ℕ) → HasWholePages form pages bytes → length bytes ≡ pages * form.size
   whole_of bytes h =
       (whole_pages_are form.size (length bytes) some h.even).whole ∙ ap (λ n. n * form.size) (sym h.count)
 
   -- the file that is told has what is read, whatever that is
-  file_told : (P : File → Type 0) → ((bytes : List ℕ) → HasPages form pages bytes →
+  file_told : (P : File → Type 0) → ((bytes : List ℕ) → HasWholePages form pages bytes →
       p ≡ page_at form bytes page → P (file_of form bytes)) → page < pages →
-      (o : Option (List ℕ)) → IfSome o (HasPages form pages) → IfSome o (TellsPage form page p) → (f : File) →
+      (o : Option (List ℕ)) → IfSome o (HasWholePages form pages) → IfSome o (TellsPage form page p) → (f : File) →
       option_map (file_of form) o ≡ Some f → P f
   file_told P h within None paged tells f is = cc
   file_told P h within (Some bytes) paged tells f is =

@@ -11,29 +11,31 @@ use Rattle.std.proofs.lemmas.List.Sums.{sum_by-set}
 use Rattle.std.proofs.lemmas.Bool.Decides.{nat_tests}
 use Rattle.mr_pages.specs.declared.table.Table.{Table}
 use Rattle.mr_pages.specs.declared.numbers.Numbers.{Numbers}
-use Rattle.mr_pages.specs.Places.{at_place, put_at_place, is_taken, taken_of}
-use Rattle.mr_pages.specs.Numbers.{holds, Met, Meets}
+use Rattle.mr_pages.specs.private.Places.{number_in_place, put_at_place, is_taken, taken_of}
+use Rattle.mr_pages.specs.private.Numbers.{holds, Met, MeetsNumber}
 use Rattle.mr_pages.proofs.Lists.{has-append}
 
 -- ---- a number is put at its place
 
-put_same : (l : List ℕ) (n q : ℕ) → 1 ≤ length l → q % length l ≡ n % length l → at_place (put_at_place l n) q ≡ n
+put_same : (l : List ℕ) (n q : ℕ) → 1 ≤ length l → q % length l ≡ n % length l → number_in_place
+    (put_at_place l n) q ≡ n
 put_same l n q some same =
     ap (λ m. get_or (set l (n % length l) n) (q % m) 0) (length-set l (n % length l) n)
     ∙ ap (λ k. get_or (set l (n % length l) n) k 0) same
     ∙ get_or-set_same l (n % length l) n 0 (mod-lt n (omega arith))
 
-put_other : (l : List ℕ) (n q : ℕ) → q % length l ≢ n % length l → at_place (put_at_place l n) q ≡ at_place l q
+put_other : (l : List ℕ) (n q : ℕ) → q % length l ≢ n % length l → number_in_place (put_at_place l n) q ≡
+    number_in_place l q
 put_other l n q other =
     ap (λ m. get_or (set l (n % length l) n) (q % m) 0) (length-set l (n % length l) n)
     ∙ get_or-set_other l (n % length l) (q % length l) n 0 other
 
-put_count : (l : List ℕ) (n : ℕ) → 1 ≤ length l → n ≢ 0 → at_place l n ≡ 0 →
+put_count : (l : List ℕ) (n : ℕ) → 1 ≤ length l → n ≢ 0 → number_in_place l n ≡ 0 →
     taken_of (put_at_place l n) ≡ taken_of l + 1
 put_count l n some nonzero empty =
     let within : n % length l < length l = mod-lt n (omega arith) in
     let weight : ℕ → ℕ = λ m. cond (is_taken m) 1 0 in
-    let before : weight (at_place l n) ≡ 0 = ap weight empty in
+    let before : weight (number_in_place l n) ≡ 0 = ap weight empty in
     let after : weight n ≡ 1 = ap (λ b. cond {A = ℕ} (not b) 1 0) (ne_eqb n 0 nonzero) in
     omega (arith, sum_by-set weight l (n % length l) n 0 within, before, after)
 
@@ -45,7 +47,7 @@ with_put q n b nonzero none = grind (arith, nat_tests)
 with_other : (q n : ℕ) (b : Bool) → q ≢ n → b ≡ (b || ((q == n) || false))
 with_other q n b apart = grind (arith, nat_tests)
 
-module _ (s : Numbers) (t : Table) (n : ℕ) (nonzero : n ≢ 0) (empty : at_place s.table.places.items n ≡ 0)
+module _ (s : Numbers) (t : Table) (n : ℕ) (nonzero : n ≢ 0) (empty : number_in_place s.table.places.items n ≡ 0)
     (put : t.places.items ≡ put_at_place s.table.places.items n) where
   abbrev before : List ℕ
   before = s.table.places.items
@@ -53,35 +55,36 @@ module _ (s : Numbers) (t : Table) (n : ℕ) (nonzero : n ≢ 0) (empty : at_pla
   some : 1 ≤ length before
   some = omega (arith, s.table.some, s.table.places.ok)
 
-  put_holds : (none : (q : ℕ) → q ≢ 0 → at_place before q ≡ 0 → contains nat_cmp s.others q ≡ false) (q : ℕ) →
+  put_holds : (none : (q : ℕ) → q ≢ 0 → number_in_place before q ≡ 0 → contains nat_cmp s.others q ≡ false) (q : ℕ) →
       holds (record { table = t; others = s.others }) q ≡ (holds s q || ((q == n) || false))
   put_holds none q =
       let b = contains nat_cmp s.others q in
       elim (cases_eq (q % length before) (n % length before)) [
         | inl same ↦
-            let now : at_place t.places.items q ≡ n = ap (λ xs. at_place xs q) put ∙ put_same before n q some same in
-            let was : at_place before q ≡ 0 = ap (λ k. get_or before k 0) same ∙ empty in
+            let now : number_in_place t.places.items q ≡ n = ap (λ xs. number_in_place xs q) put ∙ put_same before n q
+            some same in
+            let was : number_in_place before q ≡ 0 = ap (λ k. get_or before k 0) same ∙ empty in
             ap (λ m. (is_taken q && m == q) || b) now
             ∙ with_put q n b nonzero (λ z. none q z was)
             ∙ ap (λ m. ((is_taken q && m == q) || b) || ((q == n) || false)) (sym was)
         | inr other ↦
-            let now : at_place t.places.items q ≡ at_place before q =
-            ap (λ xs. at_place xs q) put ∙ put_other before n q other in
+            let now : number_in_place t.places.items q ≡ number_in_place before q =
+            ap (λ xs. number_in_place xs q) put ∙ put_other before n q other in
             ap (λ m. (is_taken q && m == q) || b) now
             ∙ with_other q n (holds s q) (λ e. other (ap (λ m. m % length before) e))
       ]
 
-  put_others : (q : ℕ) → at_place t.places.items q ≡ 0 → at_place before q ≡ 0
+  put_others : (q : ℕ) → number_in_place t.places.items q ≡ 0 → number_in_place before q ≡ 0
   put_others q e = elim (cases_eq (q % length before) (n % length before)) [
     | inl same ↦ ap (λ k. get_or before k 0) same ∙ empty
-    | inr other ↦ sym (put_other before n q other) ∙ ap (λ xs. at_place xs q) (sym put) ∙ e
+    | inr other ↦ sym (put_other before n q other) ∙ ap (λ xs. number_in_place xs q) (sym put) ∙ e
   ]
 
-  pub meets_empty : Meets s n false (record { table = t; others = s.others })
+  pub meets_empty : MeetsNumber s n false (record { table = t; others = s.others })
   meets_empty = λ ns met. (
-    sym (or_from (is_taken n && at_place before n == n) (contains nat_cmp s.others n)
-        (and_right (is_taken n) (at_place before n == n)
-        (ne_eqb (at_place before n) n (λ e. nonzero (sym e ∙ empty))))
+    sym (or_from (is_taken n && number_in_place before n == n) (contains nat_cmp s.others n)
+        (and_right (is_taken n) (number_in_place before n == n)
+        (ne_eqb (number_in_place before n) n (λ e. nonzero (sym e ∙ empty))))
         (met.others n nonzero empty))
         ∙ met.all n,
     record {
@@ -114,23 +117,23 @@ not_not : (b : Bool) → not (not b) ≡ b
 not_not true = refl
 not_not false = refl
 
-module _ (s : Numbers) (o : BTreeSet ℕ) (n : ℕ) (apart : n ≢ 0 → at_place s.table.places.items n ≢ n)
-    (taken : n ≢ 0 → at_place s.table.places.items n ≢ 0) where
+module _ (s : Numbers) (o : BTreeSet ℕ) (n : ℕ) (apart : n ≢ 0 → number_in_place s.table.places.items n ≢ n)
+    (taken : n ≢ 0 → number_in_place s.table.places.items n ≢ 0) where
   abbrev stands : ℕ → Bool
-  stands q = is_taken q && at_place s.table.places.items q == q
+  stands q = is_taken q && number_in_place s.table.places.items q == q
 
   beside : stands n ≡ false
   beside = elim (cases_eq n 0) [
-    | inl zero ↦ ap (λ m. is_taken m && at_place s.table.places.items m == m) zero
+    | inl zero ↦ ap (λ m. is_taken m && number_in_place s.table.places.items m == m) zero
     | inr nonzero ↦
-        and_right (is_taken n) (at_place s.table.places.items n == n)
-        (ne_eqb (at_place s.table.places.items n) n (apart nonzero))
+        and_right (is_taken n) (number_in_place s.table.places.items n == n)
+        (ne_eqb (number_in_place s.table.places.items n) n (apart nonzero))
   ]
 
   pub meets_other : {b : Bool} → b ≡ not (contains nat_cmp s.others n) →
       ((q : ℕ) → contains nat_cmp o q ≡ cond (is_at (nat_cmp n) q) true (contains nat_cmp s.others q)) →
       btree_set_len o ≡ btree_set_len s.others + cond b 1 0 →
-      Meets s n (not b) (record { table = s.table; others = o })
+      MeetsNumber s n (not b) (record { table = s.table; others = o })
   meets_other {b} added updates longer = λ ns met. (
     ap not added ∙ not_not (contains nat_cmp s.others n)
         ∙ ap (λ x. x || contains nat_cmp s.others n) (sym beside)
@@ -151,7 +154,7 @@ module _ (s : Numbers) (o : BTreeSet ℕ) (n : ℕ) (apart : n ≢ 0 → at_plac
           updates q
           ∙ with_one n q (contains nat_cmp s.others q)
           ∙ sym (with_other q n (contains nat_cmp s.others q)
-          (λ same. taken (λ none. z (same ∙ none)) (ap (at_place s.table.places.items) (sym same) ∙ empty)))
+          (λ same. taken (λ none. z (same ∙ none)) (ap (number_in_place s.table.places.items) (sym same) ∙ empty)))
           ∙ met.others q z empty;
     }),
   )

@@ -21,14 +21,14 @@ use Rattle.mr_tree.specs.declared.tree.Tree.TheViews.{out-Tree}
 use Rattle.mr_tree.specs.declared.tree.Tree.TheFolds.{every-Tree}
 use Rattle.mr_tree.proofs.Equations.{level-Inner, entry_level}
 use Rattle.mr_tree.proofs.Induction.{here-Leaf, here-Inner, every_child}
-use Rattle.mr_pages.specs.Page.{Link, Form, page_limit, entry_of}
+use Rattle.mr_pages.specs.Page.{Link, Form, page_limit, node_entry}
 use Rattle.mr_pages.specs.Stands as placed
 use Rattle.mr_pages.specs.Stands.{Placed, Row, no_more, first, pages_of, all_pages, links_of, trees_of}
 use Rattle.std.proofs.Math.Seq.{take-length}
 use Rattle.mr_pages.proofs.Lists.{all_weaker}
 use Rattle.mr_pages.specs.Saved.{number_row, numbered, nodes_of, all_nodes}
 use Rattle.mr_pages.specs.Walking.{child_link, page_node}
-use Rattle.mr_pages.specs.Putting.{AreSiblings, HasEntries, CanBePut, IsPut, some_row, PutSoFar}
+use Rattle.mr_pages.specs.private.Putting.{AreSiblings, HasEntries, CanBePut, IsPut, some_row, PutSoFar}
 use Rattle.mr_pages.proofs.Building.{entry_leaf, entry_inner, inner_there, length_row}
 use Rattle.mr_pages.proofs.Numbered.{numbered-Leaf, numbered-Inner, tree_numbered}
 
@@ -82,7 +82,7 @@ leaf_entries t rs can is = here-Leaf HasEntries rs (subst (every-Tree HasEntries
 pub leaf_put : (form : Form) (hash : List ℕ → List ℕ) (t : Tree) (rs : List Record) (page : ℕ) (old new : List ℕ)
     (child : Child) →
     t ≡ tree.Leaf rs → new ≡ old ++ form.node_page (node.Leaf rs) → length new ≡ length old + form.size →
-    child_link child ≡ record { page = page; entry = entry_of (by form.version hash) (node.Leaf rs) } →
+    child_link child ≡ record { page = page; entry = node_entry (by form.version hash) (node.Leaf rs) } →
     IsPut form hash t page old new child
 leaf_put form hash t rs page old new child is put long said =
     let made : numbered t page ≡ placed.Leaf page rs = ap (λ u. numbered u page) is
@@ -101,7 +101,7 @@ pub leaf_put_at : {shows : view.Node} {slice : List ℕ} (form : Form) (hash : L
     length old ≡ place → now ≡ old ++ replicate form.size 0 → shows ≡ node.Leaf rs → slice ≡ now →
     new ≡ (take place slice ++ form.node_page (page_node shows)) ++ drop (place + form.size) slice →
     length new ≡ length slice →
-    child_link child ≡ record { page = page; entry = entry_of (by form.version hash) (page_node shows) } →
+    child_link child ≡ record { page = page; entry = node_entry (by form.version hash) (page_node shows) } →
     IsPut form hash t page old new child
 leaf_put_at {slice = slice} form hash t rs page old now new place child is here zeros shows_is slice_is put long said =
     let zero : List ℕ = replicate form.size 0 in
@@ -117,7 +117,7 @@ leaf_put_at {slice = slice} form hash t rs page old now new place child is here 
     put ∙ (λ i. (front i ++ form.node_page (page_node (shows_is i))) ++ back i) ∙ append-nil (old ++ mine) in
     leaf_put form hash t rs page old new child is whole
     (omega (arith, long, ap length all, length-append old zero, length-replicate {A = ℕ} form.size 0))
-    (said ∙ (λ i. record { page = page; entry = entry_of (by form.version hash) (page_node (shows_is i)) }))
+    (said ∙ (λ i. record { page = page; entry = node_entry (by form.version hash) (page_node (shows_is i)) }))
 
 -- ---- an inner node, child by child
 
@@ -335,7 +335,7 @@ inner_put_at : (form : Form) (hash : List ℕ → List ℕ) (t : Tree) (ts : Lis
     (place + form.size) now →
     length new ≡ length now →
     child_link child ≡ record
-    { page = page; entry = entry_of (by form.version hash) (node.Inner (map child_link links)) } →
+    { page = page; entry = node_entry (by form.version hash) (node.Inner (map child_link links)) } →
     IsPut form hash t page old new child
 inner_put_at form hash t ts page old now new place links child is can so_far here put long said =
     let R = number_row (suc page) (map numbered ts) in
@@ -367,7 +367,7 @@ inner_put_at form hash t ts page old now new place links child is can so_far her
       link = said
           ∙ (λ i. record {
             page = page;
-            entry = (ap (λ ls. entry_of (by form.version hash) (node.Inner ls)) links_are
+            entry = (ap (λ ls. node_entry (by form.version hash) (node.Inner ls)) links_are
                 ∙ entry_inner (by form.version hash) R) i;
           })
           ∙ ap (placed.link_of (by form.version hash)) (sym made);
@@ -412,7 +412,7 @@ pub inner_put : {shows : view.Node} {slice : List ℕ} (form : Form) (hash : Lis
     shown ≡ links → shows ≡ node.Inner shown → slice ≡ now →
     new ≡ (take place slice ++ form.node_page (page_node shows)) ++ drop (place + form.size) slice →
     length new ≡ length slice →
-    child_link child ≡ record { page = page; entry = entry_of (by form.version hash) (page_node shows) } →
+    child_link child ≡ record { page = page; entry = node_entry (by form.version hash) (page_node shows) } →
     IsPut form hash t page old new child
 inner_put {shows = shows} {slice = slice} form hash t ts i page old now new place links shown child is can so_far end
     here same
@@ -424,7 +424,7 @@ inner_put {shows = shows} {slice = slice} form hash t ts i page old now new plac
     (put ∙ (λ k. (take place (slice_is k) ++ form.node_page (node_is k)) ++ drop (place + form.size)
     (slice_is k)))
     (long ∙ ap length slice_is)
-    (said ∙ (λ k. record { page = page; entry = entry_of (by form.version hash) (node_is k) }))
+    (said ∙ (λ k. record { page = page; entry = node_entry (by form.version hash) (node_is k) }))
 
 -- a list whose first cells were written through a slice of all of them
 pub written_whole : (len : ℕ) (new items : List ℕ) → length new ≡ len → take len (new ++ drop (length new) items) ≡ new

@@ -12,9 +12,9 @@ use Rattle.std.proofs.lemmas.List.{map-append, append-nil}
 use Rattle.std.proofs.lemmas.List.Concat.{flat_map-append}
 use Rattle.mr_geom.specs.Rectangle.{Rectangle}
 use Rattle.mr_record.specs.declared.record.Record.{Record}
-use Rattle.mr_pages.specs.Page.{Link, Node, entry_of}
+use Rattle.mr_pages.specs.Page.{Link, Node, node_entry}
 use Rattle.mr_pages.specs.declared.rule.MapRule.TheVariants as rule
-use Rattle.mr_pages.specs.Faults.{fault_if, has, same_rectangle, same_rect, same_sums, Visit, records_in, reached, all_records, numbers_of, size, least, node_faults, visit_faults, walk_faults}
+use Rattle.mr_pages.specs.Faults.{fault_if, has, same_rectangle, same_rect, same_sums, Visit, records_in, reached, all_records, numbers_of, size, least_fill, node_faults, visit_faults, walk_faults}
 use Rattle.mr_pages.proofs.Lists.{nil_left, nil_right, nil_both, not_broken, no_fault, Fresh, fresh_append, fresh_left, fresh_right, repeats_fresh, fresh_repeats}
 
 -- ---- rectangles that are there or not
@@ -80,39 +80,39 @@ pub record IsSound (hash : Scheme) (pages : ℕ) (v : Visit) : Type 0 where
   pub is : v.node ≡ Some node
   pub low : 0 < v.link.page
   pub inside : v.link.page < pages
-  pub digest : (entry_of hash node).digest ≡ v.link.entry.digest
-  pub rect : (entry_of hash node).rect ≡ v.link.entry.rect
-  pub sums : HasSums v.root (entry_of hash node) v.link.entry
-  pub full : least v.root node ≤ size node
+  pub digest : (node_entry hash node).digest ≡ v.link.entry.digest
+  pub rect : (node_entry hash node).rect ≡ v.link.entry.rect
+  pub sums : HasSums v.root (node_entry hash node) v.link.entry
+  pub full : least_fill v.root node ≤ size node
 
 pub record NodeIsSound (hash : Scheme) (root : Bool) (link : Link) (node : Node) : Type 0 where
-  pub digest : (entry_of hash node).digest ≡ link.entry.digest
-  pub rect : (entry_of hash node).rect ≡ link.entry.rect
-  pub sums : HasSums root (entry_of hash node) link.entry
-  pub full : least root node ≤ size node
+  pub digest : (node_entry hash node).digest ≡ link.entry.digest
+  pub rect : (node_entry hash node).rect ≡ link.entry.rect
+  pub sums : HasSums root (node_entry hash node) link.entry
+  pub full : least_fill root node ≤ size node
 
 pub node_sound : (hash : Scheme) (root : Bool) (link : Link) (node : Node) →
     node_faults hash root link (Some node) ≡ [] → NodeIsSound hash root link node
 node_sound hash root link node e =
-    let e1 = nil_right (fault_if (not (bytes_eq (entry_of hash node).digest link.entry.digest)) link.page
-    (rule.Digest link.entry.digest (entry_of hash node).digest)) _ e in
-    let e2 = nil_right (fault_if (not (same_rect (entry_of hash node).rect link.entry.rect)) link.page
+    let e1 = nil_right (fault_if (not (bytes_eq (node_entry hash node).digest link.entry.digest)) link.page
+    (rule.Digest link.entry.digest (node_entry hash node).digest)) _ e in
+    let e2 = nil_right (fault_if (not (same_rect (node_entry hash node).rect link.entry.rect)) link.page
     rule.Rect) _ e1 in
     record {
       digest = (bytes_eq-Decides _ _).0 (not-false _ (not_broken _ _ _ (nil_left _ _ e)));
       rect = same_rect_is _ _ (not-false _ (not_broken _ _ _ (nil_left _ _ e1)));
-      sums = same_sums_is root (entry_of hash node) link.entry (not-false _ (not_broken _ _ _ (nil_left _ _ e2)));
+      sums = same_sums_is root (node_entry hash node) link.entry (not-false _ (not_broken _ _ _ (nil_left _ _ e2)));
       full = ltb-false _ _ (not_broken _ _ _ (nil_right
-          (fault_if (not (same_sums root (entry_of hash node) link.entry)) link.page rule.Sum) _ e2));
+          (fault_if (not (same_sums root (node_entry hash node) link.entry)) link.page rule.Sum) _ e2));
     }
 
 sound_node : (hash : Scheme) (root : Bool) (link : Link) (node : Node) → NodeIsSound hash root link node →
     node_faults hash root link (Some node) ≡ []
 sound_node hash root link node s =
     nil_both _ _ (no_fault _ _ _ (not_from_true _ ((bytes_eq-Decides _ _).1 s.digest)))
-    (nil_both _ _ (no_fault _ _ _ (not_from_true _ (subst (λ r. same_rect (entry_of hash node).rect r ≡ true) s.rect
-    (same_rect_self (entry_of hash node).rect))))
-    (nil_both _ _ (no_fault _ _ _ (not_from_true _ (is_same_sums root (entry_of hash node) link.entry s.sums)))
+    (nil_both _ _ (no_fault _ _ _ (not_from_true _ (subst (λ r. same_rect (node_entry hash node).rect r ≡ true) s.rect
+    (same_rect_self (node_entry hash node).rect))))
+    (nil_both _ _ (no_fault _ _ _ (not_from_true _ (is_same_sums root (node_entry hash node) link.entry s.sums)))
     (no_fault _ _ _ (le-ltb _ _ s.full))))
 
 pub record VisitIsSound (hash : Scheme) (pages : ℕ) (before : List Visit) (v : Visit) : Type 0 where

@@ -21,7 +21,7 @@ use Rattle.mr_tree.proofs.Induction.{here-Leaf, here-Inner, every_child}
 use Rattle.mr_pages.specs.Page.{Node, page_limit, IsNode, IsRoot, IsHead, Form, IsForm}
 use Rattle.mr_pages.specs.File.{page_at}
 use Rattle.mr_pages.specs.Stands as placed
-use Rattle.mr_pages.specs.Stands.{Placed, Row, no_more, first, tree_of, trees_of, pages_of, all_pages, page_of, link_of, links_of, IsWritten, AreWritten, AreAllPages, whole_tree, whole_pages, HasNode, Stands}
+use Rattle.mr_pages.specs.Stands.{Placed, Row, no_more, first, tree_of, trees_of, pages_of, all_pages, page_of, link_of, links_of, IsWritten, AreWritten, AreAllPages, whole_tree, whole_pages, HasNode, StandsForTree}
 use Rattle.mr_pages.specs.Saved.{numbered_whole, nodes_of, all_nodes, whole_nodes, saved_head, saved_nodes, saved}
 use Rattle.mr_pages.proofs.Lists.{all_left, all_weaker}
 use Rattle.mr_pages.proofs.Chains.{all_within}
@@ -235,7 +235,7 @@ module _ (form : Form) (is : IsForm form) (hash : List ℕ → List ℕ) where
       }
 
   pub saved_stands : ((xs : List ℕ) → length (hash xs) ≡ 32) → (t : Tree) (batch : ℕ) → WellFormed t →
-      HasLayers form.version t → batch < 2 ^ 64 → Stands form hash (saved form hash t batch) t batch
+      HasLayers form.version t → batch < 2 ^ 64 → StandsForTree form hash (saved form hash t batch) t batch
   saved_stands sized t batch well layers low =
       let w = whole_numbered t well.one_level in
       let po = numbered_whole t in

@@ -6,10 +6,10 @@ use Rattle.mr_pages.specs.declared.error.MapErr.{MapErr}
 use Rattle.mr_pages.specs.declared.error.MapErr.TheVariants as errors
 use Rattle.mr_pages.specs.declared.rule.MapFault.{MapFault}
 use Rattle.mr_pages.specs.declared.rule.MapRule.TheVariants as rule
-use Rattle.mr_pages.specs.declared.seen.Seen.{Seen}
+use Rattle.mr_pages.specs.declared.visited.Visited.{Visited}
 use Rattle.mr_pages.specs.Faults.{fault_if, has, chain, first_of}
 use Rattle.mr_pages.specs.Walking.{enter_faults, Saw}
-use Rattle.mr_pages.specs.Source.{Steps, Chains}
+use Rattle.mr_pages.specs.Source.{StepsOnChain, FollowsChain}
 use Rattle.mr_pages.proofs.Lists.{nil_left, nil_right, not_broken}
 use Rattle.mr_pages.proofs.Links.{Followed, follow_fails}
 
@@ -48,17 +48,17 @@ stopped_step pages p ps o e =
     or_true false true = refl
     or_true false false = refl
 
-pub chain_stops : (free : ℕ → Option ℕ) (pages f i next : ℕ) (ps ns : List ℕ) (s r : Seen) (e : MapErr) → i < pages →
+pub chain_stops : (free : ℕ → Option ℕ) (pages f i next : ℕ) (ps ns : List ℕ) (s r : Visited) (e : MapErr) → i < pages →
     next ≢ 0 → Followed free pages f i next ps ns s →
-    Steps free pages next (ps ++ Rattle.std.proofs.Common.take i (chain free pages f)) ns (Err e) r →
-    Chains {A = Unit {0}} free pages f ps ns (Err e) r
+    StepsOnChain free pages next (ps ++ Rattle.std.proofs.Common.take i (chain free pages f)) ns (Err e) r →
+    FollowsChain {A = Unit {0}} free pages f ps ns (Err e) r
 chain_stops free pages f i next ps ns s r (errors.Map x) low some d step =
     follow_fails free pages f i next ps ns s low some d step.0 ∙ ap Some (sym step.1)
 chain_stops free pages f i next ps ns s r errors.Missing low some d step = tt
 chain_stops free pages f i next ps ns s r errors.Fault low some d step = tt
 chain_stops free pages f i next ps ns s r errors.NoMemory low some d step = tt
 
-pub steps_along : (free : ℕ → Option ℕ) (m n p : ℕ) (ps ns : List ℕ) (r : Result ℕ MapErr) (s s' : Seen) → m ≡ n →
-    (Saw m s ps ns → Steps free m p ps ns r s') → Saw n s ps ns → Steps free n p ps ns r s'
+pub steps_along : (free : ℕ → Option ℕ) (m n p : ℕ) (ps ns : List ℕ) (r : Result ℕ MapErr) (s s' : Visited) → m ≡ n →
+    (Saw m s ps ns → StepsOnChain free m p ps ns r s') → Saw n s ps ns → StepsOnChain free n p ps ns r s'
 steps_along free m n p ps ns r s s' e f saw =
-    subst (λ k. Steps free k p ps ns r s') e (f (subst (λ k. Saw k s ps ns) (sym e) saw))
+    subst (λ k. StepsOnChain free k p ps ns r s') e (f (subst (λ k. Saw k s ps ns) (sym e) saw))

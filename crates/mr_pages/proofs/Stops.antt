@@ -8,12 +8,12 @@ use Rattle.mr_record.specs.declared.record.Record.{Record}
 use Rattle.mr_tree.specs.declared.tree.Tree.{Tree}
 use Rattle.mr_pages.specs.declared.rule.MapRule.TheVariants as rule
 use Rattle.mr_pages.specs.declared.rule.MapFault.{MapFault}
-use Rattle.mr_pages.specs.declared.seen.Seen.{Seen}
-use Rattle.mr_pages.specs.Walking.{Saw, Loses, Opens}
+use Rattle.mr_pages.specs.declared.visited.Visited.{Visited}
+use Rattle.mr_pages.specs.Walking.{Saw, LosesPage, OpensFile}
 use Rattle.mr_pages.specs.Page.{Head}
 use Rattle.mr_pages.specs.File.{File}
 use Rattle.mr_pages.specs.Stands.{whole_tree}
-use Rattle.mr_pages.specs.Spelled.{placed_at}
+use Rattle.mr_pages.specs.private.Spelled.{placed_at}
 use Rattle.mr_pages.specs.Faults.{fault_if, Visit, walk, reached, all_records, numbers_of, walk_faults, chain, chain_faults, lost_faults, free_faults, head_faults, file_faults, first_of, mapfault}
 use Rattle.mr_pages.proofs.Lists.{nil_both, no_fault}
 use Rattle.mr_pages.proofs.Walks.{first_front, first_behind}
@@ -86,7 +86,7 @@ module _ (hash : List ℕ → List ℕ) (file : File) (h : Head) (sealed : file.
       found ≡ length (numbers_of (all_records met)) → h.count ≡ found →
       chain_faults file.free file.pages (reached met) followed ≡ [] →
       first_of (lost_faults file.pages (reached met ++ followed)) ≡ None → t ≡ whole_tree (placed_at file.node h.root) →
-      Opens hash file (Ok (record { tree = t; version = file.version; batch = h.batch }))
+      OpensFile hash file (Ok (record { tree = t; version = file.version; batch = h.batch }))
   opens found t none is same chained lost made =
       let all : head_faults hash file h met ≡ [] =
       nil_both (walk_faults (by file.version hash) file.pages [] met)
@@ -96,7 +96,7 @@ module _ (hash : List ℕ → List ℕ) (file : File) (h : Head) (sealed : file.
       (lost_faults file.pages (reached met ++ followed)) chained (none_first _ lost))) in
       (ap (λ o. first_of (file_faults hash file o)) sealed ∙ ap first_of all, refl, h, sealed, made, refl)
 
-pub lost_of : (pages n : ℕ) (s : Seen) (r : Option MapFault) → n ≡ pages →
-    ((ps ns : List ℕ) → Saw n s ps ns → Loses n ps r) → (ps ns : List ℕ) → Saw pages s ps ns → Loses pages ps r
-lost_of pages n s r same clause ps ns saw = subst (λ m. Loses m ps r) same
+pub lost_of : (pages n : ℕ) (s : Visited) (r : Option MapFault) → n ≡ pages →
+    ((ps ns : List ℕ) → Saw n s ps ns → LosesPage n ps r) → (ps ns : List ℕ) → Saw pages s ps ns → LosesPage pages ps r
+lost_of pages n s r same clause ps ns saw = subst (λ m. LosesPage m ps r) same
     (clause ps ns (subst (λ m. Saw m s ps ns) (sym same) saw))

@@ -18,16 +18,16 @@ use Rattle.mr_tree.specs.declared.tree.Tree.TheOpen.{Empty, Leaf, Inner}
 use Rattle.mr_pages.specs.declared.error.MapErr.{MapErr}
 use Rattle.mr_pages.specs.declared.error.MapErr.TheVariants as errors
 use Rattle.mr_pages.specs.declared.node.Node as owned_type
-use Rattle.mr_pages.specs.declared.seen.Seen.{Seen}
+use Rattle.mr_pages.specs.declared.visited.Visited.{Visited}
 use Rattle.mr_pages.specs.Page.{Link, Node, level_of, IsNode}
 use Rattle.mr_pages.specs.File.{File}
 use Rattle.mr_pages.specs.Faults.{repeats, found, children, Visit, records_in, visit, visits, reached, all_records, numbers_of, node_faults, walk_faults, first_of}
-use Rattle.mr_pages.specs.Walking.{child_link, page_node, owned, enter_faults, Saw, Counts, Passed}
-use Rattle.mr_pages.specs.Source.{Sourced, Knows, Looks, Walks, Goes, AreMade}
+use Rattle.mr_pages.specs.Walking.{child_link, page_node, owned, enter_faults, Saw, MeetsNumbers, Passed}
+use Rattle.mr_pages.specs.Source.{Sourced, MatchesChild, ReadsChecked, WalksBelowLink, ReadsWithinRoom, AreMade}
 use Rattle.mr_tree.specs.Tree.{first_level}
 use Rattle.mr_pages.specs.Stands as placed
 use Rattle.mr_pages.specs.Stands.{tree_of}
-use Rattle.mr_pages.specs.Spelled.{row, place}
+use Rattle.mr_pages.specs.private.Spelled.{row, place}
 use Rattle.mr_pages.proofs.Building.{what_is_found}
 use Rattle.mr_pages.proofs.Judged.{entry_same, level_same}
 use Rattle.mr_pages.proofs.ViewPages.{node_tells}
@@ -59,7 +59,7 @@ shape_of s (Inner cs) v fits told = record {
 
 pub knows_of : (hash : Scheme) (c : Child) (root : Bool) (n : view.Node) (o : owned_type.Node) →
     view.IsView n → IsNode hash.version (page_node n) × (level_of (page_node n) ≡ c.level) →
-    node_faults hash root (child_link c) (Some (page_node n)) ≡ [] → owned o ≡ n → Knows hash c o
+    node_faults hash root (child_link c) (Some (page_node n)) ≡ [] → owned o ≡ n → MatchesChild hash c o
 knows_of hash c root n o v fits none is = record {
   shape = subst HasShape (sym is) (shape_of hash.version n v fits.0 (node_tells hash.version n fits.0));
   told = subst (view.AreTold hash.version) (sym is) (node_tells hash.version n fits.0);
@@ -71,8 +71,8 @@ knows_of hash c root n o v fits none is = record {
 -- ---- what is met
 
 pub look_refuses : (A : Type 0) (hash : Scheme) (pages : ℕ) (at : ℕ → Option Node) (before : List Visit)
-    (root : Bool) (link : Link) (e : MapErr) (s : Seen) → enter_faults pages (reached before) link.page ≡ [] →
-    Looks hash at root link (Err e) → Walks {A = A} hash pages at before root link (Err e) s
+    (root : Bool) (link : Link) (e : MapErr) (s : Visited) → enter_faults pages (reached before) link.page ≡ [] →
+    ReadsChecked hash at root link (Err e) → WalksBelowLink {A = A} hash pages at before root link (Err e) s
 look_refuses A hash pages at before root link (errors.Map f) s none e =
     refused_by_look hash pages at before root link f none e
 look_refuses A hash pages at before root link errors.NoMemory s none e = tt
@@ -80,10 +80,10 @@ look_refuses A hash pages at before root link errors.Missing s none e = tt
 look_refuses A hash pages at before root link errors.Fault s none e = tt
 
 pub leaf_passes : (hash : Scheme) (pages : ℕ) (at : ℕ → Option Node) (before : List Visit) (root : Bool)
-    (link : Link) (rs news : List Record) (twice : Bool) (s : Seen) →
+    (link : Link) (rs news : List Record) (twice : Bool) (s : Visited) →
     enter_faults pages (reached before) link.page ≡ [] → node_faults hash root link (found at link) ≡ [] →
     found at link ≡ Some (Leaf rs) → news ≡ rs →
-    Counts pages (reached before ++ link.page ∷ []) (numbers_of (all_records before)) (numbers_of news) twice s →
+    MeetsNumbers pages (reached before ++ link.page ∷ []) (numbers_of (all_records before)) (numbers_of news) twice s →
     twice ≡ false → Passed hash pages before (visits at link.entry.level root link) s
 leaf_passes hash pages at before root link rs news twice s none sound is same count no' =
     let l = at_leaf at root link rs is in
@@ -103,7 +103,7 @@ leaf_passes hash pages at before root link rs news twice s none sound is same co
 
 -- the walk is below this many children
 abbrev pub PassedBelow : Scheme → ℕ → (ℕ → Option Node) → (before : List Visit) → Bool → Link →
-    List Child → Seen → Type 0
+    List Child → Visited → Type 0
 PassedBelow hash pages at before root link items s = Passed hash pages before (visit at root link ∷ flat_map
     (λ (c : Child). visits at (link.entry.level - 1) false (child_link c)) items) s
 
@@ -113,11 +113,12 @@ before_child at before root link items = before ++ (visit at root link ∷ flat_
     (λ (c : Child). visits at (link.entry.level - 1) false (child_link c)) items)
 
 pub child_refuses : (A B : Type 0) (hash : Scheme) (pages : ℕ) (at : ℕ → Option Node) (before : List Visit)
-    (root : Bool) (link : Link) (cs items : List Child) (s r : Seen) (i : ℕ) (one : Child) (e : MapErr) →
+    (root : Bool) (link : Link) (cs items : List Child) (s r : Visited) (i : ℕ) (one : Child) (e : MapErr) →
     AtInner at root link (map child_link cs) → items ≡ cs → i < length items → one ≡ get_or items i one →
     PassedBelow hash pages at before root link (take i items) s →
-    Walks {A = A} hash pages at (before_child at before root link (take i items)) false (child_link one) (Err e) r →
-    Walks {A = B} hash pages at before root link (Err e) r
+    WalksBelowLink {A = A} hash pages at (before_child at before root link (take i items)) false (child_link one)
+    (Err e) r →
+    WalksBelowLink {A = B} hash pages at before root link (Err e) r
 child_refuses A B hash pages at before root link cs items s r i one errors.NoMemory inner same within is p w = tt
 child_refuses A B hash pages at before root link cs items s r i one errors.Missing inner same within is p w = tt
 child_refuses A B hash pages at before root link cs items s r i one errors.Fault inner same within is p w = tt
@@ -137,7 +138,7 @@ child_refuses A B hash pages at before root link cs items s r i one (errors.Map 
     (visits at n false (child_link one))) ≡ Some f) high w)
 
 pub child_passes : (hash : Scheme) (pages : ℕ) (at : ℕ → Option Node) (before : List Visit) (root : Bool)
-    (link : Link) (cs items : List Child) (s r : Seen) (i : ℕ) (one : Child) →
+    (link : Link) (cs items : List Child) (s r : Visited) (i : ℕ) (one : Child) →
     AtInner at root link (map child_link cs) → items ≡ cs → i < length items → one ≡ get_or items i one →
     PassedBelow hash pages at before root link (take i items) s →
     Passed hash pages (before_child at before root link (take i items)) (visits at one.level false (child_link one)) r →
@@ -156,7 +157,7 @@ child_passes hash pages at before root link cs items s r i one inner same within
     (passed_more hash pages before (visit at root link ∷ flat_map g (take i items)) (g one) s r p next)
 
 pub inner_passes : (hash : Scheme) (pages : ℕ) (at : ℕ → Option Node) (before : List Visit) (root : Bool)
-    (link : Link) (cs items : List Child) (s : Seen) (n : ℕ) →
+    (link : Link) (cs items : List Child) (s : Visited) (n : ℕ) →
     AtInner at root link (map child_link cs) → items ≡ cs → take n items ≡ items →
     PassedBelow hash pages at before root link (take n items) s →
     Passed hash pages before (visits at link.entry.level root link) s
@@ -190,7 +191,8 @@ inner_at at root link cs is alike =
     below n (d ∷ ds) all = (let one : d.level + 1 ≡ n = all.0 in omega (arith, one), below n ds all.1)
 
 pub inner_known : (hash : Scheme) (at : ℕ → Option Node) (root : Bool) (c : Child) (n : owned_type.Node)
-    (cs : List Child) → Knows hash c n → owned n ≡ Inner cs → found at (child_link c) ≡ Some (page_node (owned n)) →
+    (cs : List Child) → MatchesChild hash c n → owned n ≡ Inner cs → found at (child_link c) ≡ Some
+    (page_node (owned n)) →
     AtInner at root (child_link c) (map child_link cs)
 inner_known hash at root c n cs k is f =
     inner_at at root (child_link c) cs (f ∙ ap (λ m. Some (page_node m)) is)
@@ -259,8 +261,9 @@ inner_made makes at root link cs items below m n inner same whole all made =
     images (x ∷ xs) = ap (λ ts. tree_of (place at (link.entry.level - 1) (child_link x)) ∷ ts) (images xs)
 
 -- what a walk comes to below some of a node's children, and what was made of these
-pub record WalkedBelow {M : Type 0} (hash : Scheme) (makes : M → Tree → Type 0) (pages : ℕ) (old : Seen) (root : Bool)
-    (link : Link) (cs items : List Child) (below : List M) (new' : Seen) (f : File) : Type 0 where
+pub record WalkedBelow {M : Type 0} (hash : Scheme) (makes : M → Tree → Type 0) (pages : ℕ) (old : Visited)
+    (root : Bool)
+    (link : Link) (cs items : List Child) (below : List M) (new' : Visited) (f : File) : Type 0 where
   pub inner : AtInner f.node root link (map child_link cs)
   pub passed : (before : List Visit) → Saw pages old (reached before) (numbers_of (all_records before)) →
       PassedBelow hash pages f.node before root link items new'
@@ -268,8 +271,8 @@ pub record WalkedBelow {M : Type 0} (hash : Scheme) (makes : M → Tree → Type
 
 -- ---- what a walk leaves
 
-pub goes_first : {A : Type 0} (r : A) (a b : Sourced) (x y : ℕ) → Goes a b 1 0 (Ok r) → y + 1 ≡ x →
-    Goes {A = Unit {0}} a b x y (Ok tt)
+pub goes_first : {A : Type 0} (r : A) (a b : Sourced) (x y : ℕ) → ReadsWithinRoom a b 1 0 (Ok r) → y + 1 ≡ x →
+    ReadsWithinRoom {A = Unit {0}} a b x y (Ok tt)
 goes_first r a b x y p one = record {
   from_ = p.from_;
   count = p.count;
@@ -284,7 +287,7 @@ goes_first r a b x y p one = record {
 }
 
 -- nothing was read yet
-pub goes_none : (a : Sourced) (x : ℕ) → Goes {A = Unit {0}} a a x x (Ok tt)
+pub goes_none : (a : Sourced) (x : ℕ) → ReadsWithinRoom {A = Unit {0}} a a x x (Ok tt)
 goes_none a x = record {
   from_ = refl;
   count = refl;
@@ -299,19 +302,19 @@ goes_none a x = record {
 }
 
 pub along : (A : Type 0) (was hash : Scheme) (m n : ℕ) (at : ℕ → Option Node) (before : List Visit) (root : Bool)
-    (link : Link) (r : Result A MapErr) (s s' : Seen) (ps ns : List ℕ) → was ≡ hash → m ≡ n →
-    (Saw m s ps ns → Walks {A = A} was m at before root link r s') → Saw n s ps ns →
-    Walks {A = A} hash n at before root link r s'
+    (link : Link) (r : Result A MapErr) (s s' : Visited) (ps ns : List ℕ) → was ≡ hash → m ≡ n →
+    (Saw m s ps ns → WalksBelowLink {A = A} was m at before root link r s') → Saw n s ps ns →
+    WalksBelowLink {A = A} hash n at before root link r s'
 along A was hash m n at before root link r s s' ps ns h e f saw =
-    subst (λ k. Walks {A = A} hash k at before root link r s') e
-    (subst (λ k. Walks {A = A} k m at before root link r s') h (f (subst (λ k. Saw k s ps ns) (sym e) saw)))
+    subst (λ k. WalksBelowLink {A = A} hash k at before root link r s') e
+    (subst (λ k. WalksBelowLink {A = A} k m at before root link r s') h (f (subst (λ k. Saw k s ps ns) (sym e) saw)))
 
 pub if_some : {A : Type 0} (o : Option A) (P : A → Type 0) → ((x : A) → o ≡ Some x → P x) → IfSome o P
 if_some None P f = tt
 if_some (Some x) P f = f x refl
 
-pub goes_step : {B : Type 0} (r : B) (a b c : Sourced) (x y z : ℕ) → Goes {A = Unit {0}} a b x y (Ok tt) →
-    Goes b c y z (Ok r) → Goes {A = Unit {0}} a c x z (Ok tt)
+pub goes_step : {B : Type 0} (r : B) (a b c : Sourced) (x y z : ℕ) → ReadsWithinRoom {A = Unit {0}} a b x y (Ok tt) →
+    ReadsWithinRoom b c y z (Ok r) → ReadsWithinRoom {A = Unit {0}} a c x z (Ok tt)
 goes_step r a b c x y z p q = record {
   from_ = q.from_ ∙ p.from_;
   count = q.count ∙ p.count;

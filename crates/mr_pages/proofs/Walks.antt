@@ -8,12 +8,12 @@ use Rattle.mr_record.specs.declared.record.Record.{Record}
 use Rattle.mr_tree.specs.declared.tree.Tree.TheOpen.{Leaf, Inner}
 use Rattle.mr_pages.specs.declared.rule.MapFault.{MapFault}
 use Rattle.mr_pages.specs.declared.rule.MapRule.TheVariants as rule
-use Rattle.mr_pages.specs.declared.seen.Seen.{Seen}
+use Rattle.mr_pages.specs.declared.visited.Visited.{Visited}
 use Rattle.mr_tree.specs.declared.child.Child.{Child}
 use Rattle.mr_pages.specs.Page.{Link, Node}
 use Rattle.mr_pages.specs.Stands as placed
 use Rattle.mr_pages.specs.Stands.{Placed, Row, tree_of, trees_of}
-use Rattle.mr_pages.specs.Spelled.{row, place}
+use Rattle.mr_pages.specs.private.Spelled.{row, place}
 use Rattle.mr_pages.specs.Faults.{fault_if, has, repeats, found, children, Visit, records_in, visit, visits, reached, all_records, numbers_of, node_faults, visit_faults, walk_faults, first_of}
 use Rattle.mr_pages.specs.Walking.{child_link, enter_faults, Saw, Passed}
 use Rattle.mr_pages.proofs.Lists.{nil_both, no_fault}
@@ -144,7 +144,7 @@ module _ (hash : Scheme) (pages : ℕ) (at : ℕ → Option Node) (before : List
 
 -- ---- what a walk keeps
 
-pub saw_visit : (pages : ℕ) (s : Seen) (before : List Visit) (v : Visit) →
+pub saw_visit : (pages : ℕ) (s : Visited) (before : List Visit) (v : Visit) →
     Saw pages s (reached before ++ v.link.page ∷ []) (numbers_of (all_records before) ++ numbers_of (records_in v.node))
     →
     Saw pages s (reached (before ++ v ∷ [])) (numbers_of (all_records (before ++ v ∷ [])))
@@ -152,7 +152,7 @@ saw_visit pages s before v saw =
     subst (λ ps. Saw pages s ps (numbers_of (all_records (before ++ v ∷ [])))) (sym (reached_more before v))
     (subst (Saw pages s (reached before ++ v.link.page ∷ [])) (sym (numbers_more before v)) saw)
 
-pub passed_more : (hash : Scheme) (pages : ℕ) (before vs us : List Visit) (s r : Seen) →
+pub passed_more : (hash : Scheme) (pages : ℕ) (before vs us : List Visit) (s r : Visited) →
     Passed hash pages before vs s → Passed hash pages (before ++ vs) us r → Passed hash pages before (vs ++ us) r
 passed_more hash pages before vs us s r p q = record {
   none = walk_append hash pages before vs us ∙ nil_both (walk_faults hash pages before vs)
@@ -202,7 +202,7 @@ number_refused hash pages at before root link rs news twice none sound is same t
     ∙ ap (λ xs. repeats (numbers_of (all_records before)) (numbers_of xs)) (sym same) ∙ sym test ∙ yes')
 
 pub inner_starts : (hash : Scheme) (pages : ℕ) (at : ℕ → Option Node) (before : List Visit) (root : Bool)
-    (link : Link) (ls : List Link) (s : Seen) →
+    (link : Link) (ls : List Link) (s : Visited) →
     enter_faults pages (reached before) link.page ≡ [] →
     Saw pages s (reached before ++ link.page ∷ []) (numbers_of (all_records before)) →
     node_faults hash root link (found at link) ≡ [] → found at link ≡ Some (Inner ls) →

@@ -8,12 +8,12 @@ use Rattle.mr_outside.specs.Files.{Files, file, with_file, grown, replaced, over
 use Rattle.mr_outside.specs.State.{Shelved}
 use Rattle.mr_outside.specs.Told.{MayMiss, OfFile}
 use Rattle.mr_outside.specs.Causes.{ShelfCauses}
-use Rattle.mr_outside.specs.Writing.{IsChanged, IsChangedPartly, Writes}
+use Rattle.mr_outside.specs.Writing.{IsChanged, IsChangedPartly, WritesOrFront}
 use Rattle.mr_outside.specs.declared.shelf.ShelfErr.{ShelfErr}
 use Rattle.mr_outside.specs.declared.shelf.ShelfErr.TheVariants as shelf
 use Rattle.mr_outside.proofs.Changes.{IsChanged-grown, IsChanged-overwritten, file-with_file, with_file-same, overwritten-none}
-use Rattle.mr_pages.specs.Saved.{Leaves, SaveCauses}
-use Rattle.mr_pages.specs.Making.{IsBegun, HasMade, GivesUp}
+use Rattle.mr_pages.specs.Saved.{LeavesFile, SaveCauses}
+use Rattle.mr_pages.specs.Making.{IsBegun, HasMade, GivesUpFile}
 
 -- ---- causes
 
@@ -57,7 +57,7 @@ err_same e f q = cc
 
 -- what was given up
 pub causes_given_up : {A : Type 0} (size : ℕ) (name : List ℕ) (before after : Shelved) (e : ShelfErr) →
-    GivesUp size name before after e → SaveCauses {A = A} before after (Err e)
+    GivesUpFile size name before after e → SaveCauses {A = A} before after (Err e)
 causes_given_up {A = A} size name before after e u = record {
   missing = λ q. u.missing (err_same {A = A} e shelf.Missing q);
   fault = λ q. u.fault (err_same {A = A} e shelf.Fault q);
@@ -110,8 +110,8 @@ begun_more size behind held more is =
 
 -- a call that was refused and left the files as this
 gives_up : {A : Type 0} (size : ℕ) (name : List ℕ) (before after : Shelved) (e : ShelfErr) →
-    Leaves (IsBegun size) name before.files after.files → SaveCauses {A = A} before after (Err e) →
-    after.reads ≡ before.reads → GivesUp size name before after e
+    LeavesFile (IsBegun size) name before.files after.files → SaveCauses {A = A} before after (Err e) →
+    after.reads ≡ before.reads → GivesUpFile size name before after e
 gives_up size name before after e left c reads = record {
   left = left;
   missing = λ q. c.missing (ap Err q);
@@ -122,20 +122,20 @@ gives_up size name before after e left c reads = record {
 
 -- it is handed on
 pub given_up : {A : Type 0} (r : Result A ShelfErr) (P : A → Type 0) (e : ShelfErr) (size : ℕ) (name : List ℕ)
-    (before after : Shelved) → IsErrAnd r (λ f. f ≡ e) → GivesUp size name before after e →
-    MatchResult r P (GivesUp size name before after)
+    (before after : Shelved) → IsErrAnd r (λ f. f ≡ e) → GivesUpFile size name before after e →
+    MatchResult r P (GivesUpFile size name before after)
 given_up r P e size name before after is u =
     let p = err_from_is_err_and r is in
-    subst (λ q. MatchResult q P (GivesUp size name before after)) (sym (p.1 ∙ ap Err p.2)) u
+    subst (λ q. MatchResult q P (GivesUpFile size name before after)) (sym (p.1 ∙ ap Err p.2)) u
 
 -- there was no memory before the first call
-pub none_begun : (size : ℕ) (name : List ℕ) (now : Shelved) → GivesUp size name now now shelf.NoMemory
+pub none_begun : (size : ℕ) (name : List ℕ) (now : Shelved) → GivesUpFile size name now now shelf.NoMemory
 none_begun size name now =
     gives_up {A = Unit {0}} size name now now shelf.NoMemory (inl refl) (causes_no_memory now now refl) refl
 
 -- nor was there any between two
 pub no_memory : (size : ℕ) (name held behind : List ℕ) (before now : Shelved) →
-    HasMade name held before now → held ≡ replicate size 0 ++ behind → GivesUp size name before now shelf.NoMemory
+    HasMade name held before now → held ≡ replicate size 0 ++ behind → GivesUpFile size name before now shelf.NoMemory
 no_memory size name held behind before now made is =
     gives_up {A = Unit {0}} size name before now shelf.NoMemory
     (inr (held, begun_all size behind held is, made.files)) (causes_no_memory before now made.faults) made.reads
@@ -143,7 +143,7 @@ no_memory size name held behind before now made is =
 -- nor behind what had grown
 pub no_memory_more : (size : ℕ) (name held behind more : List ℕ) (before now : Shelved) →
     HasMade name (held ++ more) before now → held ≡ replicate size 0 ++ behind →
-    GivesUp size name before now shelf.NoMemory
+    GivesUpFile size name before now shelf.NoMemory
 no_memory_more size name held behind more before now made is =
     no_memory size name (held ++ more) (behind ++ more) before now made
     (ap (λ bs. bs ++ more) is ∙ append_assoc (replicate size 0) behind more)
@@ -151,7 +151,7 @@ no_memory_more size name held behind more before now made is =
 pub not_created : {A : Type 0} (size : ℕ) (name : List ℕ) (before after : Shelved) (e : ShelfErr) →
     after.files ≡ before.files → (◌≡◌ {A = Result A ShelfErr} (Err e) (Err shelf.Missing) → before.files ≡ None) →
     ShelfCauses {A = A} name before after (Err e) →
-    after.reads ≡ before.reads → GivesUp size name before after e
+    after.reads ≡ before.reads → GivesUpFile size name before after e
 not_created {A = A} size name before after e same never c reads =
     gives_up {A = A} size name before after e (inl same)
     (record {
@@ -166,8 +166,8 @@ module _ (size : ℕ) (name bytes behind : List ℕ) (is : bytes ≡ replicate s
     (quiet : made.faults ≡ before.faults) (reads : made.reads ≡ before.reads) where
   -- the first bytes were appended in part
   pub not_begun : {A : Type 0} (after : Shelved) (e : ShelfErr) →
-      Writes {A = A} (grown name) bytes made after (Err e) → ShelfCauses {A = A} name made after (Err e) →
-      GivesUp size name before after e
+      WritesOrFront {A = A} (grown name) bytes made after (Err e) → ShelfCauses {A = A} name made after (Err e) →
+      GivesUpFile size name before after e
   not_begun {A = A} after e w c =
       gives_up {A = A} size name before after e
       (inr (
@@ -186,9 +186,9 @@ module _ (size : ℕ) (name bytes behind : List ℕ) (is : bytes ≡ replicate s
   }
 
   pub begun_or_not : {A : Type 0} (after : Shelved) (r : Result A ShelfErr) →
-      Writes {A = A} (grown name) bytes made after r →
+      WritesOrFront {A = A} (grown name) bytes made after r →
       ShelfCauses {A = A} name made after r →
-      MatchResult r (λ done. HasMade name bytes before after) (GivesUp size name before after)
+      MatchResult r (λ done. HasMade name bytes before after) (GivesUpFile size name before after)
   begun_or_not after (Ok done) w c = begun after w.whole c.quiet w.reads
   begun_or_not after (Err e) w c = not_begun after e w c
 
@@ -196,8 +196,8 @@ module _ (size : ℕ) (name held behind : List ℕ) (is : held ≡ replicate siz
     (before now : Shelved) (made : HasMade name held before now) where
   -- more bytes were appended in part
   pub not_grown : {A : Type 0} (more : List ℕ) (after : Shelved) (e : ShelfErr) →
-      Writes {A = A} (grown name) more now after (Err e) → ShelfCauses {A = A} name now after (Err e) →
-      GivesUp size name before after e
+      WritesOrFront {A = A} (grown name) more now after (Err e) → ShelfCauses {A = A} name now after (Err e) →
+      GivesUpFile size name before after e
   not_grown {A = A} more after e w c =
       gives_up {A = A} size name before after e
       (inr (
@@ -209,8 +209,9 @@ module _ (size : ℕ) (name held behind : List ℕ) (is : held ≡ replicate siz
 
   -- bytes behind page 0 were written over in part
   pub not_put : {A : Type 0} (more : List ℕ) (after : Shelved) (e : ShelfErr) →
-      Writes {A = A} (overwritten name size) more now after (Err e) → ShelfCauses {A = A} name now after (Err e) →
-      GivesUp size name before after e
+      WritesOrFront {A = A} (overwritten name size) more now after (Err e) → ShelfCauses {A = A} name now after
+      (Err e) →
+      GivesUpFile size name before after e
   not_put {A = A} more after e w c =
       let front = w.front.front in
       let zeros : List ℕ = replicate size 0 in

@@ -12,7 +12,7 @@ use Rattle.mr_tree.specs.declared.tree.Tree.TheOpen.{Empty, Leaf, Inner}
 use Rattle.mr_pages.specs.declared.rule.MapRule.{MapRule}
 use Rattle.mr_pages.specs.declared.rule.MapFault.{MapFault}
 use Rattle.mr_pages.specs.declared.rule.MapRule.TheVariants as rule
-use Rattle.mr_pages.specs.Page.{Link, Node, level_of, entry_of, Head}
+use Rattle.mr_pages.specs.Page.{Link, Node, level_of, node_entry, Head}
 use Rattle.mr_pages.specs.File.{File}
 
 abbrev pub fault_if : Bool → ℕ → MapRule → List MapFault
@@ -95,11 +95,11 @@ size Empty = 0
 size (Leaf records) = length records
 size (Inner links) = length links
 
-abbrev pub least : (root : Bool) → Node → ℕ
-least true (Inner links) = root_inner_fill
-least true _ = root_leaf_fill
-least false (Inner links) = inner_fill
-least false _ = leaf_fill
+abbrev pub least_fill : (root : Bool) → Node → ℕ
+least_fill true (Inner links) = root_inner_fill
+least_fill true _ = root_leaf_fill
+least_fill false (Inner links) = inner_fill
+least_fill false _ = leaf_fill
 
 -- whether a node has the mask that is said of it and, unless it is the root, the count: that of the
 -- root is the head's. Both are 0 in version 1.
@@ -110,11 +110,11 @@ same_sums root found said = found.mask == said.mask && (root || found.count == s
 abbrev pub node_faults : Scheme → (root : Bool) → Link → Option Node → List MapFault
 node_faults s root link None = fault_if true link.page rule.Page
 node_faults s root link (Some node) =
-    fault_if (not (bytes_eq (entry_of s node).digest link.entry.digest)) link.page
-    (rule.Digest link.entry.digest (entry_of s node).digest)
-    ++ (fault_if (not (same_rect (entry_of s node).rect link.entry.rect)) link.page rule.Rect
-    ++ (fault_if (not (same_sums root (entry_of s node) link.entry)) link.page rule.Sum
-    ++ fault_if (nat_lt (size node) (least root node)) link.page rule.Fill))
+    fault_if (not (bytes_eq (node_entry s node).digest link.entry.digest)) link.page
+    (rule.Digest link.entry.digest (node_entry s node).digest)
+    ++ (fault_if (not (same_rect (node_entry s node).rect link.entry.rect)) link.page rule.Rect
+    ++ (fault_if (not (same_sums root (node_entry s node) link.entry)) link.page rule.Sum
+    ++ fault_if (nat_lt (size node) (least_fill root node)) link.page rule.Fill))
 
 -- the rules that a visit breaks, in their order, behind these visits in a file of so many pages
 abbrev pub visit_faults : Scheme → ℕ → List Visit → Visit → List MapFault

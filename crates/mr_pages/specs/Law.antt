@@ -7,7 +7,7 @@ use Rattle.mr_tree.specs.declared.tree.Tree.{Tree}
 use Rattle.mr_pages.specs.Page.{Form}
 use Rattle.mr_pages.specs.PageBytes.{form_by}
 use Rattle.mr_pages.specs.File.{file_of}
-use Rattle.mr_pages.specs.Stands.{Stands}
+use Rattle.mr_pages.specs.Stands.{StandsForTree}
 use Rattle.mr_pages.specs.Faults.{mapfault}
 use Rattle.mr_pages.specs.declared.opening.Opened.{Opened}
 
@@ -17,7 +17,7 @@ pub record IsMap (form : Form) (hash : List ℕ → List ℕ) (bytes : List ℕ)
   pub well : WellFormed t
   -- the layers are those of its version
   pub layers : HasLayers form.version t
-  pub stands : Stands form hash bytes t batch
+  pub stands : StandsForTree form hash bytes t batch
 
 -- the map of this version of a tree at a batch
 abbrev pub map_in : Version → Tree → (batch : ℕ) → Opened
@@ -36,7 +36,7 @@ abbrev pub IsOnlyMap : Form → (List ℕ → List ℕ) → (bytes : List ℕ) �
 IsOnlyMap form hash bytes t b =
     (u : Tree) (c : ℕ) → IsMap form hash bytes u c → (t ≡ u) × (b ≡ c)
 
-pub record Agrees (form : Form) (hash : List ℕ → List ℕ) (bytes : List ℕ) : Type 0 where
+pub record AgreesWithFault (form : Form) (hash : List ℕ → List ℕ) (bytes : List ℕ) : Type 0 where
   -- a file without a fault stands for a map
   pub map : mapfault hash (file_of form bytes) ≡ None →
       (t : Tree) × (b : ℕ) × IsMap form hash bytes t b

@@ -6,12 +6,8 @@ pub mod Stands
 pub mod Faults
 pub mod Law
 pub mod Saved
-pub mod Spelled
-pub mod Places
-pub mod Numbers
 pub mod Walking
-pub mod Judging
 pub mod Opening
 pub mod Source
-pub mod Putting
+pub mod private
 pub mod Making

@@ -9,8 +9,8 @@ use Rattle.mr_outside.specs.declared.shelf.ShelfErr.TheVariants as shelf
 use Rattle.mr_tree.specs.declared.child.Child.{Child}
 use Rattle.mr_tree.specs.declared.tree.Tree.{Tree}
 use Rattle.mr_pages.specs.Page.{Form}
-use Rattle.mr_pages.specs.Putting.{IsImage, PutSoFar, some_row}
-use Rattle.mr_pages.specs.Saved.{Leaves, saved_pages}
+use Rattle.mr_pages.specs.private.Putting.{IsImage, PutSoFar, some_row}
+use Rattle.mr_pages.specs.Saved.{LeavesFile, saved_pages}
 use Rattle.mr_pages.specs.Stands.{all_pages}
 
 -- bytes whose page 0 is zeros, as far as it is there
@@ -25,9 +25,9 @@ pub record HasMade (name bytes : List ℕ) (before now : Shelved) : Type 0 where
   pub reads : now.reads ≡ before.reads
 
 -- the file was given up: what may be left, and why
-pub record GivesUp (size : ℕ) (name : List ℕ) (before after : Shelved) (why : ShelfErr)
+pub record GivesUpFile (size : ℕ) (name : List ℕ) (before after : Shelved) (why : ShelfErr)
     : Type 0 where
-  pub left : Leaves (IsBegun size) name before.files after.files
+  pub left : LeavesFile (IsBegun size) name before.files after.files
   pub missing : why ≡ shelf.Missing → Rose before.faults after.faults
   pub fault : why ≡ shelf.Fault → Rose before.faults after.faults
   pub faults : before.faults ≤ after.faults
@@ -44,7 +44,7 @@ pub record RowMade (form : Form) (hash : List ℕ → List ℕ) (ts : List Tree)
 
 -- the file has all pages of the map but page 0; this is to be said of the root, and so many pages
 -- there are
-pub record IsMade (form : Form) (hash : List ℕ → List ℕ) (t : Tree) (name : List ℕ)
+pub record HasMadePages (form : Form) (hash : List ℕ → List ℕ) (t : Tree) (name : List ℕ)
     (before now : Shelved) (root : Option Child) (pages : ℕ) : Type 0 where
   pub bytes : List ℕ
   pub image : IsImage form hash t bytes root

@@ -1,7 +1,7 @@
 -- What opening a named file answers.
 use Rattle.std.specs.Prelude.{◌≡◌, ⊤, ◌⊎◌, ℕ, ◌/◌, ◌≤◌, max, min, List, length, Some, Result, Ok, Err, IsErrOf}
 use Rattle.mr_tree.specs.declared.tree.Tree.{Tree}
-use Rattle.mr_record.specs.Bytes.{AreBytes}
+use Rattle.mr_record.specs.private.Bytes.{AreBytes}
 use Rattle.mr_record.specs.declared.version.Version.{Version}
 use Rattle.mr_outside.specs.Faults.{Rose}
 use Rattle.mr_outside.specs.State.{Shelved}
@@ -45,27 +45,27 @@ pages_in bytes = min (length bytes / page_size) (max 1 (length bytes / (form_at 
 -- ---- whether something was found out
 
 -- the call failed, and says nothing of the file
-abbrev pub Fails : Result Opened MapErr → Type 0
-Fails (Ok map) = ⊥
-Fails (Err (errors.Map f)) = ⊥
-Fails (Err _) = ⊤
+abbrev pub FailsWithoutFault : Result Opened MapErr → Type 0
+FailsWithoutFault (Ok map) = ⊥
+FailsWithoutFault (Err (errors.Map f)) = ⊥
+FailsWithoutFault (Err _) = ⊤
 
 -- this is the answer, unless the call failed
 abbrev pub OrFails : (result wanted : Result Opened MapErr) → Type 0
-OrFails result wanted = (result ≡ wanted) ⊎ Fails result
+OrFails result wanted = (result ≡ wanted) ⊎ FailsWithoutFault result
 
 -- ---- what was found out
 
 -- what is answered of these bytes: the map that they stand for, or their fault
-abbrev pub Answers : Form → (List ℕ → List ℕ) → List ℕ → Result Opened MapErr → Type 0
-Answers form hash bytes (Ok map) =
+abbrev pub AnswersMap : Form → (List ℕ → List ℕ) → List ℕ → Result Opened MapErr → Type 0
+AnswersMap form hash bytes (Ok map) =
     (map.version ≡ form.version) × IsMap form hash bytes map.tree map.batch
-Answers form hash bytes (Err (errors.Map f)) = mapfault hash (file_of form bytes) ≡ Some f
-Answers form hash bytes (Err _) = ⊤
+AnswersMap form hash bytes (Err (errors.Map f)) = mapfault hash (file_of form bytes) ≡ Some f
+AnswersMap form hash bytes (Err _) = ⊤
 
 -- the answer is that of some bytes
 abbrev pub SomeBytes : Form → (List ℕ → List ℕ) → Result Opened MapErr → Type 0
-SomeBytes form hash result = (bytes : List ℕ) × AreBytes bytes × Answers form hash bytes result
+SomeBytes form hash result = (bytes : List ℕ) × AreBytes bytes × AnswersMap form hash bytes result
 
 -- that of some bytes, read in some version
 abbrev pub SomeFile : (List ℕ → List ℕ) → Result Opened MapErr → Type 0
@@ -73,10 +73,10 @@ SomeFile hash result = (v : Version) × SomeBytes (form_by v) hash result
 
 -- what is answered where the file has these bytes: nothing but their map or their fault, and that
 -- it is, unless the call failed; and its cells are bytes
-pub record Tells (form : Form) (hash : List ℕ → List ℕ) (bytes : List ℕ)
+pub record TellsBytes (form : Form) (hash : List ℕ → List ℕ) (bytes : List ℕ)
     (result : Result Opened MapErr) : Type 0 where
   pub are : AreBytes bytes
-  pub answers : Answers form hash bytes result
+  pub answers : AnswersMap form hash bytes result
   pub fault : (f : MapFault) → mapfault hash (file_of form bytes) ≡ Some f →
       OrFails result (Err (errors.Map f))
   pub map : (t : Tree) (b : ℕ) → IsMap form hash bytes t b →
@@ -91,4 +91,4 @@ pub record MapCauses (name : List ℕ) (before after : Shelved) (result : Result
       MayMiss before.files name before.faults after.faults
   pub fault : IsErrOf result errors.Fault → Rose before.faults after.faults
   pub faults : before.faults ≤ after.faults
-  pub quiet : (after.faults ≡ before.faults) ⊎ Fails result
+  pub quiet : (after.faults ≡ before.faults) ⊎ FailsWithoutFault result

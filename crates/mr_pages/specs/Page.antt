@@ -4,7 +4,7 @@ use Rattle.std.specs.Prelude.{◌≡◌, ◌≢◌, ℕ, ◌^◌, ◌<◌, ◌�
 use Rattle.std.specs.List.{AllByRecursion}
 use Rattle.std.specs.Result.{result_ok}
 use Rattle.mr_geom.specs.Rectangle.{Rectangle, IsOrdered, FitsMap}
-use Rattle.mr_record.specs.Bytes.{AreBytes}
+use Rattle.mr_record.specs.private.Bytes.{AreBytes}
 use Rattle.mr_record.specs.Record.{IsRecord, HasLayer}
 use Rattle.mr_record.specs.declared.version.Version.{Version}
 use Rattle.mr_record.specs.Version.{told}
@@ -31,8 +31,8 @@ abbrev pub level_of : Node → ℕ
 level_of node = level_step (map-Tree Link ℕ (λ (l : Link). l.entry.level) node)
 
 -- the entry of a node: what is to be said of it
-abbrev pub entry_of : Scheme → Node → Entry
-entry_of s node = entry_step s (map-Tree Link Entry (λ (l : Link). l.entry) node)
+abbrev pub node_entry : Scheme → Node → Entry
+node_entry s node = entry_step s (map-Tree Link Entry (λ (l : Link). l.entry) node)
 
 -- page 0
 pub record Head : Type 0 where
@@ -118,14 +118,14 @@ pub record AreInverse {A : Type 0} (Fits : A → Type 0) (size : ℕ) (spell : A
   pub spelled : (bytes : List ℕ) (a : A) → AreBytes bytes → read bytes ≡ Some a →
       Fits a × (spell a ≡ bytes)
 
-abbrev pub FitsHead : Version → ℕ → Head → Type 0
-FitsHead v pages h = IsHead v h × (h.pages ≡ pages)
+abbrev pub FitsMapHead : Version → ℕ → Head → Type 0
+FitsMapHead v pages h = IsHead v h × (h.pages ≡ pages)
 
 -- reading and spelling pages of this form are inverse to each other
 pub record IsForm (form : Form) : Type 0 where
   pub some : 0 < form.size
   pub heads : (pages : ℕ) → 1 ≤ pages → pages ≤ page_limit →
-      AreInverse (FitsHead form.version pages) form.size form.head_page
+      AreInverse (FitsMapHead form.version pages) form.size form.head_page
       (λ bytes. result_ok (form.head_in pages bytes))
   pub nodes : AreInverse (IsNode form.version) form.size form.node_page form.node_in
   pub frees : AreInverse (λ free. free < 2 ^ 32) form.size form.free_page form.free_in

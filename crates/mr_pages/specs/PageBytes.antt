@@ -18,7 +18,7 @@ use Rattle.mr_tree.specs.declared.tree.Tree.TheOpen.{Empty, Leaf, Inner}
 use Rattle.mr_pages.specs.declared.layout.Layout.{Layout}
 use Rattle.mr_pages.specs.declared.rule.MapRule.{MapRule}
 use Rattle.mr_pages.specs.declared.rule.MapRule.TheVariants.{Unsealed, Header}
-use Rattle.mr_pages.specs.Page.{Link, Node, level_of, IsNode, Head, FitsHead, Form}
+use Rattle.mr_pages.specs.Page.{Link, Node, level_of, IsNode, Head, FitsMapHead, Form}
 
 -- ---- what differs from one version of the format to the next
 
@@ -98,9 +98,9 @@ root_level (Some l) = l.entry.level
 abbrev pub root_size : Version → ℕ
 root_size v = 52 + told v 8
 
-unfoldable pub root_bytes : Version → Option Link → List ℕ
-root_bytes v None = replicate (root_size v) 0
-root_bytes v (Some l) = to_be_bytes w32 l.page ++ root_entry_bytes v l.entry
+unfoldable pub root_link_bytes : Version → Option Link → List ℕ
+root_link_bytes v None = replicate (root_size v) 0
+root_link_bytes v (Some l) = to_be_bytes w32 l.page ++ root_entry_bytes v l.entry
 
 -- where it is told on page 0, where the first free page is, and where what page 0 says ends
 abbrev pub root_place : ℕ
@@ -115,7 +115,7 @@ head_size v = free_place v + 4
 -- what page 0 says, up to the gap before the seal
 unfoldable pub head_bytes : Version → Head → List ℕ
 head_bytes v h = magic ++ version_byte v ∷ root_level h.root ∷ (to_be_bytes w64 h.batch
-    ++ to_be_bytes w64 h.count ++ to_be_bytes w32 h.pages ++ root_bytes v h.root
+    ++ to_be_bytes w64 h.count ++ to_be_bytes w32 h.pages ++ root_link_bytes v h.root
     ++ to_be_bytes w32 h.free)
 
 -- the seal stands at the page's end
@@ -304,5 +304,5 @@ pub record SpellsNode (form : Form) (at : ℕ) (page : List ℕ) (n : Node) : Ty
 
 -- page 0 of a file of so many pages spells this head
 pub record SpellsHead (form : Form) (pages : ℕ) (page : List ℕ) (h : Head) : Type 0 where
-  pub fits : FitsHead form.version pages h
+  pub fits : FitsMapHead form.version pages h
   pub is : page ≡ form.head_page h

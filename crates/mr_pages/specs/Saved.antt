@@ -96,8 +96,8 @@ MayStand form hash t batch bytes =
     IsUnsealed hash bytes ⊎ (bytes ≡ saved form hash t batch)
 
 -- the files are as before, or the named one has such bytes and each other is as before
-abbrev pub Leaves : (List ℕ → Type 0) → (name : List ℕ) → (before after : Option Files) → Type 0
-Leaves P name before after =
+abbrev pub LeavesFile : (List ℕ → Type 0) → (name : List ℕ) → (before after : Option Files) → Type 0
+LeavesFile P name before after =
     (after ≡ before) ⊎ ((bytes : List ℕ) × P bytes × IsChanged (with_file name) bytes before after)
 
 -- each refusal has its cause: there is no missing file, since the call makes it

@@ -4,7 +4,7 @@ use Rattle.std.specs.Prelude.{◌≡◌, ⊤, ◌⊎◌, ℕ, ◌+◌, ◌*◌, 
 use Rattle.mr_outside.specs.Faults.{Rose}
 use Rattle.mr_outside.specs.Files.{Files, file}
 use Rattle.mr_outside.specs.State.{Shelved}
-use Rattle.mr_record.specs.Bytes.{AreBytes}
+use Rattle.mr_record.specs.private.Bytes.{AreBytes}
 use Rattle.mr_outside.specs.declared.shelf.ShelfErr.{ShelfErr}
 use Rattle.mr_outside.specs.declared.shelf.ShelfErr.TheVariants as shelf
 use Rattle.mr_tree.specs.View as view
@@ -16,12 +16,12 @@ use Rattle.mr_pages.specs.declared.head.MapHead.{MapHead}
 use Rattle.mr_pages.specs.declared.node.Node as owned_type
 use Rattle.mr_pages.specs.declared.rule.MapRule.{MapRule}
 use Rattle.mr_pages.specs.declared.rule.MapRule.TheVariants as rule
-use Rattle.mr_pages.specs.declared.seen.Seen.{Seen}
+use Rattle.mr_pages.specs.declared.visited.Visited.{Visited}
 use Rattle.mr_pages.specs.Page.{Link, Node, Form, IsHead}
 use Rattle.mr_pages.specs.File.{File, page_at, pages_of, file_of, is_odd_size, version_of}
 use Rattle.mr_record.specs.declared.version.Version.{Version}
 use Rattle.mr_pages.specs.Stands.{tree_of, whole_tree}
-use Rattle.mr_pages.specs.Spelled.{place, placed_at}
+use Rattle.mr_pages.specs.private.Spelled.{place, placed_at}
 use Rattle.mr_pages.specs.Faults.{has, Visit, visits, reached, all_records, numbers_of, node_faults, found, walk_faults, walk, chain, chain_faults, mapfault, first_of}
 use Rattle.mr_pages.specs.Walking.{child_link, page_node, owned, head_of, Saw, Passed}
 use Rattle.mr_pages.specs.declared.checking.Checked.{Checked}
@@ -63,7 +63,7 @@ on_shelf form lent pages s name = record {
 }
 
 -- the file has so many whole pages
-pub record HasPages (form : Form) (pages : ℕ) (bytes : List ℕ) : Type 0 where
+pub record HasWholePages (form : Form) (pages : ℕ) (bytes : List ℕ) : Type 0 where
   pub are : AreBytes bytes
   pub even : is_odd_size form.size (length bytes) ≡ false
   pub count : pages ≡ length bytes / form.size
@@ -71,7 +71,7 @@ pub record HasPages (form : Form) (pages : ℕ) (bytes : List ℕ) : Type 0 wher
 -- where the files are told, it is there and has so many
 pub record IsPaged (form : Form) (pages : ℕ) (told : Option Files) (name : List ℕ) : Type 0 where
   pub there : MatchOption told ⊤ (λ files. IsSome (file files name))
-  pub file_ : IfSome (told_bytes told name) (HasPages form pages)
+  pub file_ : IfSome (told_bytes told name) (HasWholePages form pages)
 
 -- these are the bytes of a page of a file of these bytes, if it is one of so many whole pages
 abbrev pub TellsPage : Form → (page : ℕ) → (p bytes : List ℕ) → Type 0
@@ -79,7 +79,7 @@ TellsPage form page p bytes =
     (pages : ℕ) → length bytes ≡ pages * form.size → page < pages → p ≡ page_at form bytes page
 
 -- these bytes stand in front of a file, as far as it goes
-pub record IsFront (bytes room : List ℕ) : Type 0 where
+pub record IsFrontOfFile (bytes room : List ℕ) : Type 0 where
   pub version : version_of room ≡ version_of bytes
   pub starts : (n : ℕ) → n ≤ length room → n ≤ length bytes → take n room ≡ take n bytes
 
@@ -138,7 +138,7 @@ abbrev pub Stay : (ℕ → Type 0) → (ℕ → Type 0) → Type 0
 Stay before after = (page : ℕ) → before page → after page
 
 -- a node as it was judged: with the level and the digest of the child
-pub record Knows (s : Scheme) (c : Child) (n : owned_type.Node) : Type 0 where
+pub record MatchesChild (s : Scheme) (c : Child) (n : owned_type.Node) : Type 0 where
   pub shape : HasShape (owned n)
   pub told : view.AreTold s.version (owned n)
   pub level : view.level_of (owned n) ≡ c.level
@@ -158,7 +158,7 @@ AreMade makes _ _ = ⊥
 -- a node that may be kept: its children are in the file, and it is the one on its page
 pub record MayKeep (hash : List ℕ →
     List ℕ) (s : Sourced) (c : Child) (n : owned_type.Node) : Type 0 where
-  pub known : Knows (by s.origin.form.version hash) c n
+  pub known : MatchesChild (by s.origin.form.version hash) c n
   pub low : 1 ≤ c.id
   pub place : c.id < s.pages
   pub inside : All (λ (d : Child). (1 ≤ d.id) × (d.id < s.pages)) (view.children_in (owned n))
@@ -167,14 +167,14 @@ pub record MayKeep (hash : List ℕ →
 -- ---- what a walk leaves, whatever the pages hold
 
 -- how many pages behind page 0 were not reached
-abbrev pub left : Seen → ℕ
+abbrev pub left : Visited → ℕ
 left s = count_by not (drop 1 s.reached.items)
 
-abbrev pub IsReached : Seen → ℕ → Type 0
+abbrev pub IsReached : Visited → ℕ → Type 0
 IsReached s page = slice_index_or s.reached.items page false ≡ true
 
 -- what coming to a page leaves: it was not reached before, and is now
-pub record Comes (before : Seen) (page : ℕ) (after : Seen) : Type 0 where
+pub record ReachesNewPage (before : Visited) (page : ℕ) (after : Visited) : Type 0 where
   pub low : 1 ≤ page
   pub inside : page < length before.reached.items
   pub size : length after.reached.items ≡ length before.reached.items
@@ -184,9 +184,9 @@ pub record Comes (before : Seen) (page : ℕ) (after : Seen) : Type 0 where
   pub fresh : IsReached before page → ⊥
   pub here : IsReached after page
 
-abbrev pub Reaches : Seen → ℕ → Option MapRule → Seen → Type 0
-Reaches before page None after = Comes before page after
-Reaches before page (Some r) after = after.reached ≡ before.reached
+abbrev pub ReachesPage : Visited → ℕ → Option MapRule → Visited → Type 0
+ReachesPage before page None after = ReachesNewPage before page after
+ReachesPage before page (Some r) after = after.reached ≡ before.reached
 
 -- no rule of a page that is read again
 abbrev pub IsOfOneRead : MapRule → Type 0
@@ -198,18 +198,18 @@ SaysOnce (errors.Map f) = IsOfOneRead f.rule
 SaysOnce _ = ⊤
 
 -- P of what is no failure
-abbrev pub Settles : {A : Type 0} → Result A MapErr → Type 0 → Type 0
-Settles (Ok _) P = P
-Settles (Err (errors.Map f)) P = P
-Settles (Err _) P = ⊤
+abbrev pub IfNotFailed : {A : Type 0} → Result A MapErr → Type 0 → Type 0
+IfNotFailed (Ok _) P = P
+IfNotFailed (Err (errors.Map f)) P = P
+IfNotFailed (Err _) P = ⊤
 
 -- the file is the one that is told, or has the bytes that were read on each page which was reached
-abbrev pub IsAsRead : Sourced → (before after : Seen) → (ℕ → List ℕ) → File → Type 0
+abbrev pub IsAsRead : Sourced → (before after : Visited) → (ℕ → List ℕ) → File → Type 0
 IsAsRead s before after given f = (s.file ≡ Some f) ⊎ ((p : ℕ) → 1 ≤ p → IsReached after p →
     (IsReached before p → ⊥) → HasPage s.origin.form f p (given p))
 
 -- pages were reached and read, and Q holds of each file that is as they were read
-pub record Gives (s : Sourced) (before after : Seen) (Q : File → Type 0) : Type 0 where
+pub record GivesPages (s : Sourced) (before after : Visited) (Q : File → Type 0) : Type 0 where
   pub more : (p : ℕ) → IsReached before p → IsReached after p
   pub given : ℕ → List ℕ
   pub pages : (p : ℕ) → IsPage s.origin.form (given p)
@@ -230,7 +230,8 @@ pub record GivesFile (s : Sourced) (Q : File → Type 0) : Type 0 where
   pub so : Q (pages_of s.origin.form s.pages bytes)
 
 -- no more pages were read than were reached
-pub record Goes {A : Type 0} (before after : Sourced) (room rest : ℕ) (result : Result A MapErr)
+pub record ReadsWithinRoom {A : Type 0} (before after : Sourced) (room rest : ℕ)
+    (result : Result A MapErr)
     : Type 0 where
   pub from_ : after.origin ≡ before.origin
   pub count : after.pages ≡ before.pages
@@ -239,77 +240,78 @@ pub record Goes {A : Type 0} (before after : Sourced) (room rest : ℕ) (result 
   pub untold : IsErrOf result errors.Missing → before.origin.files ≡ None
   pub fault : IsErrOf result errors.Fault → Rose before.faults after.faults
   pub later : before.faults ≤ after.faults
-  pub quiet : Settles result (after.faults ≡ before.faults)
+  pub quiet : IfNotFailed result (after.faults ≡ before.faults)
   pub more : before.reads ≤ after.reads
   pub few : after.reads + rest ≤ before.reads + room
 
 -- each page that was reached in a walk is kept
-abbrev pub AreKept : Seen → Seen → (ℕ → Type 0) → Type 0
+abbrev pub AreKept : Visited → Visited → (ℕ → Type 0) → Type 0
 AreKept before after keeps = (page : ℕ) → IsReached after page → IsReached before page ⊎ keeps page
 
 -- ---- what is answered
 
 -- the node, of which nothing is broken, or the first rule that is
-abbrev pub Looks : Scheme → (ℕ → Option Node) → Bool → Link →
+abbrev pub ReadsChecked : Scheme → (ℕ → Option Node) → Bool → Link →
     Result owned_type.Node MapErr → Type 0
-Looks s at root link (Ok n) =
+ReadsChecked s at root link (Ok n) =
     (node_faults s root link (found at link) ≡ []) × (found at link ≡ Some (page_node (owned n)))
-Looks s at root link (Err (errors.Map f)) =
+ReadsChecked s at root link (Err (errors.Map f)) =
     first_of (node_faults s root link (found at link)) ≡ Some f
-Looks s at root link (Err _) = ⊤
+ReadsChecked s at root link (Err _) = ⊤
 
 -- no fault below a link, or the first one
-abbrev pub Walks : {A : Type 0} → Scheme → ℕ → (ℕ → Option Node) →
-    (before : List Visit) → Bool → Link → Result A MapErr → Seen → Type 0
-Walks s pages at before root link (Ok _) after =
+abbrev pub WalksBelowLink : {A : Type 0} → Scheme → ℕ → (ℕ → Option Node) →
+    (before : List Visit) → Bool → Link → Result A MapErr → Visited → Type 0
+WalksBelowLink s pages at before root link (Ok _) after =
     Passed s pages before (visits at link.entry.level root link) after
-Walks s pages at before root link (Err (errors.Map f)) after =
+WalksBelowLink s pages at before root link (Err (errors.Map f)) after =
     first_of (walk_faults s pages before (visits at link.entry.level root link)) ≡ Some f
-Walks s pages at before root link (Err _) after = ⊤
+WalksBelowLink s pages at before root link (Err _) after = ⊤
 
 -- what a walk below a child comes to, and what was made of the nodes
-pub record Walked {M : Type 0} (s : Scheme) (makes : M → Tree → Type 0) (pages : ℕ) (old : Seen)
-    (root : Bool) (c : Child) (result : Result M MapErr) (new : Seen) (f : File) : Type 0 where
+pub record Walked {M : Type 0} (s : Scheme) (makes : M → Tree → Type 0) (pages : ℕ) (old : Visited)
+    (root : Bool) (c : Child) (result : Result M MapErr) (new : Visited) (f : File) : Type 0 where
   pub walks : (before : List Visit) → Saw pages old (reached before)
       (numbers_of (all_records before)) →
-      Walks s pages f.node before root (child_link c) result new
+      WalksBelowLink s pages f.node before root (child_link c) result new
   pub made : IfOk result (λ m. makes m (tree_of (place f.node c.level (child_link c))))
 
 -- one step on the chain of free pages
-abbrev pub Steps : (ℕ → Option ℕ) → ℕ → ℕ → List ℕ → List ℕ → Result ℕ MapErr → Seen → Type 0
-Steps free pages p ps ns (Ok g) after =
+abbrev pub StepsOnChain : (ℕ → Option ℕ) → ℕ → ℕ → List ℕ → List ℕ → Result ℕ MapErr → Visited →
+    Type 0
+StepsOnChain free pages p ps ns (Ok g) after =
     ((nat_le pages p || (has p ps || is_none (free p))) ≡ false)
     × (free p ≡ Some g)
     × Saw pages after (ps ++ p ∷ []) ns
-Steps free pages p ps ns (Err (errors.Map f)) after =
+StepsOnChain free pages p ps ns (Err (errors.Map f)) after =
     ((nat_le pages p || (has p ps || is_none (free p))) ≡ true)
     × (f ≡ record { page = p; rule = rule.Free })
-Steps free pages p ps ns (Err _) after = ⊤
+StepsOnChain free pages p ps ns (Err _) after = ⊤
 
 -- the chain was followed, or met this fault
-abbrev pub Chains : {A : Type 0} → (ℕ → Option ℕ) → ℕ → ℕ → List ℕ → List ℕ →
-    Result A MapErr → Seen → Type 0
-Chains free pages f ps ns (Ok _) after =
+abbrev pub FollowsChain : {A : Type 0} → (ℕ → Option ℕ) → ℕ → ℕ → List ℕ → List ℕ →
+    Result A MapErr → Visited → Type 0
+FollowsChain free pages f ps ns (Ok _) after =
     (chain_faults free pages ps (chain free pages f) ≡ [])
     × Saw pages after (ps ++ chain free pages f) ns
-Chains free pages f ps ns (Err (errors.Map e)) after =
+FollowsChain free pages f ps ns (Err (errors.Map e)) after =
     first_of (chain_faults free pages ps (chain free pages f)) ≡ Some e
-Chains free pages f ps ns (Err _) after = ⊤
+FollowsChain free pages f ps ns (Err _) after = ⊤
 
 -- the same, whatever was seen before
-abbrev pub StepsOn : ℕ → ℕ → Seen → Result ℕ MapErr → Seen → File → Type 0
+abbrev pub StepsOn : ℕ → ℕ → Visited → Result ℕ MapErr → Visited → File → Type 0
 StepsOn pages page old result new f = (ps ns : List ℕ) → Saw pages old ps ns →
-    Steps f.free pages page ps ns result new
+    StepsOnChain f.free pages page ps ns result new
 
-abbrev pub ChainsOn : {A : Type 0} → ℕ → ℕ → Seen → Result A MapErr → Seen → File → Type 0
+abbrev pub ChainsOn : {A : Type 0} → ℕ → ℕ → Visited → Result A MapErr → Visited → File → Type 0
 ChainsOn pages first old result new f = (ps ns : List ℕ) → Saw pages old ps ns →
-    Chains f.free pages first ps ns result new
+    FollowsChain f.free pages first ps ns result new
 
 -- page 0 of a file without a fault, or the first fault
-abbrev pub Checks : {M : Type 0} → (List ℕ → List ℕ) → File → Result (Checked M) MapErr → Type 0
-Checks hash file (Ok c) = (mapfault hash file ≡ None) × (file.head ≡ Ok (head_of c.head))
-Checks hash file (Err (errors.Map f)) = mapfault hash file ≡ Some f
-Checks hash file (Err _) = ⊤
+abbrev pub ChecksFile : {M : Type 0} → (List ℕ → List ℕ) → File → Result (Checked M) MapErr → Type 0
+ChecksFile hash file (Ok c) = (mapfault hash file ≡ None) × (file.head ≡ Ok (head_of c.head))
+ChecksFile hash file (Err (errors.Map f)) = mapfault hash file ≡ Some f
+ChecksFile hash file (Err _) = ⊤
 
 -- the same behind page 0
 abbrev pub ChecksBehind : {A : Type 0} → (List ℕ → List ℕ) → File → Result A MapErr → Type 0
@@ -322,12 +324,12 @@ abbrev pub AllKept : File → Option Link → (ℕ → Type 0) → Type 0
 AllKept file root keeps = (page : ℕ) → has page (reached (walk file.node root)) ≡ true → keeps page
 
 -- the same from a root on
-abbrev pub Visits : {A : Type 0} → Scheme → ℕ → (ℕ → Option Node) → Option Link →
-    Result A MapErr → Seen → Type 0
-Visits s pages at root (Ok _) after = Passed s pages [] (walk at root) after
-Visits s pages at root (Err (errors.Map f)) after =
+abbrev pub WalksFromRoot : {A : Type 0} → Scheme → ℕ → (ℕ → Option Node) → Option Link →
+    Result A MapErr → Visited → Type 0
+WalksFromRoot s pages at root (Ok _) after = Passed s pages [] (walk at root) after
+WalksFromRoot s pages at root (Err (errors.Map f)) after =
     first_of (walk_faults s pages [] (walk at root)) ≡ Some f
-Visits s pages at root (Err _) after = ⊤
+WalksFromRoot s pages at root (Err _) after = ⊤
 
 -- the tree that was made is the one that the pages below a root spell
 abbrev pub MakesTree : {M : Type 0} → (M → Tree → Type 0) → Option Link → M → File → Type 0
@@ -335,8 +337,8 @@ MakesTree makes root m f = makes m (whole_tree (placed_at f.node root))
 
 -- what the walk from a root comes to, and what was made of the nodes
 pub record WalkedAll {M : Type 0} (s : Scheme) (makes : M → Tree → Type 0) (pages : ℕ)
-    (root : Option Link) (result : Result M MapErr) (new : Seen) (f : File) : Type 0 where
-  pub visits_ : Visits s pages f.node root result new
+    (root : Option Link) (result : Result M MapErr) (new : Visited) (f : File) : Type 0 where
+  pub visits_ : WalksFromRoot s pages f.node root result new
   pub made : IfOk result (λ m. MakesTree makes root m f)
 
 -- what comes of all that is behind page 0, which says this, and what was made of the nodes
@@ -351,7 +353,7 @@ pub record CheckedBehind {M : Type 0} (v : Version) (hash : List ℕ → List �
 pub record CheckedWhole {M : Type 0} (v : Version) (hash : List ℕ → List ℕ)
     (makes : M → Tree → Type 0) (pages : ℕ) (result : Result (Checked M) MapErr) (f : File)
     : Type 0 where
-  pub checks : f.version ≡ v → f.pages ≡ pages → Checks hash f result
+  pub checks : f.version ≡ v → f.pages ≡ pages → ChecksFile hash f result
   pub made : IfOk result
       (λ c. MakesTree makes (option_map child_link c.head.root) c.made f)
 

@@ -96,7 +96,7 @@ HasFree form bytes p g = page_at form bytes p ≡ form.free_page g
 
 -- The pages but page 0: each node of the tree has exactly one, and each other page is exactly once
 -- on the chain of free pages, which begins at this one.
-pub record Lies (form : Form) (hash : List ℕ → List ℕ) (bytes : List ℕ) (pages : ℕ)
+pub record IsLaidOn (form : Form) (hash : List ℕ → List ℕ) (bytes : List ℕ) (pages : ℕ)
     (placed : Option Placed) (first_free : ℕ) : Type 0 where
   pub written : IfSome placed (IsWritten (by form.version hash) (HasNode form bytes))
   pub chain : List ℕ
@@ -104,7 +104,8 @@ pub record Lies (form : Form) (hash : List ℕ → List ℕ) (bytes : List ℕ) 
   pub all : AreAllPages pages (whole_pages placed ++ chain)
 
 -- The file stands for this tree at this batch. Which node has which page is left open.
-pub record Stands (form : Form) (hash : List ℕ → List ℕ) (bytes : List ℕ) (t : Tree) (batch : ℕ)
+pub record StandsForTree (form : Form) (hash : List ℕ → List ℕ) (bytes : List ℕ) (t : Tree)
+    (batch : ℕ)
     : Type 0 where
   pub head : Head
   -- whole pages, and so many
@@ -120,4 +121,4 @@ pub record Stands (form : Form) (hash : List ℕ → List ℕ) (bytes : List ℕ
   pub root : head.root ≡ option_map (link_of (by form.version hash)) placed
   -- the other pages
   pub tree : whole_tree placed ≡ t
-  pub lies : Lies form hash bytes head.pages placed head.free
+  pub lies : IsLaidOn form hash bytes head.pages placed head.free

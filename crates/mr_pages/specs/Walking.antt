@@ -14,17 +14,17 @@ use Rattle.mr_pages.specs.declared.node.Node as owned_type
 use Rattle.mr_pages.specs.declared.node.Node.TheVariants as owned_node
 use Rattle.mr_pages.specs.declared.head.MapHead.{MapHead}
 use Rattle.mr_pages.specs.declared.opening.Opened.{Opened}
-use Rattle.mr_pages.specs.declared.seen.Seen.{Seen}
+use Rattle.mr_pages.specs.declared.visited.Visited.{Visited}
 use Rattle.mr_pages.specs.Page.{Link, Node, Head}
 use Rattle.mr_pages.specs.File.{File}
 use Rattle.mr_pages.specs.Stands.{whole_tree}
 use Rattle.mr_pages.specs.Faults.{fault_if, has, repeats, Visit, reached, all_records, numbers_of, walk_faults, lost_faults, mapfault, first_of}
-use Rattle.mr_pages.specs.Spelled.{placed_at}
-use Rattle.mr_pages.specs.Numbers.{Met}
+use Rattle.mr_pages.specs.private.Spelled.{placed_at}
+use Rattle.mr_pages.specs.private.Numbers.{Met}
 
 -- what is said of a node, and a node, as the definitions have them
 abbrev pub child_link : Child → Link
-child_link c = record { page = c.id; entry = view.entry_of c }
+child_link c = record { page = c.id; entry = view.child_entry c }
 
 abbrev pub page_node : view.Node → Node
 page_node Empty = Empty
@@ -37,14 +37,14 @@ owned (owned_node.Leaf records) = Leaf records.items
 owned (owned_node.Inner children) = Inner children.items
 
 -- whether a view shows the node that is wanted
-abbrev pub Shows : (shown : Bool) → view.Node → Option Node → Type 0
-Shows true n wanted = wanted ≡ Some (page_node n)
-Shows false n wanted = wanted ≡ None
+abbrev pub ShowsWanted : (shown : Bool) → view.Node → Option Node → Type 0
+ShowsWanted true n wanted = wanted ≡ Some (page_node n)
+ShowsWanted false n wanted = wanted ≡ None
 
 -- ---- what was reached and met
 
 -- these pages were reached, in a file of this many, and these numbers met, none of them twice
-pub record Saw (pages : ℕ) (s : Seen) (ps ns : List ℕ) : Type 0 where
+pub record Saw (pages : ℕ) (s : Visited) (ps ns : List ℕ) : Type 0 where
   pub count : length s.reached.items ≡ pages
   pub reached : (p : ℕ) → p < pages → slice_index_or s.reached.items p false ≡ has p ps
   pub met : Met s.numbers ns
@@ -55,21 +55,21 @@ enter_faults pages ps p =
     fault_if (p == 0 || nat_le pages p) p rule.Outside ++ fault_if (has p ps) p rule.Twice
 
 -- what comes of coming to a page
-abbrev pub Enters : ℕ → List ℕ → List ℕ → ℕ → Option MapRule → Seen → Type 0
-Enters pages ps ns p None after =
+abbrev pub EntersPage : ℕ → List ℕ → List ℕ → ℕ → Option MapRule → Visited → Type 0
+EntersPage pages ps ns p None after =
     (enter_faults pages ps p ≡ []) × Saw pages after (ps ++ p ∷ []) ns
-Enters pages ps ns p (Some r) after =
+EntersPage pages ps ns p (Some r) after =
     first_of (enter_faults pages ps p) ≡ Some (record { page = p; rule = r })
 
 -- what comes of meeting numbers
-abbrev pub Counts : ℕ → List ℕ → List ℕ → List ℕ → Bool → Seen → Type 0
-Counts pages ps ns new twice after =
+abbrev pub MeetsNumbers : ℕ → List ℕ → List ℕ → List ℕ → Bool → Visited → Type 0
+MeetsNumbers pages ps ns new twice after =
     (twice ≡ repeats ns new) × OnFalse twice (Saw pages after ps (ns ++ new))
 
 -- ---- what is answered
 
 -- a walk behind these visits met no fault among these, and this is what it keeps then
-pub record Passed (s : Scheme) (pages : ℕ) (before vs : List Visit) (after : Seen)
+pub record Passed (s : Scheme) (pages : ℕ) (before vs : List Visit) (after : Visited)
     : Type 0 where
   pub none : walk_faults s pages before vs ≡ []
   pub saw : Saw pages after (reached (before ++ vs)) (numbers_of (all_records (before ++ vs)))
@@ -84,21 +84,21 @@ head_of h = record {
   free = h.free;
 }
 
-abbrev pub Heads : Result MapHead MapRule → Result Head MapRule → Type 0
-Heads (Ok h) head = head ≡ Ok (head_of h)
-Heads (Err r) head = head ≡ Err r
+abbrev pub AnswersHead : Result MapHead MapRule → Result Head MapRule → Type 0
+AnswersHead (Ok h) head = head ≡ Ok (head_of h)
+AnswersHead (Err r) head = head ≡ Err r
 
 -- the least page that was never reached
-abbrev pub Loses : ℕ → List ℕ → Option MapFault → Type 0
-Loses pages ps r = first_of (lost_faults pages ps) ≡ r
+abbrev pub LosesPage : ℕ → List ℕ → Option MapFault → Type 0
+LosesPage pages ps r = first_of (lost_faults pages ps) ≡ r
 
 -- what opening a file answers: the map that its pages spell, where it has no fault
-abbrev pub Opens : (List ℕ → List ℕ) → File → Result Opened MapErr → Type 0
-Opens hash file (Ok map) =
+abbrev pub OpensFile : (List ℕ → List ℕ) → File → Result Opened MapErr → Type 0
+OpensFile hash file (Ok map) =
     (mapfault hash file ≡ None)
     × (map.version ≡ file.version)
     × (h : Head) × (file.head ≡ Ok h)
     × (map.tree ≡ whole_tree (placed_at file.node h.root))
     × (map.batch ≡ h.batch)
-Opens hash file (Err (errors.Map f)) = mapfault hash file ≡ Some f
-Opens hash file (Err _) = ⊤
+OpensFile hash file (Err (errors.Map f)) = mapfault hash file ≡ Some f
+OpensFile hash file (Err _) = ⊤

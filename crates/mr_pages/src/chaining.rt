@@ -1,22 +1,23 @@
 //! The chain of free pages, page by page.
 
 ghost use Rattle.std.specs.Prelude.{◌≡◌, ◌≢◌, length, IfErr};
-ghost use Rattle.mr_pages.specs.Source.{ChainsOn, Gives, Goes, SaysOnce, Settles, Stay, StepsOn, left};
+ghost use Rattle.mr_pages.specs.Source.{ChainsOn, GivesPages, ReadsWithinRoom, SaysOnce, IfNotFailed, Stay, StepsOn, left};
 
-use crate::seen::Seen;
 use crate::source::Source;
+use crate::visited::Visited;
 use crate::{MapErr, MapFault, MapRule};
 
 // Comes to a page of the chain, and answers which it names, if it is a free page that was not
 // reached before.
-fn step<P: Source>(pages: &mut P, page: u32, seen: &mut Seen) -> Result<u32, MapErr>
+fn step<P: Source>(pages: &mut P, page: u32, seen: &mut Visited) -> Result<u32, MapErr>
     requires some { page ≢ 0 }
     requires room { length seen.old.reached.items ≡ (P.state pages.old).pages }
-    ensures told { Settles result (Gives (P.state pages.old) seen.old seen.new
+    ensures told { IfNotFailed result (GivesPages (P.state pages.old) seen.old seen.new
         (StepsOn (P.state pages.old).pages page seen.old result seen.new)) }
-    ensures once { IfErr result SaysOnce }
+    ensures of_one_read { IfErr result SaysOnce }
     ensures room { length seen.new.reached.items ≡ length seen.old.reached.items }
-    ensures goes { Goes (P.state pages.old) (P.state pages.new) (left seen.old) (left seen.new)
+    ensures goes { ReadsWithinRoom (P.state pages.old) (P.state pages.new) (left seen.old)
+        (left seen.new)
         result }
     ensures stay { Stay (P.keeps pages.old) (P.keeps pages.new) }
 {
@@ -36,13 +37,14 @@ fn step<P: Source>(pages: &mut P, page: u32, seen: &mut Seen) -> Result<u32, Map
 }
 
 /// Follows the chain of free pages from this one on, up to the first fault on it.
-pub fn chain<P: Source>(pages: &mut P, first: u32, seen: &mut Seen) -> Result<(), MapErr>
+pub fn chain<P: Source>(pages: &mut P, first: u32, seen: &mut Visited) -> Result<(), MapErr>
     requires { length seen.old.reached.items ≡ (P.state pages.old).pages }
-    ensures told { Settles result (Gives (P.state pages.old) seen.old seen.new
+    ensures told { IfNotFailed result (GivesPages (P.state pages.old) seen.old seen.new
         (ChainsOn (P.state pages.old).pages first seen.old result seen.new)) }
-    ensures once { IfErr result SaysOnce }
+    ensures of_one_read { IfErr result SaysOnce }
     ensures room { length seen.new.reached.items ≡ length seen.old.reached.items }
-    ensures goes { Goes (P.state pages.old) (P.state pages.new) (left seen.old) (left seen.new)
+    ensures goes { ReadsWithinRoom (P.state pages.old) (P.state pages.new) (left seen.old)
+        (left seen.new)
         result }
     ensures stay { Stay (P.keeps pages.old) (P.keeps pages.new) }
 {

@@ -5,14 +5,14 @@ ghost use Rattle.std.specs.Prelude.{◌≡◌, ◌≤◌, ◌-◌, length, [], S
 ghost use Rattle.mr_tree.specs.Digest.{by};
 ghost use Rattle.mr_pages.specs.File.{File};
 ghost use Rattle.mr_pages.specs.Stands.{whole_tree};
-ghost use Rattle.mr_pages.specs.Spelled.{placed_at};
-ghost use Rattle.mr_pages.specs.Source.{AllKept, CheckedBehind, CheckedWhole, Checks, Gives, GivesAll, GivesFile, Goes, IsRootIn, SaysHead, SaysOnce, Settles, Stay, WalkedAll, left};
+ghost use Rattle.mr_pages.specs.private.Spelled.{placed_at};
+ghost use Rattle.mr_pages.specs.Source.{AllKept, CheckedBehind, CheckedWhole, ChecksFile, GivesPages, GivesAll, GivesFile, ReadsWithinRoom, IsRootIn, SaysHead, SaysOnce, IfNotFailed, Stay, WalkedAll, left};
 ghost use Rattle.mr_pages.specs.Walking.{child_link, Saw};
 
 use crate::chaining::chain;
 use crate::head::MapHead;
-use crate::seen::Seen;
 use crate::source::Source;
+use crate::visited::Visited;
 use crate::visiting::visit;
 use crate::{MapErr, MapFault, MapRule};
 use mr_tree::{Child, NodeView};
@@ -30,19 +30,20 @@ fn visit_all<P: Source>(
     alloc: Global,
     pages: &mut P,
     root: &Option<Child>,
-    seen: &mut Seen,
+    seen: &mut Visited,
 ) -> Result<P::Made, MapErr>
     requires none { Saw (P.state pages.old).pages seen.old [] [] }
-    ensures told { Settles result (Gives (P.state pages.old) seen.old seen.new
+    ensures told { IfNotFailed result (GivesPages (P.state pages.old) seen.old seen.new
         (WalkedAll (by (P.state pages.old).origin.form.version P.Hash.of) P.makes
         (P.state pages.old).pages (option_map child_link root.now)
         result seen.new)) }
-    ensures once { IfErr result SaysOnce }
+    ensures of_one_read { IfErr result SaysOnce }
     ensures kept { (file : File) → (P.state pages.old).file ≡ Some file → OnOk result
         (AllKept file (option_map child_link root.now) (P.keeps pages.new)) }
     ensures inside { OnOk result (IfSome root.now (IsRootIn (P.state pages.old).pages)) }
     ensures room { length seen.new.reached.items ≡ length seen.old.reached.items }
-    ensures goes { Goes (P.state pages.old) (P.state pages.new) (left seen.old) (left seen.new)
+    ensures goes { ReadsWithinRoom (P.state pages.old) (P.state pages.new) (left seen.old)
+        (left seen.new)
         result }
 {
     match root {
@@ -53,17 +54,18 @@ fn visit_all<P: Source>(
 
 // What is behind page 0.
 fn check_behind<P: Source>(alloc: Global, pages: &mut P, head: &MapHead) -> Result<P::Made, MapErr>
-    ensures told { Settles result (GivesAll (P.state pages.old)
+    ensures told { IfNotFailed result (GivesAll (P.state pages.old)
         (CheckedBehind (P.state pages.old).origin.form.version P.Hash.of P.makes
         (P.state pages.old).pages head.now result)) }
-    ensures once { IfErr result SaysOnce }
+    ensures of_one_read { IfErr result SaysOnce }
     ensures kept { (file : File) → (P.state pages.old).file ≡ Some file → OnOk result
         (AllKept file (option_map child_link head.now.root) (P.keeps pages.new)) }
     ensures inside { OnOk result (IfSome head.now.root (IsRootIn (P.state pages.old).pages)) }
-    ensures goes { Goes (P.state pages.old) (P.state pages.new) ((P.state pages.old).pages - 1) 0
+    ensures goes { ReadsWithinRoom (P.state pages.old) (P.state pages.new)
+        ((P.state pages.old).pages - 1) 0
         result }
 {
-    let mut seen = Seen::new(alloc, pages.count())?;
+    let mut seen = Visited::new(alloc, pages.count())?;
     let made = visit_all::<P>(alloc, pages, &head.root, &mut seen)?;
     let found = seen.numbers.count();
     if head.count != found {
@@ -89,19 +91,20 @@ pub fn check<P: Source>(alloc: Global, pages: &mut P) -> Result<Checked<P::Made>
     requires { 1 ≤ (P.state pages.old).pages }
     ensures told { (file : File) → (P.state pages.old).file ≡ Some file →
         file.version ≡ (P.state pages.old).origin.form.version →
-        file.pages ≡ (P.state pages.old).pages → Checks P.Hash.of file result }
+        file.pages ≡ (P.state pages.old).pages → ChecksFile P.Hash.of file result }
     ensures made { (file : File) → (P.state pages.old).file ≡ Some file → IfOk result (λ c.
         P.makes c.made (whole_tree (placed_at file.node (option_map child_link c.head.root)))) }
-    ensures some { Settles result (GivesFile (P.state pages.old)
+    ensures of_some_bytes { IfNotFailed result (GivesFile (P.state pages.old)
         (CheckedWhole (P.state pages.old).origin.form.version P.Hash.of P.makes
         (P.state pages.old).pages result)) }
-    ensures once { IfErr result SaysOnce }
+    ensures of_one_read { IfErr result SaysOnce }
     ensures kept { (file : File) → (P.state pages.old).file ≡ Some file → IfOk result (λ c.
         AllKept file (option_map child_link c.head.root) (P.keeps pages.new)) }
     ensures says { IfOk result (λ c. SaysHead (P.state pages.old).origin.form.version
         (P.state pages.old).pages c.head) }
     ensures inside { IfOk result (λ c. IfSome c.head.root (IsRootIn (P.state pages.old).pages)) }
-    ensures goes { Goes (P.state pages.old) (P.state pages.new) ((P.state pages.old).pages - 1) 0
+    ensures goes { ReadsWithinRoom (P.state pages.old) (P.state pages.new)
+        ((P.state pages.old).pages - 1) 0
         result }
 {
     match pages.head() {

@@ -3,11 +3,11 @@
 ghost use Rattle.std.specs.Prelude.{◌≡◌, Some, IfSome, All};
 ghost use Rattle.mr_tree.specs.View.{HasCount, children_in};
 ghost use Rattle.mr_tree.specs.Digest.{by};
-ghost use Rattle.mr_pages.specs.Page.{entry_of};
+ghost use Rattle.mr_pages.specs.Page.{node_entry};
 ghost use Rattle.mr_pages.specs.PageBytes.{form_of};
-ghost use Rattle.mr_pages.specs.Faults.{same_rect, same_sums, least as fewest};
+ghost use Rattle.mr_pages.specs.Faults.{same_rect, same_sums, least_fill as fewest};
 ghost use Rattle.mr_pages.specs.Walking.{child_link, page_node};
-ghost use Rattle.mr_pages.specs.Judging.{Fills, Judges, fits_entry};
+ghost use Rattle.mr_pages.specs.private.Judging.{fills_node, JudgesNode, fits_entry};
 ghost use Rattle.mr_pages.specs.Source.{IsOfOneRead};
 
 use crate::MapRule;
@@ -22,7 +22,7 @@ use mr_tree::{
 /// What is to be said of the node that a view shows.
 pub fn entry_on<H: Hashes>(version: Version, view: &NodeView) -> Entry
     requires { All HasCount (children_in view.now) }
-    ensures { result ≡ entry_of (by version H.of) (page_node view.now) }
+    ensures { result ≡ node_entry (by version H.of) (page_node view.now) }
 {
     view.entry::<H>(version)
 }
@@ -31,7 +31,7 @@ pub fn entry_on<H: Hashes>(version: Version, view: &NodeView) -> Entry
 fn entry_from<H: Hashes>(layout: Layout, page: &[u8], view: &NodeView) -> Entry
     requires page { page.now ≡ (form_of layout).node_page (page_node view.now) }
     requires counts { All HasCount (children_in view.now) }
-    ensures { result ≡ entry_of (by layout.version H.of) (page_node view.now) }
+    ensures { result ≡ node_entry (by layout.version H.of) (page_node view.now) }
 {
     if view.level() == 0 {
         let records = view.records();
@@ -55,7 +55,7 @@ pub fn has_sums(found: &Entry, said: &Child, root: bool) -> bool
 }
 
 /// Whether a rectangle is the one that is said.
-pub fn is_said(found: Option<Rect>, said: Rect) -> bool
+pub fn has_rect(found: Option<Rect>, said: Rect) -> bool
     ensures { result ≡ same_rect found (Some said) }
 {
     match found {
@@ -65,7 +65,7 @@ pub fn is_said(found: Option<Rect>, said: Rect) -> bool
 }
 
 // How few entries a node may have.
-fn least(view: &NodeView, root: bool) -> usize
+fn least_fill(view: &NodeView, root: bool) -> usize
     ensures { result ≡ fewest root (page_node view.now) }
 {
     if view.level() == 0 {
@@ -80,10 +80,10 @@ fn least(view: &NodeView, root: bool) -> usize
 }
 
 /// Whether a node has as many entries as it has to, as a root or below it.
-pub fn is_full(view: &NodeView, root: bool) -> bool
-    ensures { result ≡ Fills root view.now }
+pub fn has_fill(view: &NodeView, root: bool) -> bool
+    ensures { result ≡ fills_node root view.now }
 {
-    view.len() >= least(view, root)
+    view.len() >= least_fill(view, root)
 }
 
 /// Whether a node that was fetched has the rectangle, the mask and, unless it is the root, the count
@@ -93,13 +93,13 @@ pub fn is_fit(version: Version, view: &NodeView, said: &Child, root: bool) -> bo
     requires { All HasCount (children_in view.now) }
     ensures { result ≡ fits_entry version root said.now view.now }
 {
-    is_said(view.rect(), said.rect)
+    has_rect(view.rect(), said.rect)
         && (view.mask(version) == said.mask && (root || view.count(version) == said.count))
-        && is_full(view, root)
+        && has_fill(view, root)
 }
 
 /// The first rule that the node on a page breaks against what is said of it.
-pub fn judge<H: Hashes>(
+pub fn check_node<H: Hashes>(
     layout: Layout,
     page: &[u8],
     view: &NodeView,
@@ -108,9 +108,9 @@ pub fn judge<H: Hashes>(
 ) -> Option<MapRule>
     requires page { page.now ≡ (form_of layout).node_page (page_node view.now) }
     requires counts { All HasCount (children_in view.now) }
-    ensures told { Judges (by layout.version H.of) root (child_link child.now)
+    ensures told { JudgesNode (by layout.version H.of) root (child_link child.now)
         (page_node view.now) result }
-    ensures once { IfSome result IsOfOneRead }
+    ensures of_one_read { IfSome result IsOfOneRead }
 {
     let found = entry_from::<H>(layout, page, view);
     if found.digest.as_slice() != child.digest.as_slice() {
@@ -119,13 +119,13 @@ pub fn judge<H: Hashes>(
             found: found.digest,
         });
     }
-    if !is_said(found.rect, child.rect) {
+    if !has_rect(found.rect, child.rect) {
         return Some(MapRule::Rect);
     }
     if !has_sums(&found, child, root) {
         return Some(MapRule::Sum);
     }
-    if !is_full(view, root) {
+    if !has_fill(view, root) {
         return Some(MapRule::Fill);
     }
     None

@@ -7,10 +7,10 @@ ghost use Rattle.mr_tree.specs.Tree.{records};
 ghost use Rattle.mr_tree.specs.View.{AreTold, size};
 ghost use Rattle.mr_tree.specs.WellFormed.{WellFormed, HasLayers};
 ghost use Rattle.mr_tree.specs.declared.tree.Tree.TheVariants.{Inner};
-ghost use Rattle.mr_pages.specs.Making.{HasMade, GivesUp, RowMade, IsMade};
+ghost use Rattle.mr_pages.specs.Making.{HasMade, GivesUpFile, RowMade, HasMadePages};
 ghost use Rattle.mr_pages.specs.Page.{page_limit};
 ghost use Rattle.mr_pages.specs.PageBytes.{form_of, node_page, IsLayout};
-ghost use Rattle.mr_pages.specs.Putting.{CanBePut, IsImage, IsPut};
+ghost use Rattle.mr_pages.specs.private.Putting.{CanBePut, IsImage, IsPut};
 ghost use Rattle.mr_pages.specs.Saved.{numbered};
 ghost use Rattle.mr_pages.specs.Stands.{pages_of};
 ghost use Rattle.mr_pages.specs.Walking.{page_node};
@@ -69,7 +69,7 @@ fn begin<S: Shelf>(shelf: &mut S, name: &str, bytes: &[u8]) -> Result<(), ShelfE
     ensures { (size : ℕ) (behind : List ℕ) → bytes.now ≡ replicate size 0 ++ behind
         → MatchResult result
         (λ done. HasMade name.now bytes.now (S.state shelf.old) (S.state shelf.new))
-        (GivesUp size name.now (S.state shelf.old) (S.state shelf.new)) }
+        (GivesUpFile size name.now (S.state shelf.old) (S.state shelf.new)) }
 {
     shelf.create(name)?;
     shelf.append(name, bytes)
@@ -99,7 +99,7 @@ fn add_tree<H: Hashes, S: Shelf>(
         → held ≡ replicate layout.size 0 ++ behind
         → MatchResult result
         (λ child. HasMade name.now (held ++ pages.new.items) before (S.state shelf.new))
-        (GivesUp layout.size name.now before (S.state shelf.new)) }
+        (GivesUpFile layout.size name.now before (S.state shelf.new)) }
 {
     pages.clear();
     let child = put_tree::<H>(alloc, layout, tree, page, view, pages)?;
@@ -132,7 +132,7 @@ fn make_row<H: Hashes, S: Shelf>(
     ensures { MatchResult result
         (λ r. RowMade (form_of layout) H.of children.now (length children.now) name.now
         (S.state shelf.old) (S.state shelf.new) r.0.items r.1)
-        (GivesUp layout.size name.now (S.state shelf.old) (S.state shelf.new)) }
+        (GivesUpFile layout.size name.now (S.state shelf.old) (S.state shelf.new)) }
 {
     let front = zeros(alloc, 2 * layout.size)?;
     begin(shelf, name, &front)?;
@@ -159,9 +159,9 @@ fn make_inner<H: Hashes, S: Shelf>(
     requires well { WellFormed (Inner children.now) }
     requires layers { HasLayers layout.version (Inner children.now) }
     ensures { MatchResult result
-        (λ r. IsMade (form_of layout) H.of (Inner children.now) name.now (S.state shelf.old)
+        (λ r. HasMadePages (form_of layout) H.of (Inner children.now) name.now (S.state shelf.old)
         (S.state shelf.new) r.0 r.1)
-        (GivesUp layout.size name.now (S.state shelf.old) (S.state shelf.new)) }
+        (GivesUpFile layout.size name.now (S.state shelf.old) (S.state shelf.new)) }
 {
     let mut view = NodeView::new();
     let (links, pages) = make_row::<H, S>(alloc, layout, shelf, name, children, &mut view)?;
@@ -183,9 +183,9 @@ fn make_at_once<H: Hashes, S: Shelf>(
     requires well { WellFormed tree.now }
     requires layers { HasLayers layout.version tree.now }
     ensures { MatchResult result
-        (λ r. IsMade (form_of layout) H.of tree.now name.now (S.state shelf.old)
+        (λ r. HasMadePages (form_of layout) H.of tree.now name.now (S.state shelf.old)
         (S.state shelf.new) r.0 r.1)
-        (GivesUp layout.size name.now (S.state shelf.old) (S.state shelf.new)) }
+        (GivesUpFile layout.size name.now (S.state shelf.old) (S.state shelf.new)) }
 {
     let (pages, root) = image::<H>(alloc, layout, tree)?;
     begin(shelf, name, &pages)?;
@@ -204,9 +204,9 @@ fn make_in_pieces<H: Hashes, S: Shelf>(
     requires well { WellFormed tree.now }
     requires layers { HasLayers layout.version tree.now }
     ensures { MatchResult result
-        (λ r. IsMade (form_of layout) H.of tree.now name.now (S.state shelf.old)
+        (λ r. HasMadePages (form_of layout) H.of tree.now name.now (S.state shelf.old)
         (S.state shelf.new) r.0 r.1)
-        (GivesUp layout.size name.now (S.state shelf.old) (S.state shelf.new)) }
+        (GivesUpFile layout.size name.now (S.state shelf.old) (S.state shelf.new)) }
 {
     match tree {
         Tree::Inner(children) => {
@@ -230,9 +230,9 @@ pub fn make_nodes<H: Hashes, S: Shelf>(
     requires well { WellFormed tree.now }
     requires layers { HasLayers layout.version tree.now }
     ensures { MatchResult result
-        (λ r. IsMade (form_of layout) H.of tree.now name.now (S.state shelf.old)
+        (λ r. HasMadePages (form_of layout) H.of tree.now name.now (S.state shelf.old)
         (S.state shelf.new) r.0 r.1)
-        (GivesUp layout.size name.now (S.state shelf.old) (S.state shelf.new)) }
+        (GivesUpFile layout.size name.now (S.state shelf.old) (S.state shelf.new)) }
 {
     match layout.version {
         Version::One => make_at_once::<H, S>(alloc, layout, shelf, name, tree),

@@ -1,8 +1,8 @@
 //! Numbers that were met.
 
 ghost use Rattle.std.specs.Prelude.{◌≡◌, ◌≢◌, ◌≤◌, [], IfOk};
-ghost use Rattle.mr_pages.specs.Places.{at_place};
-ghost use Rattle.mr_pages.specs.Numbers.{count_of, Met, Meets};
+ghost use Rattle.mr_pages.specs.private.Places.{number_in_place};
+ghost use Rattle.mr_pages.specs.private.Numbers.{count_kept, Met, MeetsNumber};
 
 use crate::table::Table;
 use std::alloc::{AllocError, Global};
@@ -32,7 +32,7 @@ impl Numbers {
 
     /// Meets a number; whether it was met before.
     pub fn meet(&mut self, n: u64) -> Result<bool, AllocError>
-        ensures { IfOk result (λ old. Meets self.old n old self.new) }
+        ensures { IfOk result (λ old. MeetsNumber self.old n old self.new) }
     {
         if n == 0 {
             return self.meet_other(n);
@@ -50,16 +50,16 @@ impl Numbers {
 
     // Meets a number that does not go into the table.
     fn meet_other(&mut self, n: u64) -> Result<bool, AllocError>
-        requires apart { n ≢ 0 → at_place self.old.table.places.items n ≢ n }
-        requires taken { n ≢ 0 → at_place self.old.table.places.items n ≢ 0 }
-        ensures { IfOk result (λ old. Meets self.old n old self.new) }
+        requires apart { n ≢ 0 → number_in_place self.old.table.places.items n ≢ n }
+        requires taken { n ≢ 0 → number_in_place self.old.table.places.items n ≢ 0 }
+        ensures { IfOk result (λ old. MeetsNumber self.old n old self.new) }
     {
         Ok(!self.others.insert(n)?)
     }
 
     /// How many numbers were met.
     pub fn count(&self) -> u64
-        ensures { result ≡ count_of self.now }
+        ensures { result ≡ count_kept self.now }
     {
         self.table.taken() as u64 + self.others.len() as u64
     }

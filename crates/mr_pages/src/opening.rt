@@ -2,7 +2,7 @@
 
 ghost use Rattle.std.specs.Prelude.{◌≡◌, ◌≤◌, ◌+◌, ◌/◌, ⊤, ℕ, List, length, max, Some, Err, IfOk};
 ghost use Rattle.mr_outside.specs.Told.{OfFile};
-ghost use Rattle.mr_record.specs.Bytes.{AreBytes};
+ghost use Rattle.mr_record.specs.private.Bytes.{AreBytes};
 ghost use Rattle.mr_record.specs.declared.version.Version as versions;
 ghost use Rattle.mr_pages.specs.PageBytes.{form_of, form_by, IsLayout};
 ghost use Rattle.mr_tree.specs.WellFormed.{WellFormed, HasLayers};
@@ -10,11 +10,11 @@ ghost use Rattle.mr_tree.specs.declared.tree.Tree as trees;
 ghost use Rattle.mr_pages.specs.declared.rule.MapFault.{MapFault};
 ghost use Rattle.mr_pages.specs.Page.{page_limit};
 ghost use Rattle.mr_pages.specs.File.{file_of, form_at, version_of};
-ghost use Rattle.mr_pages.specs.Stands.{Stands};
+ghost use Rattle.mr_pages.specs.Stands.{StandsForTree};
 ghost use Rattle.mr_pages.specs.Faults.{mapfault};
-ghost use Rattle.mr_pages.specs.Law.{IsOnlyMap, Agrees};
-ghost use Rattle.mr_pages.specs.Opening.{pages_in, Fails, Answers, SomeBytes, SomeFile, Tells, MapCauses};
-ghost use Rattle.mr_pages.specs.Source.{HasFirst, IsFront, IsPaged};
+ghost use Rattle.mr_pages.specs.Law.{IsOnlyMap, AgreesWithFault};
+ghost use Rattle.mr_pages.specs.Opening.{pages_in, FailsWithoutFault, AnswersMap, SomeBytes, SomeFile, TellsBytes, MapCauses};
+ghost use Rattle.mr_pages.specs.Source.{HasFirst, IsFrontOfFile, IsPaged};
 
 use crate::checking::{Checked, check};
 use crate::file_pages::{FilePages, page_count};
@@ -56,12 +56,12 @@ fn open_pages<'a, 'b, 'c, H: Hashes, S: Shelf>(
     requires some { 1 ≤ pages }
     requires few { pages ≤ page_limit }
     ensures told { OfFile (S.state shelf.old).files name.now ⊥
-        (λ bytes. Answers (form_of layout) H.of bytes result) }
-    ensures some { SomeBytes (form_of layout) H.of result }
+        (λ bytes. AnswersMap (form_of layout) H.of bytes result) }
+    ensures of_some_bytes { SomeBytes (form_of layout) H.of result }
     ensures causes { MapCauses name.now (S.state shelf.old) (S.state shelf.new) result }
     ensures files { (S.state shelf.new).files ≡ (S.state shelf.old).files }
     ensures reads { (S.state shelf.old).reads ≤ (S.state shelf.new).reads }
-    ensures once { (S.state shelf.new).reads + 1 ≤ (S.state shelf.old).reads + pages }
+    ensures reads_at_most { (S.state shelf.new).reads + 1 ≤ (S.state shelf.old).reads + pages }
 {
     let mut source = FilePages::<'a, 'b, 'c, S, H> {
         shelf,
@@ -90,15 +90,16 @@ fn open_front<H: Hashes, S: Shelf>(
     size: u64,
 ) -> Result<Opened, MapErr>
     requires size { OfFile (S.state shelf.old).files name.now ⊥ (λ file. length file ≡ size) }
-    requires told { OfFile (S.state shelf.old).files name.now ⊥ (λ file. IsFront file room.now) }
+    requires told { OfFile (S.state shelf.old).files name.now ⊥
+        (λ file. IsFrontOfFile file room.now) }
     requires are { OfFile (S.state shelf.old).files name.now ⊥ AreBytes }
-    ensures told { OfFile (S.state shelf.old).files name.now (Fails result)
-        (λ bytes. Tells (form_by version) H.of bytes result) }
-    ensures some { SomeBytes (form_by version) H.of result }
+    ensures told { OfFile (S.state shelf.old).files name.now (FailsWithoutFault result)
+        (λ bytes. TellsBytes (form_by version) H.of bytes result) }
+    ensures of_some_bytes { SomeBytes (form_by version) H.of result }
     ensures causes { MapCauses name.now (S.state shelf.old) (S.state shelf.new) result }
     ensures files { (S.state shelf.new).files ≡ (S.state shelf.old).files }
     ensures reads { (S.state shelf.old).reads ≤ (S.state shelf.new).reads }
-    ensures once { OfFile (S.state shelf.old).files name.now
+    ensures reads_at_most { OfFile (S.state shelf.old).files name.now
         ((S.state shelf.new).reads ≤ (S.state shelf.old).reads)
         (λ bytes. (S.state shelf.new).reads + 1
         ≤ (S.state shelf.old).reads + max 1 (length bytes / (form_by version).size)) }
@@ -119,17 +120,17 @@ fn open_named<H: Hashes, S: Shelf>(
     shelf: &mut S,
     name: &str,
 ) -> Result<Opened, MapErr>
-    ensures told { OfFile (S.state shelf.old).files name.now (Fails result)
-        (λ bytes. Tells (form_at bytes) H.of bytes result) }
-    ensures some { SomeFile H.of result }
+    ensures told { OfFile (S.state shelf.old).files name.now (FailsWithoutFault result)
+        (λ bytes. TellsBytes (form_at bytes) H.of bytes result) }
+    ensures of_some_bytes { SomeFile H.of result }
     ensures law { (v : versions.Version) (bytes : List ℕ) → AreBytes bytes →
-        Agrees (form_by v) H.of bytes }
+        AgreesWithFault (form_by v) H.of bytes }
     ensures agrees { OfFile (S.state shelf.old).files name.now ⊤
-        (λ bytes. Agrees (form_at bytes) H.of bytes) }
+        (λ bytes. AgreesWithFault (form_at bytes) H.of bytes) }
     ensures causes { MapCauses name.now (S.state shelf.old) (S.state shelf.new) result }
     ensures files { (S.state shelf.new).files ≡ (S.state shelf.old).files }
     ensures reads { (S.state shelf.old).reads ≤ (S.state shelf.new).reads }
-    ensures once { let before = (S.state shelf.old).reads in
+    ensures reads_at_most { let before = (S.state shelf.old).reads in
         let after = (S.state shelf.new).reads in
         OfFile (S.state shelf.old).files name.now (after ≡ before)
         (λ bytes. after ≤ before + pages_in bytes) }
@@ -157,33 +158,33 @@ pub fn open_plain<H: Hash32, S: Shelf>(
     // What is answered: the one map that the file stands for, or the first rule that it breaks.
     ensures stands { IfOk result (λ map. OfFile (S.state shelf.old).files name.now ⊥
         (λ bytes. (map.version ≡ version_of bytes)
-        × Stands (form_at bytes) H.of bytes map.tree map.batch)) }
+        × StandsForTree (form_at bytes) H.of bytes map.tree map.batch)) }
     ensures only { IfOk result (λ map. OfFile (S.state shelf.old).files name.now ⊥
         (λ bytes. IsOnlyMap (form_at bytes) H.of bytes map.tree map.batch)) }
     ensures fault { (f : MapFault) → result ≡ Err (MapErr.Map f) →
         OfFile (S.state shelf.old).files name.now ⊥
         (λ bytes. mapfault H.of (file_of (form_at bytes) bytes) ≡ Some f) }
-    ensures exact { OfFile (S.state shelf.old).files name.now (Fails result)
-        (λ bytes. Tells (form_at bytes) H.of bytes result) }
+    ensures exact { OfFile (S.state shelf.old).files name.now (FailsWithoutFault result)
+        (λ bytes. TellsBytes (form_at bytes) H.of bytes result) }
 
     // What that is worth: a well-formed tree, of some bytes where no file is told; and bytes have a
     // map or a fault, and one of them alone; and a file that stands for a map in a version is read
     // in that one.
     ensures well_formed { IfOk result
         (λ map. WellFormed map.tree × HasLayers map.version map.tree) }
-    ensures some { SomeFile H.of result }
+    ensures of_some_bytes { SomeFile H.of result }
     ensures law { (v : versions.Version) (bytes : List ℕ) → AreBytes bytes →
-        Agrees (form_by v) H.of bytes }
+        AgreesWithFault (form_by v) H.of bytes }
     ensures agrees { OfFile (S.state shelf.old).files name.now ⊤
-        (λ bytes. Agrees (form_at bytes) H.of bytes) }
+        (λ bytes. AgreesWithFault (form_at bytes) H.of bytes) }
     ensures version { (v : versions.Version) (bytes : List ℕ) (t : trees.Tree) (b : ℕ) →
-        Stands (form_by v) H.of bytes t b → version_of bytes ≡ v }
+        StandsForTree (form_by v) H.of bytes t b → version_of bytes ≡ v }
 
     // Why it is refused, and what stands afterwards.
     ensures causes { MapCauses name.now (S.state shelf.old) (S.state shelf.new) result }
     ensures files { (S.state shelf.new).files ≡ (S.state shelf.old).files }
     ensures reads { (S.state shelf.old).reads ≤ (S.state shelf.new).reads }
-    ensures once { let before = (S.state shelf.old).reads in
+    ensures reads_at_most { let before = (S.state shelf.old).reads in
         let after = (S.state shelf.new).reads in
         OfFile (S.state shelf.old).files name.now (after ≡ before)
         (λ bytes. after ≤ before + pages_in bytes) }

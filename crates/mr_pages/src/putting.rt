@@ -7,12 +7,12 @@ ghost use Rattle.mr_tree.specs.Tree.{records};
 ghost use Rattle.mr_tree.specs.WellFormed.{HasLayers};
 ghost use Rattle.mr_tree.specs.View.{HasCount, AreTold, children_in, size};
 ghost use Rattle.mr_tree.specs.declared.tree.Tree.TheOpen.{Inner};
-ghost use Rattle.mr_pages.specs.Page.{page_limit, entry_of};
+ghost use Rattle.mr_pages.specs.Page.{page_limit, node_entry};
 ghost use Rattle.mr_pages.specs.PageBytes.{node_page, form_of, IsLayout};
 ghost use Rattle.mr_pages.specs.Stands.{pages_of};
 ghost use Rattle.mr_pages.specs.Walking.{child_link, page_node};
 ghost use Rattle.mr_pages.specs.Saved.{numbered};
-ghost use Rattle.mr_pages.specs.Putting.{AreSiblings, CanBePut, IsPut};
+ghost use Rattle.mr_pages.specs.private.Putting.{AreSiblings, CanBePut, IsPut};
 
 use crate::judging::entry_on;
 use crate::layout::Layout;
@@ -27,7 +27,7 @@ pub fn child_on<H: Hashes>(layout: Layout, view: &NodeView, page: u32) -> Child
     requires counts { All HasCount (children_in view.now) }
     ensures { child_link result ≡ record {
       page = page;
-      entry = entry_of (by layout.version H.of) (page_node view.now);
+      entry = node_entry (by layout.version H.of) (page_node view.now);
     } }
 {
     let entry = entry_on::<H>(layout.version, view);
@@ -49,7 +49,7 @@ pub fn child_on<H: Hashes>(layout: Layout, view: &NodeView, page: u32) -> Child
 pub(crate) fn show_children(_version: Version, view: &mut NodeView, links: &[Child])
     requires { AreSiblings _version links.now }
     ensures shown { view.new ≡ Inner links.now }
-    ensures some { 1 ≤ size view.new }
+    ensures not_empty { 1 ≤ size view.new }
     ensures told { AreTold _version view.new }
     ensures counts { All HasCount (children_in view.new) }
 {

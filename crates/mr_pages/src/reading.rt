@@ -5,7 +5,7 @@ ghost use Rattle.mr_outside.specs.Told.{OfFile};
 ghost use Rattle.mr_outside.specs.Causes.{ShelfCauses, CountsRead};
 ghost use Rattle.mr_pages.specs.PageBytes.{form_of, IsLayout};
 ghost use Rattle.mr_pages.specs.File.{version_of};
-ghost use Rattle.mr_pages.specs.Source.{IsPage, IsFront, TellsPage};
+ghost use Rattle.mr_pages.specs.Source.{IsPage, IsFrontOfFile, TellsPage};
 
 use crate::layout::{Layout, SECOND_SIZE};
 use crate::page::fill_up;
@@ -24,7 +24,7 @@ pub fn page_into<S: Shelf>(
     requires size { length into.old ≡ layout.size }
     ensures told { OnOk result (OfFile (S.state shelf.old).files name.now ⊥
         (TellsPage (form_of layout) page into.new)) }
-    ensures is { OnOk result (IsPage (form_of layout) into.new) }
+    ensures page { OnOk result (IsPage (form_of layout) into.new) }
     ensures causes { ShelfCauses name.now (S.state shelf.old) (S.state shelf.new) result }
     ensures files { (S.state shelf.new).files ≡ (S.state shelf.old).files }
     ensures reads { CountsRead (S.state shelf.old) (S.state shelf.new) result }
@@ -50,7 +50,7 @@ pub fn read_front<S: Shelf>(
 ) -> Result<Version, ShelfErr>
     ensures version { IfOk result (λ v. v ≡ version_of room.new) }
     ensures told { OnOk result (OfFile (S.state shelf.old).files name.now ⊥
-        (λ file. length file ≡ size → IsFront file room.new)) }
+        (λ file. length file ≡ size → IsFrontOfFile file room.new)) }
     ensures causes { ShelfCauses name.now (S.state shelf.old) (S.state shelf.new) result }
     ensures files { (S.state shelf.new).files ≡ (S.state shelf.old).files }
     ensures reads { CountsRead (S.state shelf.old) (S.state shelf.new) result }

@@ -5,11 +5,11 @@ ghost use Rattle.mr_outside.specs.Told.{OfFile};
 ghost use Rattle.mr_tree.specs.WellFormed.{WellFormed, HasLayers};
 ghost use Rattle.mr_record.specs.declared.version.Version.TheVariants.{One};
 ghost use Rattle.mr_pages.specs.PageBytes.{form_of, first_form, second_form, layout_by, root_level, IsLayout};
-ghost use Rattle.mr_pages.specs.Stands.{Stands};
+ghost use Rattle.mr_pages.specs.Stands.{StandsForTree};
 ghost use Rattle.mr_pages.specs.Walking.{child_link, head_of};
 ghost use Rattle.mr_outside.specs.Files.{with_file, overwritten};
 ghost use Rattle.mr_outside.specs.Writing.{IsChanged, IsChangedPartly};
-ghost use Rattle.mr_pages.specs.Saved.{saved, MayStand, Leaves, SaveCauses};
+ghost use Rattle.mr_pages.specs.Saved.{saved, MayStand, LeavesFile, SaveCauses};
 
 use crate::head::MapHead;
 use crate::layout::{FIRST, Layout, SECOND};
@@ -62,9 +62,10 @@ fn save_named<H: Hashes, S: Shelf>(
     ensures whole { OnOk result (IsChanged (with_file name.now)
         (saved (form_of layout) H.of tree.now batch)
         (S.state shelf.old).files (S.state shelf.new).files) }
-    ensures stands { Stands (form_of layout) H.of (saved (form_of layout) H.of tree.now batch)
+    ensures stands { StandsForTree (form_of layout) H.of
+        (saved (form_of layout) H.of tree.now batch)
         tree.now batch }
-    ensures left { Leaves (MayStand (form_of layout) H.of tree.now batch) name.now
+    ensures left { LeavesFile (MayStand (form_of layout) H.of tree.now batch) name.now
         (S.state shelf.old).files (S.state shelf.new).files }
     ensures causes { SaveCauses (S.state shelf.old) (S.state shelf.new) result }
     ensures reads { (S.state shelf.new).reads ≡ (S.state shelf.old).reads }
@@ -97,11 +98,11 @@ pub fn save_plain<H: Hash32, S: Shelf>(
     requires well { WellFormed tree.now }
     requires layers { HasLayers One tree.now }
     ensures stands { OnOk result (OfFile (S.state shelf.new).files name.now ⊥
-        (λ bytes. Stands first_form H.of bytes tree.now batch)) }
+        (λ bytes. StandsForTree first_form H.of bytes tree.now batch)) }
     ensures whole { OnOk result (IsChanged (with_file name.now)
         (saved first_form H.of tree.now batch)
         (S.state shelf.old).files (S.state shelf.new).files) }
-    ensures left { Leaves (MayStand first_form H.of tree.now batch) name.now
+    ensures left { LeavesFile (MayStand first_form H.of tree.now batch) name.now
         (S.state shelf.old).files (S.state shelf.new).files }
     ensures causes { SaveCauses (S.state shelf.old) (S.state shelf.new) result }
     ensures reads { (S.state shelf.new).reads ≡ (S.state shelf.old).reads }
@@ -119,11 +120,11 @@ pub fn save2_plain<H: Hash32, S: Shelf>(
 ) -> Result<(), ShelfErr>
     requires { WellFormed tree.now }
     ensures stands { OnOk result (OfFile (S.state shelf.new).files name.now ⊥
-        (λ bytes. Stands second_form H.of bytes tree.now batch)) }
+        (λ bytes. StandsForTree second_form H.of bytes tree.now batch)) }
     ensures whole { OnOk result (IsChanged (with_file name.now)
         (saved second_form H.of tree.now batch)
         (S.state shelf.old).files (S.state shelf.new).files) }
-    ensures left { Leaves (MayStand second_form H.of tree.now batch) name.now
+    ensures left { LeavesFile (MayStand second_form H.of tree.now batch) name.now
         (S.state shelf.old).files (S.state shelf.new).files }
     ensures causes { SaveCauses (S.state shelf.old) (S.state shelf.new) result }
     ensures reads { (S.state shelf.new).reads ≡ (S.state shelf.old).reads }

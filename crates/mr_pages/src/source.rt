@@ -7,7 +7,7 @@ ghost use Rattle.mr_pages.specs.Faults.{of_level};
 ghost use Rattle.mr_pages.specs.Page.{IsNode, level_of};
 ghost use Rattle.mr_pages.specs.PageBytes.{form_of, IsLayout};
 ghost use Rattle.mr_pages.specs.Source.{Sourced, GivesPage, GivesHead, ReadsPage, IsOfOneRead, SaysHead, MayKeep, Stay, AreMade, tree_over};
-ghost use Rattle.mr_pages.specs.Walking.{page_node, Shows, Heads};
+ghost use Rattle.mr_pages.specs.Walking.{page_node, ShowsWanted, AnswersHead};
 
 use crate::head::MapHead;
 use crate::layout::Layout;
@@ -48,8 +48,8 @@ pub trait Source {
     /// Page 0, which was read before, or the first rule that it breaks.
     fn head(&self) -> Result<MapHead, MapRule>
         requires { 1 ≤ (state self.now).pages }
-        ensures shows { GivesHead (state self.now) (λ f. Heads result f.head) }
-        ensures once { IfErr result IsOfOneRead }
+        ensures shows { GivesHead (state self.now) (λ f. AnswersHead result f.head) }
+        ensures of_one_read { IfErr result IsOfOneRead }
         ensures says { IfOk result
             (SaysHead (state self.now).origin.form.version (state self.now).pages) };
 
@@ -65,7 +65,7 @@ pub trait Source {
         requires within { page < (state self.old).pages }
         requires size { length bytes.old ≡ (state self.old).origin.form.size }
         ensures shows { IfOk result (λ shown. GivesPage (state self.old) page
-            (λ f. Shows shown into.new (of_level level (f.node page)))) }
+            (λ f. ShowsWanted shown into.new (of_level level (f.node page)))) }
         ensures spelled { IfOk result (λ shown. shown ≡ true →
             IsNode (state self.old).origin.form.version (page_node into.new)
             × (level_of (page_node into.new) ≡ level)) }

@@ -1,7 +1,7 @@
 //! A table of numbers.
 
 ghost use Rattle.std.specs.Prelude.{◌≡◌, ◌≤◌, ◌<◌, ◌^◌, ◌%◌, replicate, vec_len, IfOk};
-ghost use Rattle.mr_pages.specs.Places.{at_place, put_at_place, taken_of};
+ghost use Rattle.mr_pages.specs.private.Places.{number_in_place, put_at_place, taken_of};
 
 use std::alloc::{AllocError, Global};
 
@@ -33,7 +33,7 @@ impl Table {
 
     /// What stands at a number's place.
     pub fn at(&self, n: u64) -> u64
-        ensures { result ≡ at_place self.now.places.items n }
+        ensures { result ≡ number_in_place self.now.places.items n }
     {
         self.places[self.place(n)]
     }

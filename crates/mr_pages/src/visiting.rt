@@ -2,21 +2,21 @@
 
 ghost use Rattle.std.specs.Prelude.{◌≡◌, ◌≤◌, ◌<◌, length, OnOk, IfOk, IfErr};
 ghost use Rattle.mr_tree.specs.Digest.{by};
-ghost use Rattle.mr_pages.specs.Source.{Goes, Stay, AreKept, Gives, GivesPage, Knows, Looks, Settles, Walked, SaysOnce, left};
+ghost use Rattle.mr_pages.specs.Source.{ReadsWithinRoom, Stay, AreKept, GivesPages, GivesPage, MatchesChild, ReadsChecked, IfNotFailed, Walked, SaysOnce, left};
 ghost use Rattle.mr_pages.specs.Walking.{child_link};
 
-use crate::judging::judge;
+use crate::judging::check_node;
 use crate::layout::SECOND_SIZE;
 use crate::node::Node;
-use crate::seen::Seen;
 use crate::source::Source;
+use crate::visited::Visited;
 use crate::{MapErr, MapFault, MapRule};
 use mr_tree::{Child, NodeView, is_view};
 use std::alloc::Global;
 
 // The node that is said to stand on a page, or the first rule that it breaks against what is said
 // of it. The view is only worked with.
-fn look<P: Source>(
+fn read_checked<P: Source>(
     alloc: Global,
     pages: &mut P,
     child: &Child,
@@ -24,13 +24,13 @@ fn look<P: Source>(
     view: &mut NodeView,
 ) -> Result<Node, MapErr>
     requires { child.now.id < (P.state pages.old).pages }
-    ensures told { Settles result (GivesPage (P.state pages.old) child.now.id
-        (λ f. Looks (by (P.state pages.old).origin.form.version P.Hash.of) f.node root
+    ensures told { IfNotFailed result (GivesPage (P.state pages.old) child.now.id
+        (λ f. ReadsChecked (by (P.state pages.old).origin.form.version P.Hash.of) f.node root
         (child_link child.now) result)) }
     ensures known { IfOk result
-        (Knows (by (P.state pages.old).origin.form.version P.Hash.of) child.now) }
-    ensures once { IfErr result SaysOnce }
-    ensures goes { Goes (P.state pages.old) (P.state pages.new) 1 0 result }
+        (MatchesChild (by (P.state pages.old).origin.form.version P.Hash.of) child.now) }
+    ensures of_one_read { IfErr result SaysOnce }
+    ensures goes { ReadsWithinRoom (P.state pages.old) (P.state pages.new) 1 0 result }
     ensures stay { Stay (P.keeps pages.old) (P.keeps pages.new) }
 {
     let layout = pages.layout();
@@ -42,7 +42,7 @@ fn look<P: Source>(
             rule: MapRule::Page,
         }));
     }
-    if let Some(rule) = judge::<P::Hash>(layout, bytes, view, child, root) {
+    if let Some(rule) = check_node::<P::Hash>(layout, bytes, view, child, root) {
         return Err(MapErr::Map(MapFault {
             page: child.id,
             rule,
@@ -60,17 +60,18 @@ pub fn visit<P: Source>(
     child: &Child,
     root: bool,
     view: &mut NodeView,
-    seen: &mut Seen,
+    seen: &mut Visited,
 ) -> Result<P::Made, MapErr>
     requires { length seen.old.reached.items ≡ (P.state pages.old).pages }
-    ensures told { Settles result (Gives (P.state pages.old) seen.old seen.new
+    ensures told { IfNotFailed result (GivesPages (P.state pages.old) seen.old seen.new
         (Walked (by (P.state pages.old).origin.form.version P.Hash.of) P.makes
         (P.state pages.old).pages seen.old root child.now result seen.new)) }
-    ensures once { IfErr result SaysOnce }
+    ensures of_one_read { IfErr result SaysOnce }
     ensures inside { OnOk result
         ((1 ≤ child.now.id) × (child.now.id < (P.state pages.old).pages)) }
     ensures room { length seen.new.reached.items ≡ length seen.old.reached.items }
-    ensures goes { Goes (P.state pages.old) (P.state pages.new) (left seen.old) (left seen.new)
+    ensures goes { ReadsWithinRoom (P.state pages.old) (P.state pages.new) (left seen.old)
+        (left seen.new)
         result }
     ensures kept { OnOk result (AreKept seen.old seen.new (P.keeps pages.new)) }
     ensures stay { Stay (P.keeps pages.old) (P.keeps pages.new) }
@@ -81,7 +82,7 @@ pub fn visit<P: Source>(
             rule,
         }));
     }
-    match look::<P>(alloc, pages, child, root, view)? {
+    match read_checked::<P>(alloc, pages, child, root, view)? {
         Node::Leaf(records) => {
             if seen.meet(&records)? {
                 return Err(MapErr::Map(MapFault {

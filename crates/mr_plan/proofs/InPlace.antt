@@ -6,11 +6,11 @@ use Rattle.mr_outside.specs.Files.{Files}
 use Rattle.mr_outside.specs.Told.{OfFiles}
 use Rattle.mr_journal.specs.Format.{is_open, opens, body_of, carried, restored, recovered}
 use Rattle.mr_journal.specs.Images.{Image}
-use Rattle.mr_journal.specs.Recovered.{FilesHave, Recovers, restored_in}
-use Rattle.mr_journal.specs.Shelves.{held_in, image_on, KeepsBeside}
+use Rattle.mr_journal.specs.Recovered.{FilesHave, RecoversMap, restored_in}
+use Rattle.mr_journal.specs.Shelves.{bytes_or_none, image_on, KeepsBeside}
 use Rattle.mr_journal.specs.declared.disk.DiskErr.{DiskErr}
 use Rattle.mr_journal.proofs.Gating.{shut_restores}
-use Rattle.mr_plan.specs.Outcome.{Content, InPlace, IsWholly, IsMendedOn, MayRestore, IsLeft, MayLeave}
+use Rattle.mr_plan.specs.Outcome.{Content, InPlace, IsWholly, IsMendedOn, MayRestore, LeavesWritten, MayLeave}
 
 -- what is so of the files, where they are told
 of_files : (told : Option Files) (P Q : Files → Type 0) → ((files : Files) → P files → Q files) → OfFiles told P
@@ -27,14 +27,15 @@ have_files (Some files) P Q on p = on files p
 mended_restores : (map journal held : List ℕ) (content : Option Content) (files : Files)
     → IsMendedOn map journal held content files → MayRestore map journal held content files
 mended_restores map journal held None files is =
-    inl (shut_restores (held_in files map) (image_on map journal files) (record { map_is = refl; shut = is.shut })
+    inl (shut_restores (bytes_or_none files map) (image_on map journal files) (record { map_is = refl; shut = is.shut })
     ∙ is.mended)
 mended_restores map journal held (Some content) files is =
-    inr (subst (IsWholly content) (sym (shut_restores (held_in files map) (image_on map journal files)
+    inr (subst (IsWholly content) (sym (shut_restores (bytes_or_none files map) (image_on map journal files)
     (record { map_is = refl; shut = is.shut }))) is.mended)
 
 pub mended_may : (map journal held : List ℕ) (content : Option Content) (before after : Option Files)
-    → IsLeft (InPlace map journal held content) before after → MayLeave (InPlace map journal held content) before after
+    → LeavesWritten (InPlace map journal held content) before after → MayLeave (InPlace map journal held content)
+    before after
 mended_may map journal held content before after left =
     inr (
       left.0,
@@ -52,7 +53,7 @@ untold_beside map journal before after none kept =
 abbrev pub LeavesRecovered : (map journal : List ℕ) → Option Files → Option Files → Result Bool DiskErr → Type 0
 LeavesRecovered map journal None after result = ⊤
 LeavesRecovered map journal (Some files) after (Ok was) =
-    IsLeft (InPlace map journal (restored_in map journal files) None) (Some files) after
+    LeavesWritten (InPlace map journal (restored_in map journal files) None) (Some files) after
 LeavesRecovered map journal (Some files) after (Err e) =
     MayLeave (InPlace map journal (restored_in map journal files) None) (Some files) after
 
@@ -76,7 +77,7 @@ mended_by map journal files new same = record {
 }
 
 pub recovered_left : (map journal : List ℕ) (before after : Option Files) (result : Result Bool DiskErr)
-    → KeepsBeside map journal before after → Recovers map journal before after result
+    → KeepsBeside map journal before after → RecoversMap map journal before after result
     → LeavesRecovered map journal before after result
 recovered_left map journal None after result kept so = tt
 recovered_left map journal (Some files) after (Ok was) kept so =

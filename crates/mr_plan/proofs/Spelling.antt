@@ -5,9 +5,9 @@ use Rattle.std.specs.Borrow.{Bor}
 use Rattle.std.specs.List.{AllByRecursion, list_all}
 use Rattle.std.proofs.lemmas.Bool.{and_parts, both_ways, leb-true}
 use Rattle.mr_query.specs.declared.query.Query.{Query}
-use Rattle.mr_plan.specs.Kinds.{Reading, kinds_of, name_of, no_query, first_word, start, all_next, past_all, is_complete, GivesCommand}
+use Rattle.mr_plan.specs.private.Kinds.{Reading, kinds_of, name_of, no_query, first_word, start, all_next, past_all, is_complete, GivesCommand}
 use Rattle.mr_plan.specs.Spelling.{IsSpelled, AsksAs}
-use Rattle.mr_plan.specs.Words.{Word, key, file, digest, query, number, spelled, words_of, IsWord, AreApart, file_names, Spells}
+use Rattle.mr_plan.specs.Words.{Word, key, file, digest, query, number, spelled, words_of, IsWord, AreApart, file_names, SpellsCommand}
 use Rattle.mr_plan.specs.declared.words.Command.{Command}
 use Rattle.mr_plan.specs.declared.words.Command.TheVariants as commands
 use Rattle.mr_plan.proofs.Reading.{AreNew, is_low, stand, read_again, read_whole, apart_new, new_apart, names_named}
@@ -120,14 +120,14 @@ low_numbers : (command : Command) → list_all is_low (words_of command) ≡ tru
 low_numbers command = (and_parts _ _ (plain command)).1
 
 -- words that spell a command are read as its words
-found_words : (words : List (List ℕ)) (command : Command) → Spells words command
+found_words : (words : List (List ℕ)) (command : Command) → SpellsCommand words command
     → all_next (kinds_of command) (start words) ≡ words_of command
 found_words words command spells =
     subst (λ ws. all_next (kinds_of command) (start ws) ≡ words_of command) (sym spells.spelled)
     (read_again (words_of command) [] [] true (low_numbers command) spells.each)
 
 -- and each of them is what it has to be
-found_whole : (words : List (List ℕ)) (command : Command) → Spells words command
+found_whole : (words : List (List ℕ)) (command : Command) → SpellsCommand words command
     → is_complete (past_all (kinds_of command) (start words)) ≡ true
 found_whole words command spells =
     subst (λ ws. is_complete (past_all (kinds_of command) (start ws)) ≡ true) (sym spells.spelled)
@@ -135,7 +135,7 @@ found_whole words command spells =
     (new_apart (file_names (words_of command)) (few_files command) (names_named (words_of command) spells.each)
     (subst AreApart (append-nil (file_names (words_of command))) spells.apart)))
 
-ask_same : (words : List (List ℕ)) (a b : Command) → Spells words a → Spells words b
+ask_same : (words : List (List ℕ)) (a b : Command) → SpellsCommand words a → SpellsCommand words b
     → AsksAs (Some a) (Some b)
 ask_same words a b spells_a spells_b =
     let kinds = same_kinds a b (ap first_word (sym spells_a.spelled ∙ spells_b.spelled)) in
@@ -158,7 +158,7 @@ none_named words old new is gives = λ command spells.
 
 -- words that were read as they have to be spell the command
 read_right : (words : List (List ℕ)) (old new : Reading) (command : Command) → old ≡ start words
-    → GivesCommand old (Some command) new → is_complete new ≡ true → Spells words command
+    → GivesCommand old (Some command) new → is_complete new ≡ true → SpellsCommand words command
 read_right words old new command is gives whole =
     let past : new ≡ past_all (kinds_of command) (start words) =
     gives.goes_past ∙ ap (past_all (kinds_of command)) is in

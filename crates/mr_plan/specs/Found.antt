@@ -22,10 +22,10 @@ Found = Result Opened MapFault
 
 -- read in this version, the bytes stand for this map; or they stand for none, and this is their
 -- fault
-abbrev pub Shows : Version → (List ℕ → List ℕ) → List ℕ → Found → Type 0
-Shows v hash bytes (Ok map) =
+abbrev pub ShowsMap : Version → (List ℕ → List ℕ) → List ℕ → Found → Type 0
+ShowsMap v hash bytes (Ok map) =
     (map.version ≡ v) × IsMapFile hash bytes (map_in v map.tree map.batch)
-Shows v hash bytes (Err fault) = mapfault hash (file_of (form_by v) bytes) ≡ Some fault
+ShowsMap v hash bytes (Err fault) = mapfault hash (file_of (form_by v) bytes) ≡ Some fault
 
 -- why a node was not fetched, as what it says of the map's file
 abbrev pub as_map_error : NodesErr → MapErr

@@ -12,4 +12,4 @@ pub mod Demo
 pub mod Say
 pub mod Untold
 pub mod Spelling
-pub mod Kinds
+pub mod private

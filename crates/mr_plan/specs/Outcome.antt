@@ -5,7 +5,7 @@ use Rattle.mr_outside.specs.Files.{Files}
 use Rattle.mr_outside.specs.Told.{OfFiles}
 use Rattle.mr_journal.specs.Format.{is_open}
 use Rattle.mr_journal.specs.Recovered.{restored_in}
-use Rattle.mr_journal.specs.Shelves.{held_in, image_on, KeepsBeside}
+use Rattle.mr_journal.specs.Shelves.{bytes_or_none, image_on, KeepsBeside}
 use Rattle.mr_record.specs.declared.version.Version.{Version}
 use Rattle.mr_tree.specs.declared.tree.Tree.{Tree}
 use Rattle.mr_pages.specs.PageBytes.{form_by}
@@ -68,7 +68,7 @@ IsMended held (Some content) bytes = IsWholly content bytes
 -- the map's file holds it, and the journal is not open
 pub record IsMendedOn (map journal held : List ℕ) (content : Option Content) (files : Files)
     : Type 0 where
-  pub mended : IsMended held content (held_in files map)
+  pub mended : IsMended held content (bytes_or_none files map)
   pub shut : is_open (image_on map journal files) ≡ false
 
 -- what recovery would leave is what it would have left before, or the content
@@ -86,11 +86,11 @@ abbrev pub IsHeld : List ℕ → List ℕ → Option Files → Option Files → 
 IsHeld name bytes before after = after ≡ option_map (λ files. map.insert files name bytes) before
 
 -- what the files are once all is written
-abbrev pub IsLeft : Written → Option Files → Option Files → Type 0
-IsLeft Nothing before after = after ≡ before
-IsLeft (File name content) before after = (bytes : List ℕ) × IsWholly content bytes
+abbrev pub LeavesWritten : Written → Option Files → Option Files → Type 0
+LeavesWritten Nothing before after = after ≡ before
+LeavesWritten (File name content) before after = (bytes : List ℕ) × IsWholly content bytes
     × IsHeld name bytes before after
-IsLeft (InPlace map journal held content) before after = KeepsBeside map journal before after
+LeavesWritten (InPlace map journal held content) before after = KeepsBeside map journal before after
     × OfFiles after (IsMendedOn map journal held content)
 
 -- what the files may be where the command stopped before its end: as before, partly written, or as

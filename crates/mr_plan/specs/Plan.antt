@@ -3,10 +3,10 @@
 -- printing comes last.
 use Rattle.std.specs.Prelude.{◌≡◌, ◌⊎◌, ℕ, List, Option, Some, None, IfSome}
 use Rattle.mr_outside.specs.Files.{Files, file}
-use Rattle.mr_journal.specs.Shelves.{held_in}
-use Rattle.mr_record.specs.Bytes.{AreBytes}
+use Rattle.mr_journal.specs.Shelves.{bytes_or_none}
+use Rattle.mr_record.specs.private.Bytes.{AreBytes}
 use Rattle.mr_record.specs.declared.version.Version.{Version}
-use Rattle.mr_plan.specs.Found.{Found, Shows}
+use Rattle.mr_plan.specs.Found.{Found, ShowsMap}
 use Rattle.mr_plan.specs.Outcome.{Outcome}
 
 -- an input by its bytes; none where there is no such file
@@ -31,27 +31,28 @@ IsInput (Some files) name input = file files name ≡ input
 -- they are any
 abbrev pub IsSought : Option Files → List ℕ → List ℕ → Type 0
 IsSought None name bytes = AreBytes bytes
-IsSought (Some files) name bytes = held_in files name ≡ bytes
+IsSought (Some files) name bytes = bytes_or_none files name ≡ bytes
 
 -- the outcome, by what each file holds that is read; where the files are not told, each read has
 -- some content
-abbrev pub Leads : Plan → Option Files → Outcome → Type 0
-Leads (comes said) told outcome = outcome ≡ said
-Leads (reads name next) told outcome = (input : Input) × IsInput told name input
-    × Leads (next input) told outcome
-Leads (opens v hash bytes next) told outcome = (found : Found) × Shows v hash bytes found
-    × Leads (next found) told outcome
-Leads (seeks name next) told outcome = (bytes : List ℕ) × IsSought told name bytes
-    × Leads (next bytes) told outcome
+abbrev pub LeadsToOutcome : Plan → Option Files → Outcome → Type 0
+LeadsToOutcome (comes said) told outcome = outcome ≡ said
+LeadsToOutcome (reads name next) told outcome = (input : Input) × IsInput told name input
+    × LeadsToOutcome (next input) told outcome
+LeadsToOutcome (opens v hash bytes next) told outcome = (found : Found) × ShowsMap v hash
+    bytes found
+    × LeadsToOutcome (next found) told outcome
+LeadsToOutcome (seeks name next) told outcome = (bytes : List ℕ) × IsSought told name bytes
+    × LeadsToOutcome (next bytes) told outcome
 
 -- the one outcome over files that are told, whatever map or fault their bytes show
 abbrev pub IsOutcomeOver : Plan → Files → Outcome → Type 0
 IsOutcomeOver (comes said) files outcome = outcome ≡ said
 IsOutcomeOver (reads name next) files outcome = IsOutcomeOver (next (file files name)) files outcome
 IsOutcomeOver (opens v hash bytes next) files outcome =
-    (found : Found) → Shows v hash bytes found → IsOutcomeOver (next found) files outcome
+    (found : Found) → ShowsMap v hash bytes found → IsOutcomeOver (next found) files outcome
 IsOutcomeOver (seeks name next) files outcome =
-    IsOutcomeOver (next (held_in files name)) files outcome
+    IsOutcomeOver (next (bytes_or_none files name)) files outcome
 
 -- the named file is told to be absent
 abbrev pub IsAbsent : Option Files → List ℕ → Type 0
@@ -63,7 +64,7 @@ abbrev pub LacksInput : Plan → Option Files → Type 0
 LacksInput (comes said) told = ⊥
 LacksInput (reads name next) told = IsAbsent told name
     ⊎ ((input : Input) × IsInput told name input × LacksInput (next input) told)
-LacksInput (opens v hash bytes next) told = (found : Found) × Shows v hash bytes found
+LacksInput (opens v hash bytes next) told = (found : Found) × ShowsMap v hash bytes found
     × LacksInput (next found) told
 LacksInput (seeks name next) told = (bytes : List ℕ) × IsSought told name bytes
     × LacksInput (next bytes) told

@@ -32,7 +32,7 @@ use Rattle.mr_plan.specs.Outcome.{Outcome, File, map_of, changed}
 use Rattle.mr_plan.specs.Plan.{Input, Plan, comes, reads, opens, seeks}
 pub use Rattle.mr_plan.specs.Saying.{ends, prints, says_missing, say_text, say_written}
 pub use Rattle.mr_plan.specs.Saying.{journal_of, say_in_place}
-pub use Rattle.mr_plan.specs.Saying.{say_finding, say_bundle, held_in}
+pub use Rattle.mr_plan.specs.Saying.{say_finding, say_bundle, opened_in}
 pub use Rattle.mr_plan.specs.Saying.{say_serve_of, say_verdicts, say_parts_of}
 use Rattle.mr_plan.specs.Refusal.{refused_line}
 use Rattle.mr_pages.specs.File.{version_of}

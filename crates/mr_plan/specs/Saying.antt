@@ -71,8 +71,8 @@ abbrev pub say_bundle : List ℕ → (queries : ℕ) → List ℕ → Outcome
 say_bundle name queries bytes = say_text (served_line queries (length bytes)) name bytes
 
 -- the map that is in memory, by its nodes and its head
-abbrev pub held_in : List Stored → Top → Opened
-held_in nodes top = record
+abbrev pub opened_in : List Stored → Top → Opened
+opened_in nodes top = record
     { tree = tree_of nodes top; version = top.version; batch = top.batch }
 
 -- the bundle for the queries of a script on a map in a file, or the script's first fault

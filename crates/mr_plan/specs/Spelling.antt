@@ -3,7 +3,7 @@ use Rattle.std.specs.Prelude.{◌≡◌, ◌≢◌, ℕ, ◌≤◌, nat_eq, ◌&
 use Rattle.std.specs.List.{list_all}
 use Rattle.hex.specs.Hex.{decode_of}
 use Rattle.mr_record.specs.RecordText.{is_lower_digit, ok_bytes}
-use Rattle.mr_plan.specs.Words.{Spells, demo_limit, words_of}
+use Rattle.mr_plan.specs.Words.{SpellsCommand, demo_limit, words_of}
 use Rattle.mr_tree.specs.Limits.{count_limit}
 use Rattle.mr_query.specs.Word.{IsAskable}
 use Rattle.mr_plan.specs.declared.words.Command.{Command}
@@ -11,8 +11,8 @@ use Rattle.mr_plan.specs.declared.words.Command.TheVariants as commands
 
 -- the words spell this command, or none at all
 abbrev pub IsSpelled : List (List ℕ) → Option Command → Type 0
-IsSpelled words (Some command) = Spells words command
-IsSpelled words None = (command : Command) → Spells words command → ⊥
+IsSpelled words (Some command) = SpellsCommand words command
+IsSpelled words None = (command : Command) → SpellsCommand words command → ⊥
 
 -- the two ask for the same: they have the same words
 abbrev pub AsksAs : Option Command → Option Command → Type 0

@@ -2,14 +2,14 @@
 -- page may be another one by then; over files that are told none ever is.
 use Rattle.std.specs.Prelude.{◌≡◌, ◌≢◌, ◌⊎◌, ◌↔◌, ⊤, ℕ, ◌^◌, ◌<◌, ◌≤◌, Bool, List, length, Option, Some, None, IfSome, IsNone, Ok, Err}
 use Rattle.mr_outside.specs.Files.{Files}
-use Rattle.mr_record.specs.Bytes.{AreBytes}
+use Rattle.mr_record.specs.private.Bytes.{AreBytes}
 use Rattle.mr_record.specs.declared.record.Record.{Record}
 use Rattle.mr_record.specs.declared.text_fault.TextFault.{TextFault}
 use Rattle.mr_record.specs.declared.version.Version.{Version}
 use Rattle.mr_record.specs.declared.version.Version.TheVariants.{One}
 use Rattle.mr_tree.specs.Digest.{root_preimage}
 use Rattle.mr_tree.specs.Limits.{count_limit, level_limit}
-use Rattle.mr_tree.specs.Nodes.{Standing, root_entry}
+use Rattle.mr_tree.specs.Nodes.{MapModel, root_entry}
 use Rattle.mr_tree.specs.View.{IsChild}
 use Rattle.mr_tree.specs.declared.child.Child.{Child}
 use Rattle.mr_tree.specs.WellFormed.{WellFormed}
@@ -25,12 +25,12 @@ use Rattle.mr_batch.specs.Changes.{Changes}
 use Rattle.mr_batch.specs.declared.admission.BatchFault.{BatchFault}
 use Rattle.mr_query.specs.Script.{queries_of_text}
 use Rattle.mr_query.specs.declared.query.Query.{Query}
-use Rattle.mr_clash.specs.Finding.{Collides, FindsFor}
+use Rattle.mr_clash.specs.Finding.{ShowsCollision, FindsFor}
 use Rattle.mr_clash.specs.declared.finding.Finding.{Finding}
 use Rattle.mr_plan.specs.Found.{bad_map_line}
 use Rattle.mr_plan.specs.Lines.{digest_line, needs_version_2_line, bad_text_line, bad_batch_line, recovered_line}
 use Rattle.mr_plan.specs.Outcome.{Outcome}
-use Rattle.mr_plan.specs.Plan.{Leads}
+use Rattle.mr_plan.specs.Plan.{LeadsToOutcome}
 use Rattle.mr_plan.specs.Say.{say}
 use Rattle.mr_plan.specs.Saying.{ends, says_missing, say_text, say_written, say_finding, say_in_place, say_serve_of}
 use Rattle.mr_plan.specs.declared.status.Status.TheVariants.{Done, BadText, BadMap, BadBatch, NeedsVersion2}
@@ -64,11 +64,11 @@ IsRefused hash map said = (said ≡ says_missing map) ⊎ IsBadMap hash said
 -- says of itself its fault, or its answer as sound; or, where it accepts, two strings that differ
 -- and have one hash.
 pub record IsFinding (hash : List ℕ → List ℕ) (query : Query) (finding : Finding) : Type 0 where
-  pub stands : Standing
+  pub stands : MapModel
   pub bytes : List ℕ
   pub are : AreBytes bytes
   pub judged : FindsFor hash stands query bytes finding
-  pub collides : Collides hash finding
+  pub collides : ShowsCollision hash finding
 
 -- it is a map of version 2, of which there are no proofs yet
 abbrev pub LacksProofs : Outcome → Type 0
@@ -144,12 +144,12 @@ MaySayUntold hash (Some (commands.Serve map script bundle)) said =
     MaySayServe hash map.now script.now bundle.now said
 MaySayUntold hash (Some (commands.Apply old batch new)) said =
     MaySayApply hash old.now batch.now new.now said
-MaySayUntold hash command said = Leads (say hash command) None said
+MaySayUntold hash command said = LeadsToOutcome (say hash command) None said
 
 -- what may be said: over files that are told what the plan leads to
 abbrev pub MaySay : (List ℕ → List ℕ) → Option Command → Option Files → Outcome → Type 0
 MaySay hash command None said = MaySayUntold hash command said
-MaySay hash command (Some files) said = Leads (say hash command) (Some files) said
+MaySay hash command (Some files) said = LeadsToOutcome (say hash command) (Some files) said
 
 -- ---- a map in its own file, which no words ask for yet
 

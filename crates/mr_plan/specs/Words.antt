@@ -2,7 +2,7 @@
 use Rattle.std.specs.Prelude.{◌≡◌, ◌≢◌, ℕ, ◌-◌, ◌^◌, ◌<◌, ◌≤◌, List, [], ◌∷◌, ◌++◌, length, map, codes, decimal, ⊤}
 use Rattle.std.specs.List.{AllByRecursion}
 use Rattle.hex.specs.Hex.{encode_lower}
-use Rattle.mr_record.specs.Bytes.{AreBytes}
+use Rattle.mr_record.specs.private.Bytes.{AreBytes}
 use Rattle.mr_tree.specs.Limits.{count_limit}
 use Rattle.mr_query.specs.Word.{IsQuery, word_of}
 use Rattle.mr_query.specs.declared.query.Query.{Query}
@@ -100,7 +100,7 @@ AreApart [] = ⊤
 AreApart (name ∷ names) = AllByRecursion (λ other. name ≢ other) names × AreApart names
 
 -- the words spell this command
-pub record Spells (words : List (List ℕ)) (command : Command) : Type 0 where
+pub record SpellsCommand (words : List (List ℕ)) (command : Command) : Type 0 where
   pub each : AllByRecursion IsWord (words_of command)
   -- the files of a command are different ones
   pub apart : AreApart (files_of command)

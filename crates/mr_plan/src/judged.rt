@@ -173,7 +173,7 @@ fn is_accepted(verdict: &Verdict) -> bool
 /// How many verdicts are answers.
 pub fn count_accepted(list: &[Verdict]) -> usize
     ensures exact { result ≡ accepted_count list.now }
-    ensures few { result ≤ length list.now }
+    ensures length_at_most { result ≤ length list.now }
 {
     let mut count = 0;
     for verdict in list {

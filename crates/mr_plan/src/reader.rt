@@ -4,7 +4,7 @@ ghost use Rattle.std.specs.Prelude.{◌≡◌, ◌≤◌, map, string_bytes};
 ghost use Rattle.std.specs.List.{list_all};
 ghost use Rattle.mr_record.specs.Decimal.{u64_of};
 ghost use Rattle.mr_record.specs.RecordText.{is_lower_digit};
-ghost use Rattle.mr_plan.specs.Kinds.{IsRead, first_word, is_complete, is_fresh, named, noted, reading_of, start, taken, within};
+ghost use Rattle.mr_plan.specs.private.Kinds.{HasReadWord, first_word, is_complete, is_fresh, named, noted, reading_of, start, taken, within};
 ghost use Rattle.mr_plan.specs.Spelling.{digest_of_word};
 ghost use Rattle.mr_plan.specs.Words.{key, file, digest, query, number};
 
@@ -65,7 +65,7 @@ pub(crate) struct Reader<'a> {
 
 impl<'a> Reader<'a> {
     // A reader that has read none of them.
-    #[tactic(auto, unfolding(crate::specs::Kinds::reading_of))]
+    #[tactic(auto, unfolding(crate::specs::private::Kinds::reading_of))]
     pub(crate) fn new(words: &'a [String]) -> Reader<'a>
         ensures { reading_of result ≡ start (map string_bytes words.now) }
     {
@@ -78,7 +78,7 @@ impl<'a> Reader<'a> {
     }
 
     // Takes the next word, which is empty where none is left.
-    #[tactic(auto, unfolding(crate::specs::Kinds::reading_of))]
+    #[tactic(auto, unfolding(crate::specs::private::Kinds::reading_of))]
     fn next(&mut self) -> &'a str
         ensures front { result.now ≡ first_word (reading_of self.old).words }
         ensures behind { reading_of self.new ≡ taken (reading_of self.old) }
@@ -96,7 +96,7 @@ impl<'a> Reader<'a> {
     }
 
     // Notes whether a word was what it had to be.
-    #[tactic(auto, unfolding(crate::specs::Kinds::reading_of))]
+    #[tactic(auto, unfolding(crate::specs::private::Kinds::reading_of))]
     fn note(&mut self, fits: bool)
         ensures { reading_of self.new ≡ noted fits (reading_of self.old) }
     {
@@ -104,7 +104,7 @@ impl<'a> Reader<'a> {
     }
 
     // The name is not empty, and none of the last two files.
-    #[tactic(auto, unfolding(crate::specs::Kinds::reading_of))]
+    #[tactic(auto, unfolding(crate::specs::private::Kinds::reading_of))]
     fn is_fresh(&self, name: &str) -> bool
         ensures { result ≡ is_fresh name.now (reading_of self.now).last
             (reading_of self.now).earlier }
@@ -113,7 +113,7 @@ impl<'a> Reader<'a> {
     }
 
     // Remembers the name of a file.
-    #[tactic(auto, unfolding(crate::specs::Kinds::reading_of))]
+    #[tactic(auto, unfolding(crate::specs::private::Kinds::reading_of))]
     fn remember(&mut self, name: &'a str)
         ensures { reading_of self.new ≡ named name.now (reading_of self.old) }
     {
@@ -122,18 +122,18 @@ impl<'a> Reader<'a> {
     }
 
     // The name of a command.
-    #[tactic(auto, unfolding(crate::specs::Kinds::word_next, crate::specs::Kinds::past))]
+    #[tactic(auto, unfolding(crate::specs::private::Kinds::word_next, crate::specs::private::Kinds::past))]
     pub(crate) fn key(&mut self) -> &'a str
         ensures first { result.now ≡ first_word (reading_of self.old).words }
-        ensures key { IsRead (key result.now) (reading_of self.old) (reading_of self.new) }
+        ensures key { HasReadWord (key result.now) (reading_of self.old) (reading_of self.new) }
     {
         self.next()
     }
 
     // The name of a file, which is not empty and none of the two before it.
-    #[tactic(auto, unfolding(crate::specs::Kinds::word_next, crate::specs::Kinds::past))]
+    #[tactic(auto, unfolding(crate::specs::private::Kinds::word_next, crate::specs::private::Kinds::past))]
     pub(crate) fn file(&mut self) -> &'a str
-        ensures { IsRead (file result.now) (reading_of self.old) (reading_of self.new) }
+        ensures { HasReadWord (file result.now) (reading_of self.old) (reading_of self.new) }
     {
         let name = self.next();
         let fresh = self.is_fresh(name);
@@ -143,9 +143,9 @@ impl<'a> Reader<'a> {
     }
 
     // A digest, in 64 lower-case hexadecimal digits.
-    #[tactic(auto, unfolding(crate::specs::Kinds::word_next, crate::specs::Kinds::past))]
+    #[tactic(auto, unfolding(crate::specs::private::Kinds::word_next, crate::specs::private::Kinds::past))]
     pub(crate) fn digest(&mut self) -> [u8; 32]
-        ensures { IsRead (digest result) (reading_of self.old) (reading_of self.new) }
+        ensures { HasReadWord (digest result) (reading_of self.old) (reading_of self.new) }
     {
         let digest = read_digest(self.next());
         self.note(digest.is_some());
@@ -153,9 +153,9 @@ impl<'a> Reader<'a> {
     }
 
     // A query.
-    #[tactic(auto, unfolding(crate::specs::Kinds::word_next, crate::specs::Kinds::past))]
+    #[tactic(auto, unfolding(crate::specs::private::Kinds::word_next, crate::specs::private::Kinds::past))]
     pub(crate) fn query(&mut self) -> Query
-        ensures { IsRead (query result) (reading_of self.old) (reading_of self.new) }
+        ensures { HasReadWord (query result) (reading_of self.old) (reading_of self.new) }
     {
         let query = read_query(self.next());
         self.note(query.is_ok());
@@ -163,9 +163,9 @@ impl<'a> Reader<'a> {
     }
 
     // A number between two bounds, in decimal.
-    #[tactic(auto, unfolding(crate::specs::Kinds::word_next, crate::specs::Kinds::past))]
+    #[tactic(auto, unfolding(crate::specs::private::Kinds::word_next, crate::specs::private::Kinds::past))]
     pub(crate) fn number(&mut self, least: u64, most: u64) -> u64
-        ensures number { IsRead (number least most result) (reading_of self.old)
+        ensures number { HasReadWord (number least most result) (reading_of self.old)
             (reading_of self.new) }
         ensures bounded { result ≤ most }
     {
@@ -175,7 +175,7 @@ impl<'a> Reader<'a> {
     }
 
     // Each word was what it had to be, and none is left.
-    #[tactic(auto, unfolding(crate::specs::Kinds::is_complete, crate::specs::Kinds::reading_of))]
+    #[tactic(auto, unfolding(crate::specs::private::Kinds::is_complete, crate::specs::private::Kinds::reading_of))]
     pub(crate) fn is_complete(&self) -> bool
         ensures { result ≡ is_complete (reading_of self.now) }
     {

@@ -2,7 +2,7 @@
 
 ghost use Rattle.std.specs.Prelude.{Option, map};
 ghost use Rattle.std.specs.String.{string_bytes};
-ghost use Rattle.mr_plan.specs.Kinds.{GivesCommand, reading_of};
+ghost use Rattle.mr_plan.specs.private.Kinds.{GivesCommand, reading_of};
 ghost use Rattle.mr_plan.specs.Spelling.{IsSpelled, AsksAs};
 ghost use Rattle.mr_plan.specs.declared.words.Command as types;
 

@@ -13,7 +13,7 @@ use Rattle.mr_tree.specs.Digest.{Scheme, entry_step, digest, root, root_preimage
 use Rattle.mr_tree.specs.declared.entry.Entry.{Entry}
 use Rattle.mr_record.specs.declared.version.Version.{Version}
 use Rattle.mr_tree.specs.Digest as digests
-use Rattle.mr_tree.specs.Slim.{IsSlim, IsSlimNode}
+use Rattle.mr_tree.specs.private.Slim.{IsSlim, IsSlimNode}
 use Rattle.mr_tree.specs.WellFormed.{WellFormed, HasLayers, HasOneLevel}
 use Rattle.mr_tree.specs.declared.tree.Tree.{Tree}
 use Rattle.mr_tree.specs.declared.tree.Tree.TheVariants as tree
@@ -28,13 +28,13 @@ use Rattle.mr_query.specs.Scan.{scan}
 use Rattle.mr_proof.specs.declared.way.Way.{Way}
 use Rattle.mr_proof.specs.declared.head.Kind.{Kind}
 use Rattle.mr_proof.specs.declared.head.Kind.TheVariants as kind
-use Rattle.mr_proof.specs.declared.shown.Shown.{Shown}
+use Rattle.mr_proof.specs.declared.pruned_entry.PrunedEntry.{PrunedEntry}
 use Rattle.mr_proof.specs.Fields.{version}
 use Rattle.mr_proof.specs.Cut as cut
-use Rattle.mr_proof.specs.Cut.{Cut, Cuts, Pruned, Leaf, Inner, no_more, first, count_of, entry, entries, CutOf, CutsOf}
-use Rattle.mr_proof.specs.Spelling.{FitsCut, FitCuts, FitsShown, FitsLeaf, FitsInner, FitsHead, FitsPart, head_bytes, cut_bytes, part_bytes, radius_bytes, level_bytes, opened_records}
-use Rattle.mr_proof.specs.Tight.{Seen, opens_at, Question, radius_by, IsLawful, question, IsTight}
-use Rattle.mr_proof.specs.Accepted.{root_bytes, Shows}
+use Rattle.mr_proof.specs.Cut.{Cut, Cuts, Pruned, Leaf, Inner, no_more, first, number_of_cuts, entry, entries, CutOf, CutsOf}
+use Rattle.mr_proof.specs.Spelling.{FitsCut, FitCuts, FitsShown, FitsLeaf, FitsInner, FitsProofHead, FitsPart, head_bytes, cut_bytes, part_bytes, radius_bytes, level_bytes, opened_records}
+use Rattle.mr_proof.specs.Tight.{Key, opens_at, Question, radius_by, IsLawful, question, IsTight}
+use Rattle.mr_proof.specs.Accepted.{proof_preimage, ShowsCut}
 use Rattle.mr_proof.specs.Honest.{ways_of, honest_cut, honest_head, honest_part, honest_said, proof_for, proof}
 use Rattle.mr_proof.specs.Halves.{AcceptsHonestProof, IsHonestProof, AcceptsHonest}
 use Rattle.mr_proof.proofs.Plain.{no_mask, no_count}
@@ -102,11 +102,11 @@ mutual
 
 -- ---- the honest cut has each value in its range
 
-missed_fits : (s : Scheme) (way : Seen → Way) → IsSized s.of → (v : ℕ) (t : Tree) → IsFull t
+missed_fits : (s : Scheme) (way : Key → Way) → IsSized s.of → (v : ℕ) (t : Tree) → IsFull t
     → IsSlim t → meets way t ≡ false → FitsCut v (honest_cut s way t)
 missed_fits s way h v t full slim f =
     let p = there_tree t full in
-    let x : Shown = record { rect = p.at; digest = digest s t } in
+    let x : PrunedEntry = record { rect = p.at; digest = digest s t } in
     let is : honest_cut s way t ≡ Pruned x =
     honest_missed s way t f ∙ pruned_shown s t p.at p.is in
     let fine : FitsShown x = record {
@@ -117,16 +117,16 @@ missed_fits s way h v t full slim f =
     } in
     subst (FitsCut v) (sym is) fine
 
-abbrev Fit : Scheme → (Seen → Way) → Tree → Type 0
+abbrev Fit : Scheme → (Key → Way) → Tree → Type 0
 Fit s way t = IsFull t → IsPlainTree t → IsSlim t → every-Tree HasOneLevel t → (v : ℕ) → level t ≡ v
     → FitsCut v (honest_cut s way t)
 
-count_cuts : (s : Scheme) (way : Seen → Way) (ts : List Tree)
-    → count_of (honest_cuts s way ts) ≡ length ts
+count_cuts : (s : Scheme) (way : Key → Way) (ts : List Tree)
+    → number_of_cuts (honest_cuts s way ts) ≡ length ts
 count_cuts s way [] = refl
 count_cuts s way (t ∷ ts) = let rest = count_cuts s way ts in omega arith
 
-all_fit : (s : Scheme) (way : Seen → Way) (ts : List Tree) → AllByRecursion (Fit s way) ts
+all_fit : (s : Scheme) (way : Key → Way) (ts : List Tree) → AllByRecursion (Fit s way) ts
     → AllByRecursion IsFull ts → AllByRecursion IsPlainTree ts → AllByRecursion IsSlim ts → Even ts → (v : ℕ)
     → Levels v ts → FitCuts v (honest_cuts s way ts)
 all_fit s way [] all full plain slim even v e = tt
@@ -135,7 +135,7 @@ all_fit s way (t ∷ ts) all full plain slim even v e = (
   all_fit s way ts all.1 full.1 plain.1 slim.1 even.1 v e.1,
 )
 
-leaf_fits : (s : Scheme) (way : Seen → Way) (rs : List Record) → IsFull (tree.Leaf rs)
+leaf_fits : (s : Scheme) (way : Key → Way) (rs : List Record) → IsFull (tree.Leaf rs)
     → IsPlainTree (tree.Leaf rs) → IsSlim (tree.Leaf rs) → (v : ℕ) → level (tree.Leaf rs) ≡ v
     → meets way (tree.Leaf rs) ≡ true
     → FitsCut v (honest_cut s way (tree.Leaf rs))
@@ -150,7 +150,7 @@ leaf_fits s way rs full plain slim v e m =
     } in
     subst (FitsCut v) (sym (honest_met s way (tree.Leaf rs) (node.Leaf rs) (tree.outs-Leaf rs) m)) fine
 
-inner_fits : (s : Scheme) (way : Seen → Way) (ts : List Tree) → AllByRecursion (Fit s way) ts
+inner_fits : (s : Scheme) (way : Key → Way) (ts : List Tree) → AllByRecursion (Fit s way) ts
     → IsFull (tree.Inner ts) → IsPlainTree (tree.Inner ts) → IsSlim (tree.Inner ts)
     → every-Tree HasOneLevel (tree.Inner ts) → (v : ℕ) → level (tree.Inner ts) ≡ v → meets way (tree.Inner ts) ≡ true
     → FitsCut v (honest_cut s way (tree.Inner ts))
@@ -159,14 +159,14 @@ inner_fits s way ts all full plain slim even v e m =
     let few = (here-Inner IsSlimNode ts slim).0 in
     let count = count_cuts s way ts in
     let up = level-Inner ts in
-    let fine : FitsInner v (count_of (honest_cuts s way ts)) =
+    let fine : FitsInner v (number_of_cuts (honest_cuts s way ts)) =
     record { above = omega arith; some = omega arith; few = omega arith } in
     let below = all_fit s way ts all (every_child IsFullNode ts full) (every_child IsPlainNode ts plain)
     (every_child IsSlimNode ts slim) (every_child HasOneLevel ts even) (v - 1) (below_levels v ts even e) in
     subst (FitsCut v) (sym (honest_met s way (tree.Inner ts) (node.Inner ts) (tree.outs-Inner ts) m))
     (fine, below)
 
-honest_fits : (s : Scheme) (way : Seen → Way) → IsSized s.of → (t : Tree) → Fit s way t
+honest_fits : (s : Scheme) (way : Key → Way) → IsSized s.of → (t : Tree) → Fit s way t
 honest_fits s way h = tree_induction (Fit s way)
     (λ full plain slim even v e. absurd (not_full_empty full))
     (λ rs full plain slim even v e. elim (cases_Bool (meets way (tree.Leaf rs))) [
@@ -211,7 +211,7 @@ head_short a t b =
 
 pub root_same : (s : Scheme) → s.version ≡ version → (a : Question) (t : Tree) (b : ℕ) (P : Option Cut)
     → WellFormed t → FitsPart (honest_head a t b) P → IfSome P (λ C. CutOf s C t)
-    → digests.root_bytes s t b ≡ root_bytes s.of (honest_head a t b) P
+    → digests.root_preimage_of s t b ≡ proof_preimage s.of (honest_head a t b) P
 root_same s one a t b None well fit c = λ i. root_preimage (one i) b (fit i) (digests.entry s t)
 root_same s one a t b (Some P) well fit c =
     let own : entry s (level t) P ≡ digests.entry s t = entry_cut s one (level t) P t c well.one_level refl in
@@ -312,7 +312,7 @@ honest_stands s one h a law t b well layers low =
     let p = own_cut s h t b a law well in
     let part = p.fits (plain_tree t layers) in
     let few = p.short in
-    let head : FitsHead (honest_head a t b) = record {
+    let head : FitsProofHead (honest_head a t b) = record {
       batch = low;
       count = well.few;
       radius = radius_fits a (records t) law well.each;
@@ -330,7 +330,7 @@ honest_stands s one h a law t b well layers low =
 -- the honest proof shows its head and cut
 honest_shows : (s : Scheme) → s.version ≡ version → IsSized s.of → (t : Tree) (b : ℕ) (a : Question) → IsLawful a
     → WellFormed t → HasLayers version t → b < 2 ^ 64
-    → Shows s.of (root s t b) a (proof_for s a t b) (honest_said s a t b)
+    → ShowsCut s.of (root s t b) a (proof_for s a t b) (honest_said s a t b)
 honest_shows s one h t b a law well layers low =
     let p = honest_stands s one h a law t b well layers low in
     record { spelled = p.spelled; kind = refl; tight = p.tight; held = p.held }

@@ -24,16 +24,16 @@ use Rattle.mr_proof.specs.declared.want.Want.{Want}
 use Rattle.mr_proof.specs.declared.want.Want.TheVariants as want
 use Rattle.mr_proof.specs.declared.field.Field.{Field}
 use Rattle.mr_proof.specs.declared.field.Field.TheVariants as field
-use Rattle.mr_proof.specs.declared.shown.Shown.{Shown}
+use Rattle.mr_proof.specs.declared.pruned_entry.PrunedEntry.{PrunedEntry}
 use Rattle.mr_proof.specs.Limits.{count_limit, level_limit, place_limit}
 use Rattle.mr_proof.specs.Fields.{size_of, field_of, magic, kind_byte, pruned_tag, leaf_tag, inner_tag, opened_tag, version}
-use Rattle.mr_proof.specs.Cut.{Cut, Cuts, Pruned, Leaf, Inner, no_more, first, count_of}
-use Rattle.mr_proof.specs.Spelling.{shown_bytes, cut_bytes, cuts_bytes, FitsShown, FitsLeaf, FitsInner, FitsCut, FitCuts, radius_bytes, level_bytes, head_bytes, FitsRadius, FitsHead, Said, said, opened_records, part_bytes, FitsPart, IsSpelled}
+use Rattle.mr_proof.specs.Cut.{Cut, Cuts, Pruned, Leaf, Inner, no_more, first, number_of_cuts}
+use Rattle.mr_proof.specs.Spelling.{shown_bytes, cut_bytes, cuts_bytes, FitsShown, FitsLeaf, FitsInner, FitsCut, FitCuts, radius_bytes, level_bytes, head_bytes, FitsRadius, FitsProofHead, Parsed, said, opened_records, part_bytes, FitsPart, IsSpelled}
 use Rattle.mr_proof.specs.declared.way.Way.{Way}
-use Rattle.mr_proof.specs.Tight.{Seen, seen, opens_seen, opens_at, keeps_at, Question, question, IsLawful, IsTightCut, AreTightCuts}
-use Rattle.mr_proof.specs.Accepted.{root_found, Shows, Proves}
+use Rattle.mr_proof.specs.Tight.{Key, key_of, opens_seen, opens_at, keeps_at, Question, question, IsLawful, IsTightCut, AreTightCuts}
+use Rattle.mr_proof.specs.Accepted.{root_found, ShowsCut, ProvesAnswer}
 use Rattle.mr_proof.specs.Grammar.{must, opens, Grammar, done, reads, notes, number_in, wide_in, tag_in, rect_in, bytes_in, payload, one_record, some_records, opened, leaf, some_items, inner, pruned, item, radius, level, head, part, whole}
-use Rattle.mr_proof.specs.Layout.{Stand, start, behind, field_at}
+use Rattle.mr_proof.specs.Layout.{Cursor, start, behind, field_at}
 use Rattle.mr_proof.specs.Refused.{has_other_radius}
 use Rattle.mr_proof.specs.Reading.{walk, ending, checked, verdict}
 use Rattle.mr_proof.proofs.Laws.{radius_stands, is_lawful}
@@ -42,18 +42,19 @@ use Rattle.mr_proof.proofs.Values.{bytes_same, word_long, wide_long, rectangle_l
 use Rattle.mr_proof.proofs.FieldValues.{number_value, batch_value, count_value, level_value, length_value, leaf_count_value, inner_count_value, rect_value, payload_value, digest_value, tag_value, magic_value, version_value, kind_value, flag_value, radius_value}
 
 -- the text is read from the front, and what follows it is read behind it
-pub record Comes {A B : Type 0} (heeds : Bool) (e : A → Stand → Result B Fault) (g k : Grammar A) (s : Stand)
+pub record Comes {A B : Type 0} (heeds : Bool) (e : A → Cursor → Result B Fault) (g k : Grammar A) (s : Cursor)
     (text rest : List ℕ) : Type 0 where
-  pub end : Stand
+  pub end : Cursor
   pub left : end.rest ≡ rest
   pub place : end.at ≡ s.at + length text
   pub same : walk heeds e g s ≡ walk heeds e k end
 
-comes_none : {A B : Type 0} (heeds : Bool) (e : A → Stand → Result B Fault) (g : Grammar A) (s : Stand) (rest : List ℕ)
+comes_none : {A B : Type 0} (heeds : Bool) (e : A → Cursor → Result B Fault) (g : Grammar A) (s : Cursor)
+    (rest : List ℕ)
     → s.rest ≡ rest → Comes heeds e g g s [] rest
 comes_none heeds e g s rest left = record { end = s; left = left; place = omega arith; same = refl }
 
-comes_both : {A B : Type 0} (heeds : Bool) (e : A → Stand → Result B Fault) (g k l : Grammar A) (s : Stand)
+comes_both : {A B : Type 0} (heeds : Bool) (e : A → Cursor → Result B Fault) (g k l : Grammar A) (s : Cursor)
     (x y rest : List ℕ) (p : Comes heeds e g k s x (y ++ rest)) → Comes heeds e k l p.end y rest
     → Comes heeds e g l s (x ++ y) rest
 comes_both heeds e g k l s x y rest p q = record {
@@ -63,13 +64,13 @@ comes_both heeds e g k l s x y rest p q = record {
   same = p.same ∙ q.same;
 }
 
-comes_as : {A B : Type 0} (heeds : Bool) (e : A → Stand → Result B Fault) (g k : Grammar A) (s : Stand)
+comes_as : {A B : Type 0} (heeds : Bool) (e : A → Cursor → Result B Fault) (g k : Grammar A) (s : Cursor)
     (x y rest : List ℕ) → x ≡ y → Comes heeds e g k s x rest → Comes heeds e g k s y rest
 comes_as heeds e g k s x y rest is p = subst (λ (z : List ℕ). Comes heeds e g k s z rest) is p
 
 -- ---- one field
 
-field_again : (w : Want) (s : Stand) (raw rest : List ℕ) (f : Field) → length raw ≡ size_of w → field_of w raw ≡ Ok f
+field_again : (w : Want) (s : Cursor) (raw rest : List ℕ) (f : Field) → length raw ≡ size_of w → field_of w raw ≡ Ok f
     → s.rest ≡ raw ++ rest → s.at + length raw ≤ place_limit
     → field_at w s ≡ Ok (f, behind w s)
 unfolding field_at
@@ -80,8 +81,8 @@ field_again w s raw rest f long value parts within =
     let front : take (size_of w) s.rest ≡ raw = ap (take (size_of w)) parts ∙ take_at raw rest (size_of w) long in
     rw (inside, enough, front, value) refl
 
-reads_again : {A B X : Type 0} (heeds : Bool) (e : A → Stand → Result B Fault) (w : Want) (m : Field → X)
-    (next : X → Grammar A) (s : Stand) (raw rest : List ℕ) (f : Field)
+reads_again : {A B X : Type 0} (heeds : Bool) (e : A → Cursor → Result B Fault) (w : Want) (m : Field → X)
+    (next : X → Grammar A) (s : Cursor) (raw rest : List ℕ) (f : Field)
     → length raw ≡ size_of w → field_of w raw ≡ Ok f → s.rest ≡ raw ++ rest → s.at + length raw ≤ place_limit
     → Comes heeds e (reads w (λ f. next (m f))) (next (m f)) s raw rest
 reads_again heeds e w m next s raw rest f long value parts within = record {
@@ -93,7 +94,7 @@ reads_again heeds e w m next s raw rest f long value parts within = record {
 
 -- ---- records
 
-payload_again : {A B : Type 0} (heeds : Bool) (e : A → Stand → Result B Fault) (next : List ℕ → Grammar A) (s : Stand)
+payload_again : {A B : Type 0} (heeds : Bool) (e : A → Cursor → Result B Fault) (next : List ℕ → Grammar A) (s : Cursor)
     (p rest : List ℕ) → s.rest ≡ p ++ rest → s.at + length p ≤ place_limit
     → Comes heeds e (payload (length p) next) (next p) s p rest
 payload_again heeds e next s [] rest parts within = comes_none heeds e (next []) s rest parts
@@ -104,7 +105,7 @@ payload_again heeds e next s (b ∷ p) rest parts within =
     (reads_again heeds e (want.Payload (length (b ∷ p))) bytes_in next s (b ∷ p) rest (field.Payload (b ∷ p)) refl
     (payload_value (length (b ∷ p)) (b ∷ p)) parts within)
 
-record_again : {A B : Type 0} (heeds : Bool) (e : A → Stand → Result B Fault) (next : Record → Grammar A) (s : Stand)
+record_again : {A B : Type 0} (heeds : Bool) (e : A → Cursor → Result B Fault) (next : Record → Grammar A) (s : Cursor)
     (r : Record) (rest : List ℕ) → IsRecord r → HasLayer version r → s.rest ≡ record_bytes version r ++ rest
     → s.at + length (record_bytes version r) ≤ place_limit
     → Comes heeds e (one_record next) (next r) s (record_bytes version r) rest
@@ -154,9 +155,9 @@ record_again heeds e next s r rest fine low parts within =
     subst is (λ i. record { number = r.number; rect = r.rect; layer = flat i; payload = r.payload })
     (record { end = p.end; left = p.left; place = omega arith; same = n.same ∙ x.same ∙ l.same ∙ p.same })
 
-records_again : {A B : Type 0} (heeds : Bool) (e : A → Stand → Result B Fault) (way : Seen → Way)
+records_again : {A B : Type 0} (heeds : Bool) (e : A → Cursor → Result B Fault) (way : Key → Way)
     (next : List Record → Grammar A)
-    (s : Stand) (rs : List Record) (rest : List ℕ) → AllByRecursion IsPlain rs
+    (s : Cursor) (rs : List Record) (rest : List ℕ) → AllByRecursion IsPlain rs
     → s.rest ≡ flat_map (record_bytes version) rs ++ rest
     → s.at + length (flat_map (record_bytes version) rs) ≤ place_limit
     → Comes heeds e (some_records way (length rs) next) (next rs) s (flat_map (record_bytes version) rs) rest
@@ -185,19 +186,19 @@ records_again heeds e way next s (r ∷ rs) rest fine parts within =
 
 -- ---- items
 
-note_again : {A B : Type 0} (heeds : Bool) (e : A → Stand → Result B Fault) (broken : Rule) (b : Bool) (g : Grammar A)
-    (s : Stand) (rest : List ℕ) → (heeds ≡ true → b ≡ true) → s.rest ≡ rest
+note_again : {A B : Type 0} (heeds : Bool) (e : A → Cursor → Result B Fault) (broken : Rule) (b : Bool) (g : Grammar A)
+    (s : Cursor) (rest : List ℕ) → (heeds ≡ true → b ≡ true) → s.rest ≡ rest
     → Comes heeds e (notes (must broken b) g) g s [] rest
 note_again true e broken true g s rest passed left = record { end = s; left = left; place = omega arith; same = refl }
 note_again true e broken false g s rest passed left = absurd (false≢true (passed refl))
 note_again false e broken b g s rest passed left = record { end = s; left = left; place = omega arith; same = refl }
 
 -- where notes are heeded, the cut is tight
-abbrev Passes : Bool → (Seen → Way) → Cut → Type 0
+abbrev Passes : Bool → (Key → Way) → Cut → Type 0
 Passes heeds way P = heeds ≡ true → IsTightCut way P
 
-leaf_again : {A B : Type 0} (heeds : Bool) (e : A → Stand → Result B Fault) (way : Seen → Way)
-    (next : Cut → Grammar A) (s : Stand) (rs : List Record) (rest : List ℕ) → FitsLeaf 0 rs
+leaf_again : {A B : Type 0} (heeds : Bool) (e : A → Cursor → Result B Fault) (way : Key → Way)
+    (next : Cut → Grammar A) (s : Cursor) (rs : List Record) (rest : List ℕ) → FitsLeaf 0 rs
     → Passes heeds way (Leaf rs)
     → s.rest ≡ tail (Leaf rs) ++ rest → s.at + length (tail (Leaf rs)) ≤ place_limit
     → Comes heeds e (leaf way next) (next (Leaf rs)) s (tail (Leaf rs)) rest
@@ -212,7 +213,7 @@ leaf_again heeds e way next s rs rest fine tight parts within =
     (are_plain rs (recursion_from_All IsRecord rs fine.each)
     (recursion_from_All (HasLayer version) rs fine.layers)) n.left (omega arith) in
     let b = all.place in
-    let met = note_again heeds e rule.Needless (opens_seen way (seen (Leaf rs)))
+    let met = note_again heeds e rule.Needless (opens_seen way (key_of (Leaf rs)))
     (next (Leaf rs)) all.end rest tight all.left in
     let c = met.place in
     record { end = met.end; left = met.left; place = omega arith; same = n.same ∙ all.same ∙ met.same }
@@ -220,8 +221,8 @@ leaf_again heeds e way next s rs rest fine tight parts within =
 is_not : (b : Bool) → b ≡ false → not b ≡ true
 is_not b e = rw e refl
 
-pruned_again : {A B : Type 0} (heeds : Bool) (e : A → Stand → Result B Fault) (way : Seen → Way)
-    (next : Cut → Grammar A) (s : Stand) (x : Shown) (rest : List ℕ) → FitsShown x → Passes heeds way (Pruned x)
+pruned_again : {A B : Type 0} (heeds : Bool) (e : A → Cursor → Result B Fault) (way : Key → Way)
+    (next : Cut → Grammar A) (s : Cursor) (x : PrunedEntry) (rest : List ℕ) → FitsShown x → Passes heeds way (Pruned x)
     → s.rest ≡ shown_bytes x ++ rest → s.at + length (shown_bytes x) ≤ place_limit
     → Comes heeds e (pruned way next) (next (Pruned x)) s (shown_bytes x) rest
 pruned_again heeds e way next s x rest fine missed parts within =
@@ -246,16 +247,16 @@ pruned_again heeds e way next s x rest fine missed parts within =
     record { end = d.end; left = d.left; place = omega arith; same = r.same ∙ n.same ∙ d.same }
 
 -- an item that is spelled, and tight where notes are heeded, is read again
-abbrev ItemsAgain : {A B : Type 0} → Bool → (A → Stand → Result B Fault) → (Seen → Way) → ℕ
+abbrev ItemsAgain : {A B : Type 0} → Bool → (A → Cursor → Result B Fault) → (Key → Way) → ℕ
     → ((Cut → Grammar A) → Grammar A) → Type 0
 ItemsAgain {A} {B} heeds e way v one =
-    (next : Cut → Grammar A) (s : Stand) (P : Cut) (rest : List ℕ) → FitsCut v P → Passes heeds way P
+    (next : Cut → Grammar A) (s : Cursor) (P : Cut) (rest : List ℕ) → FitsCut v P → Passes heeds way P
     → s.rest ≡ cut_bytes P ++ rest → s.at + length (cut_bytes P) ≤ place_limit
     → Comes heeds e (one next) (next P) s (cut_bytes P) rest
 
-items_again : {A B : Type 0} (heeds : Bool) (e : A → Stand → Result B Fault) (way : Seen → Way) (v : ℕ)
+items_again : {A B : Type 0} (heeds : Bool) (e : A → Cursor → Result B Fault) (way : Key → Way) (v : ℕ)
     (one : (Cut → Grammar A) → Grammar A) → ItemsAgain heeds e way v one
-    → (next : Cuts → Grammar A) (s : Stand) (Ps : Cuts) (n : ℕ) (rest : List ℕ) → count_of Ps ≡ n → FitCuts v Ps
+    → (next : Cuts → Grammar A) (s : Cursor) (Ps : Cuts) (n : ℕ) (rest : List ℕ) → number_of_cuts Ps ≡ n → FitCuts v Ps
     → (heeds ≡ true → AreTightCuts way Ps) → s.rest ≡ cuts_bytes Ps ++ rest
     → s.at + length (cuts_bytes Ps) ≤ place_limit
     → Comes heeds e (some_items one n next) (next Ps) s (cuts_bytes Ps) rest
@@ -274,21 +275,22 @@ items_again heeds e way v one again next s (first P Ps) (suc n) rest count fit t
     comes_both heeds e (some_items one (suc n) next) (some_items one n (λ Ps. next (first P Ps))) (next (first P Ps)) s
     (cut_bytes P) (cuts_bytes Ps) rest a b
 
-inner_again : {A B : Type 0} (heeds : Bool) (e : A → Stand → Result B Fault) (way : Seen → Way) (v : ℕ)
+inner_again : {A B : Type 0} (heeds : Bool) (e : A → Cursor → Result B Fault) (way : Key → Way) (v : ℕ)
     (one : (Cut → Grammar A) → Grammar A) → ItemsAgain heeds e way v one
-    → (next : Cut → Grammar A) (s : Stand) (Ps : Cuts) (rest : List ℕ) → FitsInner (suc v) (count_of Ps) → FitCuts v Ps
+    → (next : Cut → Grammar A) (s : Cursor) (Ps : Cuts) (rest : List ℕ) → FitsInner (suc v) (number_of_cuts Ps) →
+    FitCuts v Ps
     → Passes heeds way (Inner Ps)
     → s.rest ≡ tail (Inner Ps) ++ rest → s.at + length (tail (Inner Ps)) ≤ place_limit
     → Comes heeds e (inner way one next) (next (Inner Ps)) s (tail (Inner Ps)) rest
 inner_again heeds e way v one again next s Ps rest fine fit tight parts within =
     let n = reads_again heeds e want.InnerCount number_in (λ n. some_items one n (λ Ps. opened way (Inner Ps) next))
-    s (count_of Ps ∷ []) (cuts_bytes Ps ++ rest) (field.Num (count_of Ps)) refl
-    (inner_count_value (count_of Ps) fine.some fine.few) parts (omega arith) in
+    s (number_of_cuts Ps ∷ []) (cuts_bytes Ps ++ rest) (field.Num (number_of_cuts Ps)) refl
+    (inner_count_value (number_of_cuts Ps) fine.some fine.few) parts (omega arith) in
     let a = n.place in
     let all = items_again heeds e way v one again (λ Ps. opened way (Inner Ps) next) n.end Ps
-    (count_of Ps) rest refl fit (λ h. (tight h).1) n.left (omega arith) in
+    (number_of_cuts Ps) rest refl fit (λ h. (tight h).1) n.left (omega arith) in
     let b = all.place in
-    let met = note_again heeds e rule.Needless (opens_seen way (seen (Inner Ps))) (next (Inner Ps)) all.end rest
+    let met = note_again heeds e rule.Needless (opens_seen way (key_of (Inner Ps))) (next (Inner Ps)) all.end rest
     (λ h. (tight h).0) all.left in
     let c = met.place in
     record { end = met.end; left = met.left; place = omega arith; same = n.same ∙ all.same ∙ met.same }
@@ -296,7 +298,7 @@ inner_again heeds e way v one again next s Ps rest fine fit tight parts within =
 inner_tag_is : (v : ℕ) → inner_tag ≡ opened_tag (suc v)
 inner_tag_is v = rw (eqb-suc-zero v) refl
 
-item_again : {A B : Type 0} (heeds : Bool) (e : A → Stand → Result B Fault) (way : Seen → Way) (v : ℕ)
+item_again : {A B : Type 0} (heeds : Bool) (e : A → Cursor → Result B Fault) (way : Key → Way) (v : ℕ)
     → ItemsAgain heeds e way v (item way v)
 item_again heeds e way zero next s (Pruned x) rest fit tight parts within =
     let t = reads_again heeds e (want.Tag 0) tag_in
@@ -339,8 +341,9 @@ item_again heeds e way (suc v) next s (Inner Ps) rest fit tight parts within =
 
 -- ---- the head
 
-level_by : {A B : Type 0} (heeds : Bool) (e : A → Stand → Result B Fault) (count : ℕ) (none : Bool) → eqb count 0 ≡ none
-    → (next : ℕ → Grammar A) (s : Stand) (l : ℕ) (rest : List ℕ) → l ≤ level_limit → (count ≡ 0 → l ≡ 0)
+level_by : {A B : Type 0} (heeds : Bool) (e : A → Cursor → Result B Fault) (count : ℕ) (none : Bool) → eqb count 0
+    ≡ none
+    → (next : ℕ → Grammar A) (s : Cursor) (l : ℕ) (rest : List ℕ) → l ≤ level_limit → (count ≡ 0 → l ≡ 0)
     → s.rest ≡ level_bytes count l ++ rest → s.at + length (level_bytes count l) ≤ place_limit
     → Comes heeds e (level count next) (next l) s (level_bytes count l) rest
 level_by heeds e count true is next s l rest le empty parts within =
@@ -362,15 +365,15 @@ level_by heeds e count false is next s l rest le empty parts within =
     (reads want.Level (λ l. next (number_in l))) s = rw is refl in
     record { end = x.end; left = x.left; place = omega arith; same = there ∙ x.same }
 
-level_again : {A B : Type 0} (heeds : Bool) (e : A → Stand → Result B Fault) (count : ℕ) (next : ℕ → Grammar A)
-    (s : Stand) (l : ℕ) (rest : List ℕ) → l ≤ level_limit → (count ≡ 0 → l ≡ 0)
+level_again : {A B : Type 0} (heeds : Bool) (e : A → Cursor → Result B Fault) (count : ℕ) (next : ℕ → Grammar A)
+    (s : Cursor) (l : ℕ) (rest : List ℕ) → l ≤ level_limit → (count ≡ 0 → l ≡ 0)
     → s.rest ≡ level_bytes count l ++ rest → s.at + length (level_bytes count l) ≤ place_limit
     → Comes heeds e (level count next) (next l) s (level_bytes count l) rest
 level_again heeds e count next s l rest le empty parts within =
     level_by heeds e count (eqb count 0) refl next s l rest le empty parts within
 
-radius_again : {A B : Type 0} (heeds : Bool) (e : A → Stand → Result B Fault) (k : Kind) (next : Option ℕ → Grammar A)
-    (s : Stand) (r : Option ℕ) (rest : List ℕ) → FitsRadius k r
+radius_again : {A B : Type 0} (heeds : Bool) (e : A → Cursor → Result B Fault) (k : Kind) (next : Option ℕ → Grammar A)
+    (s : Cursor) (r : Option ℕ) (rest : List ℕ) → FitsRadius k r
     → s.rest ≡ radius_bytes k r ++ rest → s.at + length (radius_bytes k r) ≤ place_limit
     → Comes heeds e (radius k next) (next r) s (radius_bytes k r) rest
 radius_again heeds e kind.W next s r rest fits parts within =
@@ -400,7 +403,7 @@ no_value f = tt
 abbrev opening_bytes : Kind → List ℕ
 opening_bytes k = magic ++ version_byte version ∷ kind_byte k ∷ []
 
-opening_again : {A B : Type 0} (heeds : Bool) (e : A → Stand → Result B Fault) (k : Kind) (g : Grammar A) (s : Stand)
+opening_again : {A B : Type 0} (heeds : Bool) (e : A → Cursor → Result B Fault) (k : Kind) (g : Grammar A) (s : Cursor)
     (rest : List ℕ) → s.rest ≡ opening_bytes k ++ rest → s.at + 6 ≤ place_limit
     → Comes heeds e (reads want.Magic (λ _. reads want.Version (λ _. reads (want.Kind k) (λ _. g)))) g s
     (opening_bytes k) rest
@@ -423,8 +426,9 @@ opening_again heeds e k g s rest parts within =
 abbrev last_bytes : Kind → Option ℕ → ℕ → ℕ → List ℕ
 last_bytes k r c l = radius_bytes k r ++ level_bytes c l
 
-last_again : {A B : Type 0} (heeds : Bool) (e : A → Stand → Result B Fault) (k : Kind) (made : Option ℕ → ℕ → Grammar A)
-    (s : Stand) (r : Option ℕ) (c l : ℕ) (rest : List ℕ) → FitsRadius k r → l ≤ level_limit → (c ≡ 0 → l ≡ 0)
+last_again : {A B : Type 0} (heeds : Bool) (e : A → Cursor → Result B Fault) (k : Kind)
+    (made : Option ℕ → ℕ → Grammar A)
+    (s : Cursor) (r : Option ℕ) (c l : ℕ) (rest : List ℕ) → FitsRadius k r → l ≤ level_limit → (c ≡ 0 → l ≡ 0)
     → s.rest ≡ last_bytes k r c l ++ rest → s.at + length (last_bytes k r c l) ≤ place_limit
     → Comes heeds e (radius k (λ r. level c (made r))) (made r l) s (last_bytes k r c l) rest
 last_again heeds e k made s r c l rest fits low empty parts within =
@@ -436,8 +440,8 @@ last_again heeds e k made s r c l rest fits low empty parts within =
     comes_both heeds e (radius k (λ r. level c (made r))) (level c (made r)) (made r l) s (radius_bytes k r)
     (level_bytes c l) rest x y
 
-counts_again : {A B : Type 0} (heeds : Bool) (e : A → Stand → Result B Fault) (k : Kind)
-    (made : ℕ → Option ℕ → ℕ → Grammar A) (s : Stand) (r : Option ℕ) (c l : ℕ) (rest : List ℕ) → c ≤ count_limit
+counts_again : {A B : Type 0} (heeds : Bool) (e : A → Cursor → Result B Fault) (k : Kind)
+    (made : ℕ → Option ℕ → ℕ → Grammar A) (s : Cursor) (r : Option ℕ) (c l : ℕ) (rest : List ℕ) → c ≤ count_limit
     → FitsRadius k r → l ≤ level_limit → (c ≡ 0 → l ≡ 0)
     → s.rest ≡ (to_be_bytes w64 c ++ last_bytes k r c l) ++ rest
     → s.at + (8 + length (last_bytes k r c l)) ≤ place_limit
@@ -456,8 +460,8 @@ counts_again heeds e k made s r c l rest few fits low empty parts within =
 abbrev number_bytes : Kind → Option ℕ → ℕ → ℕ → ℕ → List ℕ
 number_bytes k r b c l = to_be_bytes w64 b ++ (to_be_bytes w64 c ++ last_bytes k r c l)
 
-numbers_again : {A B : Type 0} (heeds : Bool) (e : A → Stand → Result B Fault) (k : Kind)
-    (made : ℕ → ℕ → Option ℕ → ℕ → Grammar A) (s : Stand) (r : Option ℕ) (b c l : ℕ) (rest : List ℕ) → b < 2 ^ 64
+numbers_again : {A B : Type 0} (heeds : Bool) (e : A → Cursor → Result B Fault) (k : Kind)
+    (made : ℕ → ℕ → Option ℕ → ℕ → Grammar A) (s : Cursor) (r : Option ℕ) (b c l : ℕ) (rest : List ℕ) → b < 2 ^ 64
     → c ≤ count_limit → FitsRadius k r → l ≤ level_limit → (c ≡ 0 → l ≡ 0)
     → s.rest ≡ number_bytes k r b c l ++ rest → s.at + (8 + (8 + length (last_bytes k r c l))) ≤ place_limit
     → Comes heeds e (reads want.Batch (λ f. reads want.Count
@@ -491,8 +495,8 @@ head_long h =
       word_long h.count,
     )
 
-head_again : {A B : Type 0} (heeds : Bool) (e : A → Stand → Result B Fault) (next : Head → Grammar A) (s : Stand)
-    (h : Head) (rest : List ℕ) → FitsHead h
+head_again : {A B : Type 0} (heeds : Bool) (e : A → Cursor → Result B Fault) (next : Head → Grammar A) (s : Cursor)
+    (h : Head) (rest : List ℕ) → FitsProofHead h
     → s.rest ≡ head_bytes h ++ rest → s.at + length (head_bytes h) ≤ place_limit
     → Comes heeds e (head h.kind next) (next h) s (head_bytes h) rest
 head_again heeds e next s h rest fine parts within =
@@ -508,8 +512,8 @@ head_again heeds e next s h rest fine parts within =
 
 -- ---- the whole
 
-part_again : {B : Type 0} (heeds : Bool) (e : Said → Stand → Result B Fault) (way : Option ℕ → Seen → Way)
-    (h : Head) (P : Option Cut) (s : Stand) → FitsPart h P → (heeds ≡ true → IfSome P (IsTightCut (way h.radius)))
+part_again : {B : Type 0} (heeds : Bool) (e : Parsed → Cursor → Result B Fault) (way : Option ℕ → Key → Way)
+    (h : Head) (P : Option Cut) (s : Cursor) → FitsPart h P → (heeds ≡ true → IfSome P (IsTightCut (way h.radius)))
     → s.rest ≡ part_bytes P → s.at + length (part_bytes P) ≤ place_limit
     → Comes heeds e (part way h) (done (said h P)) s (part_bytes P) []
 part_again heeds e way h None s fit tight parts within =
@@ -526,7 +530,7 @@ part_again heeds e way h (Some P) s fit tight parts within =
     (parts ∙ sym (append-nil (cut_bytes P))) within)
 
 -- what is spelled, and tight where notes are heeded, is read again, by any ending
-pub whole_again : {B : Type 0} (heeds : Bool) (e : Said → Stand → Result B Fault) (way : Option ℕ → Seen → Way)
+pub whole_again : {B : Type 0} (heeds : Bool) (e : Parsed → Cursor → Result B Fault) (way : Option ℕ → Key → Way)
     (bytes : List ℕ) (h : Head) (P : Option Cut) → IsSpelled h P bytes
     → (heeds ≡ true → IfSome P (IsTightCut (way h.radius)))
     → Comes heeds e (whole h.kind way) (done (said h P)) (start bytes) (head_bytes h ++ part_bytes P) []
@@ -543,7 +547,7 @@ whole_again heeds e way bytes h P spelled tight =
     comes_both heeds e (whole h.kind way) (part way h) (done (said h P)) (start bytes) (head_bytes h)
     (part_bytes P) [] a b
 
-ending_again : (hash : List ℕ → List ℕ) (root : List ℕ) (a : Question) (x : Said) (s : Stand) → s.rest ≡ []
+ending_again : (hash : List ℕ → List ℕ) (root : List ℕ) (a : Question) (x : Parsed) (s : Cursor) → s.rest ≡ []
     → root_found hash x.head x.part ≡ root → has_other_radius a.around x.head.radius (opened_records x.part) ≡ false
     → ending hash root a x s ≡ Ok x
 unfolding ending
@@ -551,8 +555,8 @@ ending_again hash root a x s left same right =
     rw (left, bytes_same (root_found hash x.head x.part) root same, right) refl
 
 -- what bytes show is accepted
-pub checked_from : (hash : List ℕ → List ℕ) (root : List ℕ) (a : Question) (bytes : List ℕ) (y : Said)
-    → IsLawful a → (p : Shows hash root a bytes y) → checked hash root a bytes ≡ Ok y
+pub checked_from : (hash : List ℕ → List ℕ) (root : List ℕ) (a : Question) (bytes : List ℕ) (y : Parsed)
+    → IsLawful a → (p : ShowsCut hash root a bytes y) → checked hash root a bytes ≡ Ok y
 unfolding checked
 checked_from hash root a bytes y law p =
     let x = whole_again true (ending hash root a) a.way bytes y.head y.part p.spelled (λ _. p.tight.parts) in
@@ -562,7 +566,7 @@ checked_from hash root a bytes y law p =
     subst (λ (k : Kind). walk true (ending hash root a) (whole k a.way) (start bytes) ≡ Ok y) p.kind of_kind
 
 pub verdict_from : (hash : List ℕ → List ℕ) (root : List ℕ) (q : Query) (bytes : List ℕ) (answer : List Record)
-    → IsQuery q → Proves hash root q bytes answer → verdict hash root q bytes ≡ Ok answer
+    → IsQuery q → ProvesAnswer hash root q bytes answer → verdict hash root q bytes ≡ Ok answer
 unfolding verdict
 verdict_from hash root q bytes answer is p =
     rw (checked_from hash root (question q) bytes p.said (is_lawful q is) p.shows)

@@ -5,7 +5,7 @@ use Rattle.std.specs.Int.{w64, w128, to_be_bytes, from_be_bytes}
 use Rattle.std.proofs.lemmas.Bool.{eqb-true, ltb-false, leb-true, and_parts, or_cases}
 use Rattle.std.proofs.lemmas.List.{take-append-drop, length-take-le, length-append}
 use Rattle.mr_geom.specs.Rectangle.{Rectangle, IsOrdered, FitsMap}
-use Rattle.mr_record.specs.Bytes.{AreBytes}
+use Rattle.mr_record.specs.private.Bytes.{AreBytes}
 use Rattle.mr_record.specs.Record.{rectangle_bytes}
 use Rattle.mr_record.specs.Version.{version_byte}
 use Rattle.mr_proof.specs.declared.head.Kind.{Kind}
@@ -21,7 +21,7 @@ use Rattle.mr_proof.specs.Fields.{size_of, field_of, only_if, magic, kind_byte, 
 use Rattle.mr_geom.specs.Rectangle.{in_order}
 use Rattle.mr_record.specs.Record.{sides_of}
 use Rattle.mr_proof.specs.Grammar.{Grammar, reads, number_in, wide_in, tag_in, rect_in, bytes_in}
-use Rattle.mr_proof.specs.Layout.{fault, Stand, behind, field_or_fault, field_at}
+use Rattle.mr_proof.specs.Layout.{fault, Cursor, behind, field_or_fault, field_at}
 use Rattle.mr_proof.specs.Reading.{◌>>=◌, walk}
 use Rattle.mr_record.proofs.Encodings.{IsBytes, IsBytes-take, IsBytes-drop, AreBytes-from, word_is, word_below, sides_are, sides_fit}
 use Rattle.mr_geom.proofs.Rectangles.{in_order_is}
@@ -29,16 +29,16 @@ use Rattle.mr_proof.proofs.Values.{single, same_bytes, same_value}
 use Rattle.mr_proof.proofs.Wide.{wide_is}
 
 -- this text was taken from the front, and no field in it ends past the limit
-pub record Took (text : List ℕ) (s t : Stand) : Type 0 where
+pub record Took (text : List ℕ) (s t : Cursor) : Type 0 where
   pub parts : s.rest ≡ text ++ t.rest
   pub place : t.at ≡ s.at + length text
   pub fits : IsBytes t.rest
   pub within : t.at ≤ place_limit
 
-pub took_none : (s : Stand) → IsBytes s.rest → s.at ≤ place_limit → Took [] s s
+pub took_none : (s : Cursor) → IsBytes s.rest → s.at ≤ place_limit → Took [] s s
 took_none s fits within = record { parts = refl; place = omega arith; fits = fits; within = within }
 
-pub took_both : (x y : List ℕ) (s t u : Stand) → Took x s t → Took y t u → Took (x ++ y) s u
+pub took_both : (x y : List ℕ) (s t u : Cursor) → Took x s t → Took y t u → Took (x ++ y) s u
 took_both x y s t u p q = record {
   parts = p.parts ∙ ap (λ (z : List ℕ). x ++ z) q.parts ∙ sym (append_assoc x y u.rest);
   place = omega (arith, p.place, q.place, length-append x y);
@@ -46,31 +46,31 @@ took_both x y s t u p q = record {
   within = q.within;
 }
 
-pub took_as : (x y : List ℕ) (s t : Stand) → x ≡ y → Took x s t → Took y s t
+pub took_as : (x y : List ℕ) (s t : Cursor) → x ≡ y → Took x s t → Took y s t
 took_as x y s t e p = subst (λ (z : List ℕ). Took z s t) e p
 
 -- ---- one field
 
-record TookField (w : Want) (s : Stand) (x : Field × Stand) : Type 0 where
+record TookField (w : Want) (s : Cursor) (x : Field × Cursor) : Type 0 where
   raw : List ℕ
   long : length raw ≡ size_of w
   bytes : IsBytes raw
   value : field_of w raw ≡ Ok x.0
   took : Took raw s x.1
 
-field_or : (w : Want) (s : Stand) (r : Result Field Rule) (x : Field × Stand) → field_or_fault w s r ≡ Ok x
+field_or : (w : Want) (s : Cursor) (r : Result Field Rule) (x : Field × Cursor) → field_or_fault w s r ≡ Ok x
     → (r ≡ Ok x.0) × (x.1 ≡ behind w s)
 field_or w s (Ok v) x e =
     let p = same_value (v, behind w s) x e in
-    (ap (λ (y : Field × Stand). Ok y.0) p, ap (λ (y : Field × Stand). y.1) (sym p))
+    (ap (λ (y : Field × Cursor). Ok y.0) p, ap (λ (y : Field × Cursor). y.1) (sym p))
 field_or w s (Err d) x e = absurd cc
 
-not_err : (b : Bool) (f : Fault) (r : Result (Field × Stand) Fault) (x : Field × Stand) → cond b (Err f) r ≡ Ok x
+not_err : (b : Bool) (f : Fault) (r : Result (Field × Cursor) Fault) (x : Field × Cursor) → cond b (Err f) r ≡ Ok x
     → (b ≡ false) × (r ≡ Ok x)
 not_err true f r x e = absurd cc
 not_err false f r x e = (refl, e)
 
-take_field : (w : Want) (s : Stand) (x : Field × Stand) → IsBytes s.rest → field_at w s ≡ Ok x → TookField w s x
+take_field : (w : Want) (s : Cursor) (x : Field × Cursor) → IsBytes s.rest → field_at w s ≡ Ok x → TookField w s x
 unfolding field_at
 take_field w s x fits e =
     let a = not_err (nat_lt place_limit (s.at + size_of w)) (fault rule.Long s.at)
@@ -93,16 +93,16 @@ take_field w s x fits e =
       long = long;
       bytes = IsBytes-take (size_of w) s.rest fits;
       value = c.0;
-      took = subst (λ (t : Stand). Took (take (size_of w) s.rest) s t) (sym c.1) took;
+      took = subst (λ (t : Cursor). Took (take (size_of w) s.rest) s t) (sym c.1) took;
     }
 
 -- ---- a part and what follows it
 
 -- the part has a value with this fact, of which the text taken is the spelling, and what follows it gives the same
-pub record Taken {A B X : Type 0} (heeds : Bool) (e : A → Stand → Result B Fault) (spell : X → List ℕ)
-    (Good : X → Type 0) (next : X → Grammar A) (s : Stand) (a : B) : Type 0 where
+pub record Taken {A B X : Type 0} (heeds : Bool) (e : A → Cursor → Result B Fault) (spell : X → List ℕ)
+    (Good : X → Type 0) (next : X → Grammar A) (s : Cursor) (a : B) : Type 0 where
   pub value : X
-  pub end : Stand
+  pub end : Cursor
   pub good : Good value
   pub took : Took (spell value) s end
   pub rest : walk heeds e (next value) end ≡ Ok a
@@ -112,11 +112,11 @@ pub behind_step : {A B : Type 0} (r : Result A Fault) (f : A → Result B Fault)
 behind_step (Ok x) f y e = (x, refl, e)
 behind_step (Err d) f y e = absurd cc
 
-pub take_reads : {A B X : Type 0} (heeds : Bool) (e : A → Stand → Result B Fault) (w : Want) (m : Field → X)
+pub take_reads : {A B X : Type 0} (heeds : Bool) (e : A → Cursor → Result B Fault) (w : Want) (m : Field → X)
     (spell : X → List ℕ) (Good : X → Type 0)
     (meant : (raw : List ℕ) (f : Field) → length raw ≡ size_of w → IsBytes raw → field_of w raw ≡ Ok f
     → (raw ≡ spell (m f)) × Good (m f))
-    (next : X → Grammar A) (s : Stand) (a : B) → IsBytes s.rest → walk heeds e (reads w (λ f. next (m f))) s ≡ Ok a
+    (next : X → Grammar A) (s : Cursor) (a : B) → IsBytes s.rest → walk heeds e (reads w (λ f. next (m f))) s ≡ Ok a
     → Taken heeds e spell Good next s a
 take_reads heeds e w m spell Good meant next s a fits is =
     let x = behind_step (field_at w s) (λ x. walk heeds e (next (m x.0)) x.1) a is in

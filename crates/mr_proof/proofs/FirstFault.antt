@@ -19,12 +19,12 @@ use Rattle.mr_proof.specs.declared.field.Field.{Field}
 use Rattle.mr_proof.specs.Limits.{place_limit}
 use Rattle.mr_proof.specs.Fields.{size_of, field_of, pruned_tag}
 use Rattle.mr_proof.specs.Cut.{Cut, Cuts, Pruned, Leaf, Inner, no_more, first}
-use Rattle.mr_proof.specs.Spelling.{Said, said, opened_records}
+use Rattle.mr_proof.specs.Spelling.{Parsed, said, opened_records}
 use Rattle.mr_proof.specs.declared.way.Way.{Way}
-use Rattle.mr_proof.specs.Tight.{Seen, keeps_at, Question, question}
+use Rattle.mr_proof.specs.Tight.{Key, keeps_at, Question, question}
 use Rattle.mr_proof.specs.Accepted.{root_found}
 use Rattle.mr_proof.specs.Grammar.{must, opens, Grammar, done, reads, notes, number_in, tag_in, rect_in, wide_in, bytes_in, payload, one_record, some_records, opened, leaf, some_items, inner, pruned, item, radius, level, head, part, whole}
-use Rattle.mr_proof.specs.Layout.{fault, Stand, start, behind, field_or_fault, field_at}
+use Rattle.mr_proof.specs.Layout.{fault, Cursor, start, behind, field_or_fault, field_at}
 use Rattle.mr_proof.specs.Refused.{rank, Before, IsFirst, with_field, if_fault, faults, has_other_radius, last_faults, all_faults, IsRefused}
 use Rattle.mr_proof.specs.Reading.{◌>>=◌, walk, ending, checked, verdict}
 use Rattle.mr_proof.proofs.Values.{same_value, failed, same_fault}
@@ -59,27 +59,27 @@ front_is_first f fs all = record {
 same_error : {B : Type 0} (f g : Fault) → failed {A = B} f ≡ failed g → f ≡ g
 same_error f g e = cc
 
-behind_of : (w : Want) (s : Stand) (b c : Bool) (r : Result Field Rule) (f g : Fault) (x : Field × Stand)
+behind_of : (w : Want) (s : Cursor) (b c : Bool) (r : Result Field Rule) (f g : Fault) (x : Field × Cursor)
     → cond b (Err f) (cond c (Err g) (field_or_fault w s r)) ≡ Ok x → x.1 ≡ behind w s
 behind_of w s true c r f g x e = absurd cc
 behind_of w s false true r f g x e = absurd cc
-behind_of w s false false (Ok v) f g x e = ap (λ (y : Field × Stand). y.1) (sym (same_value (v, behind w s) x e))
+behind_of w s false false (Ok v) f g x e = ap (λ (y : Field × Cursor). y.1) (sym (same_value (v, behind w s) x e))
 behind_of w s false false (Err d) f g x e = absurd cc
 
-field_behind : (w : Want) (s : Stand) (x : Field × Stand) → field_at w s ≡ Ok x → x.1 ≡ behind w s
+field_behind : (w : Want) (s : Cursor) (x : Field × Cursor) → field_at w s ≡ Ok x → x.1 ≡ behind w s
 unfolding field_at
 field_behind w s x e =
     behind_of w s (nat_lt place_limit (s.at + size_of w)) (nat_lt (length s.rest) (size_of w))
     (field_of w (take (size_of w) s.rest)) (fault rule.Long s.at) (fault rule.Short s.at) x e
 
-place_of : (w : Want) (s : Stand) (b c : Bool) (r : Result Field Rule) (f g h : Fault) → f.at ≡ s.at → g.at ≡ s.at
+place_of : (w : Want) (s : Cursor) (b c : Bool) (r : Result Field Rule) (f g h : Fault) → f.at ≡ s.at → g.at ≡ s.at
     → cond b (Err f) (cond c (Err g) (field_or_fault w s r)) ≡ Err h → h.at ≡ s.at
 place_of w s true c r f g h p q e = ap (λ (y : Fault). y.at) (sym (same_fault f h e)) ∙ p
 place_of w s false true r f g h p q e = ap (λ (y : Fault). y.at) (sym (same_fault g h e)) ∙ q
 place_of w s false false (Ok v) f g h p q e = absurd cc
 place_of w s false false (Err d) f g h p q e = ap (λ (y : Fault). y.at) (sym (same_fault (fault d s.at) h e))
 
-field_place : (w : Want) (s : Stand) (f : Fault) → field_at w s ≡ Err f → f.at ≡ s.at
+field_place : (w : Want) (s : Cursor) (f : Fault) → field_at w s ≡ Err f → f.at ≡ s.at
 unfolding field_at
 field_place w s f e =
     place_of w s (nat_lt place_limit (s.at + size_of w)) (nat_lt (length s.rest) (size_of w))
@@ -113,17 +113,17 @@ sized_any n (notes (must r b) next) h = (h.0, omega arith, h.2)
 sized_any n (notes (opens x met) next) h = sized_any n next h
 
 -- at the next field or behind it, or of a note at the last field, whose rule has this number or a later one
-abbrev Late : ℕ → Stand → Fault → Type 0
+abbrev Late : ℕ → Cursor → Fault → Type 0
 Late n s f = (s.at ≤ f.at) ⊎ ((f.at ≡ s.last) × IsJudged f.rule × (n ≤ rank f.rule))
 
-by_field : (w : Want) (s : Stand) (k : Field → Stand → List Fault) (P : Fault → Type 0)
-    (r : Result (Field × Stand) Fault)
+by_field : (w : Want) (s : Cursor) (k : Field → Cursor → List Fault) (P : Fault → Type 0)
+    (r : Result (Field × Cursor) Fault)
     → field_at w s ≡ r → ((f : Fault) → f.at ≡ s.at → P f) → ((v : Field) → All P (k v (behind w s)))
     → All P (with_field r k)
-by_field w s k P (Ok x) e own rest = subst (λ (t : Stand). All P (k x.0 t)) (sym (field_behind w s x e)) (rest x.0)
+by_field w s k P (Ok x) e own rest = subst (λ (t : Cursor). All P (k x.0 t)) (sym (field_behind w s x e)) (rest x.0)
 by_field w s k P (Err f) e own rest = All-cons P f [] (own f (field_place w s f e)) (All-nil P)
 
-from_late : (w : Want) (s : Stand) (fs : List Fault) → 0 < size_of w → All (Late 0 (behind w s)) fs
+from_late : (w : Want) (s : Cursor) (fs : List Fault) → 0 < size_of w → All (Late 0 (behind w s)) fs
     → All (λ f. s.at ≤ f.at) fs
 from_late w s fs some all = All-weaker (Late 0 (behind w s)) (λ f. s.at ≤ f.at) (λ f l. elim l [
   | inl le ↦ omega arith
@@ -134,14 +134,14 @@ if_fault_all : (P : Fault → Type 0) (b : Bool) (f : Fault) → P f → All P (
 if_fault_all P true f h = All-cons P f [] h (All-nil P)
 if_fault_all P false f h = All-nil P
 
-late_from : (n m : ℕ) (s : Stand) (fs : List Fault) → n ≤ m → All (Late m s) fs → All (Late n s) fs
+late_from : (n m : ℕ) (s : Cursor) (fs : List Fault) → n ≤ m → All (Late m s) fs → All (Late n s) fs
 late_from n m s fs le all = All-weaker (Late m s) (Late n s) (λ f l. elim l [
   | inl p ↦ inl p
   | inr e ↦ let more : m ≤ rank f.rule = e.2 in inr (e.0, e.1, omega arith)
 ]) fs all
 
-late : {A : Type 0} (final : A → Stand → List Fault) (last : (x : A) (s : Stand) → All (λ f. s.at ≤ f.at) (final x s))
-    (n : ℕ) (g : Grammar A) → Sized n g → (s : Stand) → s.last < s.at → All (Late n s) (faults final g s)
+late : {A : Type 0} (final : A → Cursor → List Fault) (last : (x : A) (s : Cursor) → All (λ f. s.at ≤ f.at) (final x s))
+    (n : ℕ) (g : Grammar A) → Sized n g → (s : Cursor) → s.last < s.at → All (Late n s) (faults final g s)
 late final last n (done x) sized s lt = All-weaker (λ f. s.at ≤ f.at) (Late n s) (λ f le. inl le) (final x s) (last x s)
 late final last n (reads w next) sized s lt =
     All-weaker (λ f. s.at ≤ f.at) (Late n s) (λ f le. inl le) _
@@ -162,15 +162,17 @@ abbrev Agrees : {B : Type 0} → Result B Fault → List Fault → Type 0
 Agrees (Ok x) fs = fs ≡ []
 Agrees (Err f) fs = IsFirst f fs
 
-agree_field : {B : Type 0} (w : Want) (s : Stand) (e : Field → Stand → Result B Fault) (k : Field → Stand → List Fault)
-    (r : Result (Field × Stand) Fault) → field_at w s ≡ r → ((v : Field) → Agrees (e v (behind w s)) (k v (behind w s)))
+agree_field : {B : Type 0} (w : Want) (s : Cursor) (e : Field → Cursor → Result B Fault)
+    (k : Field → Cursor → List Fault)
+    (r : Result (Field × Cursor) Fault) → field_at w s ≡ r →
+    ((v : Field) → Agrees (e v (behind w s)) (k v (behind w s)))
     → Agrees (r >>= λ x. e x.0 x.1) (with_field r k)
 agree_field w s e k (Ok x) is rest =
-    subst (λ (t : Stand). Agrees (e x.0 t) (k x.0 t)) (sym (field_behind w s x is)) (rest x.0)
+    subst (λ (t : Cursor). Agrees (e x.0 t) (k x.0 t)) (sym (field_behind w s x is)) (rest x.0)
 agree_field w s e k (Err f) is rest = front_is_first f [] (All-nil (λ x. (x ≡ f) ⊎ Before f x))
 
 -- a broken note goes before all that is found behind it
-note_first : (r : Rule) (s : Stand) (f : Fault) → IsJudged r → s.last < s.at → Late (rank r) s f
+note_first : (r : Rule) (s : Cursor) (f : Fault) → IsJudged r → s.last < s.at → Late (rank r) s f
     → (f ≡ fault r s.last) ⊎ Before (fault r s.last) f
 note_first r s f judged lt (inl le) = inr (inl (omega arith))
 note_first r s f judged lt (inr e) = elim (cases_lt (rank r) (rank f.rule)) [
@@ -181,10 +183,10 @@ note_first r s f judged lt (inr e) = elim (cases_lt (rank r) (rank f.rule)) [
       inl (λ i. record { rule = same i; at = e.0 i })
 ]
 
-agree : {A B : Type 0} (e : A → Stand → Result B Fault) (final : A → Stand → List Fault)
-    (ends : (x : A) (s : Stand) → Agrees (e x s) (final x s))
-    (last : (x : A) (s : Stand) → All (λ f. s.at ≤ f.at) (final x s)) (n : ℕ) (g : Grammar A) → Sized n g
-    → (s : Stand) → s.last < s.at → Agrees (walk true e g s) (faults final g s)
+agree : {A B : Type 0} (e : A → Cursor → Result B Fault) (final : A → Cursor → List Fault)
+    (ends : (x : A) (s : Cursor) → Agrees (e x s) (final x s))
+    (last : (x : A) (s : Cursor) → All (λ f. s.at ≤ f.at) (final x s)) (n : ℕ) (g : Grammar A) → Sized n g
+    → (s : Cursor) → s.last < s.at → Agrees (walk true e g s) (faults final g s)
 agree e final ends last n (done x) sized s lt = ends x s
 agree e final ends last n (reads w next) sized s lt =
     agree_field w s (λ v t. walk true e (next v) t) (λ v t. faults final (next v) t) (field_at w s) refl
@@ -220,7 +222,7 @@ ends_by false false true t w r x tw tr wr =
     front_is_first w (r ∷ []) (All-cons (λ x. (x ≡ w) ⊎ Before w x) r [] (inr wr) (All-nil (λ x. (x ≡ w) ⊎ Before w x)))
 ends_by false false false t w r x tw tr wr = front_is_first w [] (All-nil (λ x. (x ≡ w) ⊎ Before w x))
 
-ending_agrees : (hash : List ℕ → List ℕ) (root : List ℕ) (a : Question) (x : Said) (s : Stand)
+ending_agrees : (hash : List ℕ → List ℕ) (root : List ℕ) (a : Question) (x : Parsed) (s : Cursor)
     → Agrees (ending hash root a x s) (last_faults hash root a x s)
 unfolding ending
 ending_agrees hash root a x s =
@@ -232,7 +234,7 @@ ending_agrees hash root a x s =
     (λ t. let some : 0 < length s.rest = ltb-true 0 (length s.rest) t in inl (omega arith))
     (inr (refl, omega arith))
 
-ending_late : (hash : List ℕ → List ℕ) (root : List ℕ) (a : Question) (x : Said) (s : Stand)
+ending_late : (hash : List ℕ → List ℕ) (root : List ℕ) (a : Question) (x : Parsed) (s : Cursor)
     → All (λ f. s.at ≤ f.at) (last_faults hash root a x s)
 ending_late hash root a x s =
     All-append (λ f. s.at ≤ f.at) _ _
@@ -268,7 +270,7 @@ sized_record m next h = (
   ),
 )
 
-sized_records : {A : Type 0} (way : Seen → Way) (n : ℕ) (next : List Record → Grammar A) →
+sized_records : {A : Type 0} (way : Key → Way) (n : ℕ) (next : List Record → Grammar A) →
     ((rs : List Record) → Sized 0 (next rs))
     → Sized 0 (some_records way n next)
 sized_records way zero next h = h []
@@ -280,14 +282,14 @@ sized_records way (suc n) next h =
 abbrev Follows : {A : Type 0} {X : Type 0} → (X → Grammar A) → Type 0
 Follows {A} {X} next = (x : X) → Sized 14 (next x)
 
-sized_leaf : {A : Type 0} (way : Seen → Way) (next : Cut → Grammar A) → Follows next → Sized 0 (leaf way next)
+sized_leaf : {A : Type 0} (way : Key → Way) (next : Cut → Grammar A) → Follows next → Sized 0 (leaf way next)
 sized_leaf way next h = (
   omega arith,
   λ n. sized_records way (number_in n) (λ rs. opened way (Leaf rs) next)
       (λ rs. (inr refl, omega arith, h (Leaf rs))),
 )
 
-sized_pruned : {A : Type 0} (way : Seen → Way) (next : Cut → Grammar A) → Follows next
+sized_pruned : {A : Type 0} (way : Key → Way) (next : Cut → Grammar A) → Follows next
     → Sized 0 (pruned way next)
 sized_pruned way next h = (
   omega arith,
@@ -314,7 +316,7 @@ sized_choice : {A : Type 0} (n : ℕ) (b : Bool) (g k : Grammar A) → Sized n g
 sized_choice n true g k p q = p
 sized_choice n false g k p q = q
 
-sized_item : {A : Type 0} (way : Seen → Way) (v n : ℕ) (next : Cut → Grammar A) → Follows next
+sized_item : {A : Type 0} (way : Key → Way) (v n : ℕ) (next : Cut → Grammar A) → Follows next
     → Sized n (item way v next)
 sized_item way zero n next h = (
   omega arith,
@@ -372,7 +374,7 @@ sized_head k next h = (
   ),
 )
 
-pub sized_whole : (k : Kind) (way : Option ℕ → Seen → Way) → Sized 0 (whole k way)
+pub sized_whole : (k : Kind) (way : Option ℕ → Key → Way) → Sized 0 (whole k way)
 sized_whole k way =
     sized_head k (part way) (λ h.
     sized_choice 0 (h.count == 0) (done (said h None)) (item (way h.radius) h.level (λ P. done (said h (Some P)))) tt
@@ -386,10 +388,10 @@ Begins (done x) = ⊥
 Begins (reads w next) = Unit {0}
 Begins (notes n next) = ⊥
 
-agree_first : {A B : Type 0} (e : A → Stand → Result B Fault) (final : A → Stand → List Fault)
-    (ends : (x : A) (s : Stand) → Agrees (e x s) (final x s))
-    (last : (x : A) (s : Stand) → All (λ f. s.at ≤ f.at) (final x s)) (g : Grammar A) → Sized 0 g → Begins g
-    → (s : Stand) → s.last ≤ s.at → Agrees (walk true e g s) (faults final g s)
+agree_first : {A B : Type 0} (e : A → Cursor → Result B Fault) (final : A → Cursor → List Fault)
+    (ends : (x : A) (s : Cursor) → Agrees (e x s) (final x s))
+    (last : (x : A) (s : Cursor) → All (λ f. s.at ≤ f.at) (final x s)) (g : Grammar A) → Sized 0 g → Begins g
+    → (s : Cursor) → s.last ≤ s.at → Agrees (walk true e g s) (faults final g s)
 agree_first e final ends last (done x) sized begins s le = absurd begins
 agree_first e final ends last (reads w next) sized begins s le =
     agree_field w s (λ v t. walk true e (next v) t) (λ v t. faults final (next v) t) (field_at w s) refl

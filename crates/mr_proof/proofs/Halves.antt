@@ -5,7 +5,7 @@ use Rattle.mr_query.specs.Word.{IsQuery}
 use Rattle.mr_query.specs.declared.query.Query.{Query}
 use Rattle.mr_proof.specs.declared.rule.Fault.{Fault}
 use Rattle.mr_proof.specs.Tight.{Question, IsLawful, question}
-use Rattle.mr_proof.specs.Accepted.{Proves}
+use Rattle.mr_proof.specs.Accepted.{ProvesAnswer}
 use Rattle.mr_proof.specs.Refused.{IsRefused}
 use Rattle.mr_proof.specs.Reading.{verdict}
 use Rattle.mr_proof.specs.Halves.{ShowsJust, AcceptsJust, OneHalf}
@@ -26,7 +26,7 @@ accepts_just hash root q bytes may fits =
 
 either : (hash : List ℕ → List ℕ) (root : List ℕ) (q : Query) (bytes : List ℕ) → IsQuery q
     → IsBytes bytes → (r : Result (List Record) Fault) → verdict hash root q bytes ≡ r
-    → ((answer : List Record) × Proves hash root q bytes answer) ⊎ ((f : Fault)
+    → ((answer : List Record) × ProvesAnswer hash root q bytes answer) ⊎ ((f : Fault)
     × IsRefused hash root (question q) bytes f)
 either hash root q bytes may fits (Ok answer) e = inl (answer, proves_from hash root q bytes answer may fits e)
 either hash root q bytes may fits (Err f) e = inr (f, (refuses_just hash root q bytes f).0 e)

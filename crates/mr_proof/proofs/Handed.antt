@@ -17,18 +17,18 @@ use Rattle.mr_proof.specs.declared.way.Way.{Way}
 use Rattle.mr_proof.specs.Limits.{place_limit}
 use Rattle.mr_proof.specs.Fields.{size_of, pruned_tag}
 use Rattle.mr_proof.specs.Cut.{Cut, Cuts, Pruned, Leaf, Inner, no_more, first, records, all_records}
-use Rattle.mr_proof.specs.Spelling.{Said, said, opened_records, IsSpelled}
-use Rattle.mr_proof.specs.Tight.{Seen, keeps_at, Question, IsTightCut}
+use Rattle.mr_proof.specs.Spelling.{Parsed, said, opened_records, IsSpelled}
+use Rattle.mr_proof.specs.Tight.{Key, keeps_at, Question, IsTightCut}
 use Rattle.mr_proof.specs.Grammar.{must, opens, Grammar, done, reads, notes, number_in, wide_in, tag_in, rect_in, bytes_in, payload, one_record, some_records, opened, leaf, some_items, inner, pruned, item, radius, level, head, part, whole}
-use Rattle.mr_proof.specs.Layout.{fault, Stand, start, field_at}
+use Rattle.mr_proof.specs.Layout.{fault, Cursor, start, field_at}
 use Rattle.mr_proof.specs.Reading.{◌>>=◌, walk}
 use Rattle.mr_proof.specs.Handed.{is_fixed, if_read, if_handed, handed, handed_out}
-use Rattle.mr_proof.specs.Feeding.{IsFront, kept_records, HandsOpened}
+use Rattle.mr_proof.specs.Feeding.{IsFrontOfRecords, kept_records, HandsOpened}
 use Rattle.mr_proof.proofs.Values.{same_value}
 use Rattle.mr_proof.proofs.Completeness.{whole_again}
 
 -- the records on the way to the last field that are not left out, whatever the notes say is broken
-abbrev kept : {A : Type 0} → Grammar A → Stand → List Record
+abbrev kept : {A : Type 0} → Grammar A → Cursor → List Record
 kept (done x) s = []
 kept (reads w next) s = if_read (field_at w s) (λ x. kept (next x.0) x.1)
 kept (notes (must r passes) next) s = kept next s
@@ -36,7 +36,7 @@ kept (notes (opens r met) next) s = if_handed met r (kept next s)
 
 -- ---- those handed out are the first of them
 
-past_limit : (w : Want) (s : Stand) → nat_lt place_limit (s.at + size_of w) ≡ true
+past_limit : (w : Want) (s : Cursor) → nat_lt place_limit (s.at + size_of w) ≡ true
     → field_at w s ≡ Err (fault rule.Long s.at)
 unfolding field_at
 past_limit w s e = rw e refl
@@ -47,7 +47,7 @@ not_handed false true r rs e none = none
 not_handed met false r rs e none = absurd (false≢true e)
 
 -- where a fault is fixed, none is handed out any more
-none_behind : {A : Type 0} (g : Grammar A) (s : Stand) → is_fixed g s.at ≡ true → handed g s ≡ []
+none_behind : {A : Type 0} (g : Grammar A) (s : Cursor) → is_fixed g s.at ≡ true → handed g s ≡ []
 none_behind (done x) s e = refl
 none_behind (reads w next) s e = rw (past_limit w s e) refl
 none_behind (notes (must r true) next) s e = none_behind next s e
@@ -55,19 +55,19 @@ none_behind (notes (must r false) next) s e = refl
 none_behind (notes (opens r met) next) s e =
     not_handed met (is_fixed next s.at) r (handed next s) e (none_behind next s e)
 
-front_read : (r : Result (Field × Stand) Fault) (h k : Field × Stand → List Record)
-    → ((x : Field × Stand) → IsFront (h x) (k x)) → IsFront (if_read r h) (if_read r k)
+front_read : (r : Result (Field × Cursor) Fault) (h k : Field × Cursor → List Record)
+    → ((x : Field × Cursor) → IsFrontOfRecords (h x) (k x)) → IsFrontOfRecords (if_read r h) (if_read r k)
 front_read (Ok x) h k each = each x
 front_read (Err f) h k each = ([], refl)
 
-front_opens : (met b : Bool) (r : Record) (hs ks : List Record) → (b ≡ true → hs ≡ []) → IsFront hs ks
-    → IsFront (if_handed (met && not b) r hs) (if_handed met r ks)
+front_opens : (met b : Bool) (r : Record) (hs ks : List Record) → (b ≡ true → hs ≡ []) → IsFrontOfRecords hs ks
+    → IsFrontOfRecords (if_handed (met && not b) r hs) (if_handed met r ks)
 front_opens true true r hs ks none p = (r ∷ ks, ap (λ (z : List Record). z ++ r ∷ ks) (sym (none refl)))
 front_opens true false r hs ks none p = (p.0, ap (λ (z : List Record). r ∷ z) p.1)
 front_opens false true r hs ks none p = p
 front_opens false false r hs ks none p = p
 
-front : {A : Type 0} (g : Grammar A) (s : Stand) → IsFront (handed g s) (kept g s)
+front : {A : Type 0} (g : Grammar A) (s : Cursor) → IsFrontOfRecords (handed g s) (kept g s)
 front (done x) s = ([], refl)
 front (reads w next) s =
     front_read (field_at w s) (λ x. handed (next x.0) x.1) (λ x. kept (next x.0) x.1) (λ x. front (next x.0) x.1)
@@ -79,7 +79,7 @@ front (notes (opens r met) next) s =
 -- ---- and all of them, where no note says that a rule is broken
 
 -- what is read up to the last field
-abbrev reached : {A : Type 0} → A → Stand → Result A Fault
+abbrev reached : {A : Type 0} → A → Cursor → Result A Fault
 reached x s = Ok x
 
 abbrev read_well : {A : Type 0} → A → Result A Fault
@@ -91,16 +91,16 @@ read_badly f = Err f
 well_or_badly : {A : Type 0} (x : A) (f : Fault) → read_well x ≡ read_badly f → ⊥
 well_or_badly x f e = cc
 
-within_limit : (w : Want) (s : Stand) (x : Field × Stand) → field_at w s ≡ Ok x
+within_limit : (w : Want) (s : Cursor) (x : Field × Cursor) → field_at w s ≡ Ok x
     → nat_lt place_limit (s.at + size_of w) ≡ false
 within_limit w s x is = elim (cases_Bool (nat_lt place_limit (s.at + size_of w))) [
   | inl t ↦ absurd (well_or_badly x (fault rule.Long s.at) (sym is ∙ past_limit w s t))
   | inr f ↦ f
 ]
 
-all_read : {A : Type 0} (w : Want) (s : Stand) (next : Field → Grammar A) (y : A) (r : Result (Field × Stand) Fault)
+all_read : {A : Type 0} (w : Want) (s : Cursor) (next : Field → Grammar A) (y : A) (r : Result (Field × Cursor) Fault)
     → field_at w s ≡ r
-    → ((v : Field) (t : Stand) → walk true reached (next v) t ≡ Ok y → handed (next v) t ≡ kept (next v) t)
+    → ((v : Field) (t : Cursor) → walk true reached (next v) t ≡ Ok y → handed (next v) t ≡ kept (next v) t)
     → (r >>= λ x. walk true reached (next x.0) x.1) ≡ Ok y
     → (nat_lt place_limit (s.at + size_of w) ≡ false)
     × (if_read r (λ x. handed (next x.0) x.1) ≡ if_read r (λ x. kept (next x.0) x.1))
@@ -113,7 +113,7 @@ all_opens true true r hs ks e same = absurd (false≢true (sym e))
 all_opens true false r hs ks e same = ap (λ (z : List Record). r ∷ z) same
 all_opens false b r hs ks e same = same
 
-all_out : {A : Type 0} (g : Grammar A) (s : Stand) (y : A) → walk true reached g s ≡ Ok y
+all_out : {A : Type 0} (g : Grammar A) (s : Cursor) (y : A) → walk true reached g s ≡ Ok y
     → (is_fixed g s.at ≡ false) × (handed g s ≡ kept g s)
 all_out (done x) s y e = (refl, refl)
 all_out (reads w next) s y e =
@@ -138,13 +138,13 @@ one_more true before r rs = append_assoc before (r ∷ []) rs
 one_more false before r rs = ap (λ (z : List Record). z ++ rs) (append-nil before)
 
 kept_read : {A : Type 0} (Q : A → List Record → Type 0) (before : List Record) (next : Field → Grammar A) (y : A)
-    (r : Result (Field × Stand) Fault)
-    → ((v : Field) (t : Stand) → walk false reached (next v) t ≡ Ok y → Q y (before ++ kept (next v) t))
+    (r : Result (Field × Cursor) Fault)
+    → ((v : Field) (t : Cursor) → walk false reached (next v) t ≡ Ok y → Q y (before ++ kept (next v) t))
     → (r >>= λ x. walk false reached (next x.0) x.1) ≡ Ok y → Q y (before ++ if_read r (λ x. kept (next x.0) x.1))
 kept_read Q before next y (Ok x) each e = each x.0 x.1 e
 kept_read Q before next y (Err f) each e = absurd (well_or_badly y f (sym e))
 
-kept_ends : {A : Type 0} (Q : A → List Record → Type 0) (before : List Record) (g : Grammar A) (s : Stand) (y : A)
+kept_ends : {A : Type 0} (Q : A → List Record → Type 0) (before : List Record) (g : Grammar A) (s : Cursor) (y : A)
     → Ends Q before g → walk false reached g s ≡ Ok y → Q y (before ++ kept g s)
 kept_ends Q before (done x) s y ends e =
     subst (λ z. Q z (before ++ [])) (same_value x y e) (subst (Q x) (sym (append-nil before)) ends)
@@ -156,7 +156,7 @@ kept_ends Q before (notes (opens r met) next) s y ends e =
     (kept_ends Q (before ++ if_handed met r []) next s y ends e)
 
 -- the records that are not left out
-abbrev out : (Seen → Way) → List Record → List Record
+abbrev out : (Key → Way) → List Record → List Record
 out way rs = filter (λ (r : Record). keeps_at way r.rect) rs
 
 module _ {A : Type 0} (Q : A → List Record → Type 0) where
@@ -177,7 +177,7 @@ module _ {A : Type 0} (Q : A → List Record → Type 0) where
       (λ p. next (record { number = number_in n; rect = rect_in r; layer = 0; payload = p }))
       (λ p. h (record { number = number_in n; rect = rect_in r; layer = 0; payload = p }))
 
-  ends_records : (before : List Record) (way : Seen → Way) (n : ℕ) (next : List Record → Grammar A)
+  ends_records : (before : List Record) (way : Key → Way) (n : ℕ) (next : List Record → Grammar A)
       → ((rs : List Record) → Ends Q (before ++ out way rs) (next rs)) → Ends Q before (some_records way n next)
   ends_records before way zero next h = none_more before (next []) (h [])
   ends_records before way (suc n) next h =
@@ -187,27 +187,27 @@ module _ {A : Type 0} (Q : A → List Record → Type 0) where
       (sym (one_more (keeps_at way r.rect) before r (out way rs))) (h (r ∷ rs))))
 
   -- what follows a cut, with its records
-  abbrev Behind : (Seen → Way) → List Record → (Cut → Grammar A) → Type 0
+  abbrev Behind : (Key → Way) → List Record → (Cut → Grammar A) → Type 0
   Behind way before next = (P : Cut) → Ends Q (before ++ out way (records P)) (next P)
 
-  ends_leaf : (before : List Record) (way : Seen → Way) (next : Cut → Grammar A) → Behind way before next
+  ends_leaf : (before : List Record) (way : Key → Way) (next : Cut → Grammar A) → Behind way before next
       → Ends Q before (leaf way next)
   ends_leaf before way next h = λ n.
       ends_records before way (number_in n) (λ rs. opened way (Leaf rs) next) (λ rs. h (Leaf rs))
 
-  ends_pruned : (before : List Record) (way : Seen → Way) (next : Cut → Grammar A) → Behind way before next
+  ends_pruned : (before : List Record) (way : Key → Way) (next : Cut → Grammar A) → Behind way before next
       → Ends Q before (pruned way next)
   ends_pruned before way next h = λ r d.
       none_more before (next (Pruned (record { rect = rect_in r; digest = bytes_in d })))
       (h (Pruned (record { rect = rect_in r; digest = bytes_in d })))
 
-  two_parts : (before : List Record) (way : Seen → Way) (xs ys : List Record)
+  two_parts : (before : List Record) (way : Key → Way) (xs ys : List Record)
       → before ++ out way (xs ++ ys) ≡ (before ++ out way xs) ++ out way ys
   two_parts before way xs ys =
       ap (λ (z : List Record). before ++ z) (filter-append (λ (r : Record). keeps_at way r.rect) xs ys)
       ∙ sym (append_assoc before (out way xs) (out way ys))
 
-  ends_items : (way : Seen → Way) (one : (Cut → Grammar A) → Grammar A)
+  ends_items : (way : Key → Way) (one : (Cut → Grammar A) → Grammar A)
       → ((before : List Record) (next : Cut → Grammar A) → Behind way before next → Ends Q before (one next))
       → (before : List Record) (n : ℕ) (next : Cuts → Grammar A)
       → ((Ps : Cuts) → Ends Q (before ++ out way (all_records Ps)) (next Ps))
@@ -224,7 +224,7 @@ module _ {A : Type 0} (Q : A → List Record → Type 0) where
   ends_choice before true g k p q = p
   ends_choice before false g k p q = q
 
-  ends_item : (way : Seen → Way) (v : ℕ) (before : List Record) (next : Cut → Grammar A)
+  ends_item : (way : Key → Way) (v : ℕ) (before : List Record) (next : Cut → Grammar A)
       → Behind way before next → Ends Q before (item way v next)
   ends_item way zero before next h = λ t.
       ends_choice before (tag_in t == pruned_tag) (pruned way next) (leaf way next)
@@ -261,10 +261,10 @@ module _ {A : Type 0} (Q : A → List Record → Type 0) where
 -- ---- the whole
 
 -- these are the records of the cut that are not left out
-abbrev AreKept : (Option ℕ → Seen → Way) → Said → List Record → Type 0
+abbrev AreKept : (Option ℕ → Key → Way) → Parsed → List Record → Type 0
 AreKept way x rs = rs ≡ out (way x.head.radius) (opened_records x.part)
 
-ends_whole : (k : Kind) (way : Option ℕ → Seen → Way) → Ends (AreKept way) [] (whole k way)
+ends_whole : (k : Kind) (way : Option ℕ → Key → Way) → Ends (AreKept way) [] (whole k way)
 ends_whole k way =
     ends_head (AreKept way) [] k (part way) (λ h.
     ends_choice (AreKept way) [] (h.count == 0) (done (said h None))
@@ -289,7 +289,7 @@ pub hands_opened : (a : Question) (bytes : List ℕ) → HandsOpened a bytes
 unfolding handed_out
 hands_opened a bytes = record {
   front = λ h P k spelled.
-      subst (IsFront (handed (whole a.kind a.way) (start bytes))) (kept_spelled a bytes h P k spelled)
+      subst (IsFrontOfRecords (handed (whole a.kind a.way) (start bytes))) (kept_spelled a bytes h P k spelled)
       (front (whole a.kind a.way) (start bytes));
   tight = λ h P k spelled tight.
       (all_out (whole a.kind a.way) (start bytes) (said h P) (read_spelled true a bytes h P k spelled (λ e. tight))).1

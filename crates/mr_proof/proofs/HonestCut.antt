@@ -20,13 +20,13 @@ use Rattle.mr_tree.proofs.Equations.{rect-Inner}
 use Rattle.mr_geom.specs.Rectangle.{union_of}
 use Rattle.mr_proof.specs.Cut.{Cut, Cuts, Pruned, Leaf, Inner, no_more, first, shown_with, pruned_if, pruned_cut, cuts_of, rect, rects, CutOf, CutsOf}
 use Rattle.mr_proof.specs.declared.way.Way.{Way}
-use Rattle.mr_proof.specs.Tight.{Seen, seen_at, opens_seen, Question, IsTightCut, AreTightCuts}
+use Rattle.mr_proof.specs.Tight.{Key, key_at, opens_seen, Question, IsTightCut, AreTightCuts}
 use Rattle.mr_proof.specs.Honest.{Part, entry_over, opened_cut, opened_if_met, part_step, part, ways_of, honest_cut, honest_part}
 use Rattle.mr_proof.proofs.Full.{IsFull, IsFullNode, there_tree, not_full_empty}
 
 -- whether the tree is to be opened
-abbrev pub meets : (Seen → Way) → Tree → Bool
-meets way t = opens_seen way (option_map seen_at (trees.rect t))
+abbrev pub meets : (Key → Way) → Tree → Bool
+meets way t = opens_seen way (option_map key_at (trees.rect t))
 
 -- ---- a cut of a tree has the tree's rectangle
 
@@ -45,17 +45,17 @@ mutual
 
 -- ---- the honest cut, opened or pruned
 
-part_out : (s : Scheme) (way : Seen → Way) (t : Tree)
+part_out : (s : Scheme) (way : Key → Way) (t : Tree)
     → part s way t ≡ part_step s way (map-Tree Tree Part (part s way) (out-Tree t))
 part_out s way t = fold_out-Tree Part (part_step s way) t
 
-entries_same : (s : Scheme) (way : Seen → Way) (ts : List Tree)
+entries_same : (s : Scheme) (way : Key → Way) (ts : List Tree)
     → AllByRecursion (λ t. (part s way t).entry ≡ entry s t) ts
     → map (λ (p : Part). p.entry) (map (part s way) ts) ≡ map (entry s) ts
 entries_same s way [] all = refl
 entries_same s way (t ∷ ts) all = λ i. all.0 i ∷ entries_same s way ts all.1 i
 
-entry_out : (s : Scheme) (way : Seen → Way) (t : Tree) (x : Tree-F Tree) → out-Tree t ≡ x
+entry_out : (s : Scheme) (way : Key → Way) (t : Tree) (x : Tree-F Tree) → out-Tree t ≡ x
     → (part s way t).entry ≡ entry_over s (map-Tree Tree Part (part s way) x)
 entry_out s way t x e =
     ap (λ (p : Part). p.entry) (part_out s way t)
@@ -67,7 +67,7 @@ known_out s t x e =
     fold_out-Tree Entry (entry_step s) t
     ∙ ap (λ (y : Tree-F Tree). entry_step s (map-Tree Tree Entry (entry s) y)) e
 
-pub entry_same : (s : Scheme) (way : Seen → Way) (t : Tree)
+pub entry_same : (s : Scheme) (way : Key → Way) (t : Tree)
     → (part s way t).entry ≡ entry s t
 entry_same s way = tree_induction (λ t. (part s way t).entry ≡ entry s t)
     (entry_out s way tree.Empty node.Empty tree.outs-Empty
@@ -79,14 +79,14 @@ entry_same s way = tree_induction (λ t. (part s way t).entry ≡ entry s t)
     ∙ sym (known_out s (tree.Inner ts) (node.Inner ts) (tree.outs-Inner ts)))
 
 -- the tree opened, over the honest cuts of its children
-abbrev pub open_at : Scheme → (Seen → Way) → Tree-F Tree → Cut
+abbrev pub open_at : Scheme → (Key → Way) → Tree-F Tree → Cut
 open_at s way x = opened_cut (map-Tree Tree Part (part s way) x)
 
 -- the honest cuts of some trees
-abbrev pub honest_cuts : Scheme → (Seen → Way) → List Tree → Cuts
+abbrev pub honest_cuts : Scheme → (Key → Way) → List Tree → Cuts
 honest_cuts s way ts = cuts_of (map (λ (p : Part). p.cut) (map (part s way) ts))
 
-honest_is : (s : Scheme) (way : Seen → Way) (t : Tree) (x : Tree-F Tree) → out-Tree t ≡ x
+honest_is : (s : Scheme) (way : Key → Way) (t : Tree) (x : Tree-F Tree) → out-Tree t ≡ x
     → honest_cut s way t
     ≡ (if meets way t then open_at s way x else pruned_cut (entry s t))
 honest_is s way t x e =
@@ -94,10 +94,10 @@ honest_is s way t x e =
     sym (entry_out s way t (out-Tree t) refl) ∙ entry_same s way t in
     ap (λ (p : Part). p.cut) (part_out s way t)
     ∙ ap (opened_if_met way (open_at s way (out-Tree t))) known
-    ∙ (λ i. if opens_seen way (option_map seen_at (entry_rect s t i)) then open_at s way (e i)
+    ∙ (λ i. if opens_seen way (option_map key_at (entry_rect s t i)) then open_at s way (e i)
     else pruned_cut (entry s t))
 
-pub honest_missed : (s : Scheme) (way : Seen → Way) (t : Tree) → meets way t ≡ false
+pub honest_missed : (s : Scheme) (way : Key → Way) (t : Tree) → meets way t ≡ false
     → honest_cut s way t ≡ pruned_cut (entry s t)
 honest_missed s way t f = honest_is s way t (out-Tree t) refl ∙ rw f refl
 
@@ -107,21 +107,21 @@ pub pruned_shown : (s : Scheme) (t : Tree) (r : Rectangle) → trees.rect t ≡ 
 pruned_shown s t r e =
     ap (λ (o : Option Rectangle). pruned_if (option_map (shown_with (entry s t)) o)) (entry_rect s t ∙ e)
 
-pub honest_met : (s : Scheme) (way : Seen → Way) (t : Tree) (x : Tree-F Tree) → out-Tree t ≡ x
+pub honest_met : (s : Scheme) (way : Key → Way) (t : Tree) (x : Tree-F Tree) → out-Tree t ≡ x
     → meets way t ≡ true → honest_cut s way t ≡ open_at s way x
 honest_met s way t x e m = honest_is s way t x e ∙ rw m refl
 
 -- ---- it is a tight cut
 
-pub record IsGoodCut (s : Scheme) (way : Seen → Way) (t : Tree) (P : Cut) : Type 0 where
+pub record IsGoodCut (s : Scheme) (way : Key → Way) (t : Tree) (P : Cut) : Type 0 where
   pub cut : CutOf s P t
   pub tight : IsTightCut way P
 
-record AreGoodCuts (s : Scheme) (way : Seen → Way) (ts : List Tree) (Ps : Cuts) : Type 0 where
+record AreGoodCuts (s : Scheme) (way : Key → Way) (ts : List Tree) (Ps : Cuts) : Type 0 where
   cuts : CutsOf s Ps ts
   tight : AreTightCuts way Ps
 
-missed_good : (s : Scheme) (way : Seen → Way) (t : Tree) → IsFull t → meets way t ≡ false
+missed_good : (s : Scheme) (way : Key → Way) (t : Tree) → IsFull t → meets way t ≡ false
     → IsGoodCut s way t (honest_cut s way t)
 missed_good s way t full f =
     let p = there_tree t full in
@@ -129,23 +129,23 @@ missed_good s way t full f =
     honest_missed s way t f ∙ pruned_shown s t p.at p.is in
     subst (IsGoodCut s way t) (sym is) (record {
       cut = (sym p.is, refl);
-      tight = sym (ap (λ (o : Option Rectangle). opens_seen way (option_map seen_at o)) p.is) ∙ f;
+      tight = sym (ap (λ (o : Option Rectangle). opens_seen way (option_map key_at o)) p.is) ∙ f;
     })
 
-leaf_good : (s : Scheme) (way : Seen → Way) (rs : List Record) → meets way (tree.Leaf rs) ≡ true
+leaf_good : (s : Scheme) (way : Key → Way) (rs : List Record) → meets way (tree.Leaf rs) ≡ true
     → IsGoodCut s way (tree.Leaf rs) (honest_cut s way (tree.Leaf rs))
 leaf_good s way rs m =
     subst (IsGoodCut s way (tree.Leaf rs))
     (sym (honest_met s way (tree.Leaf rs) (node.Leaf rs) (tree.outs-Leaf rs) m))
     (record {
       cut = refl;
-      tight = ap (λ (o : Option Rectangle). opens_seen way (option_map seen_at o)) (sym (rect-Leaf rs)) ∙ m;
+      tight = ap (λ (o : Option Rectangle). opens_seen way (option_map key_at o)) (sym (rect-Leaf rs)) ∙ m;
     })
 
-abbrev IsGood : Scheme → (Seen → Way) → Tree → Type 0
+abbrev IsGood : Scheme → (Key → Way) → Tree → Type 0
 IsGood s way t = IsFull t → IsGoodCut s way t (honest_cut s way t)
 
-goods : (s : Scheme) (way : Seen → Way) (ts : List Tree) → AllByRecursion (IsGood s way) ts
+goods : (s : Scheme) (way : Key → Way) (ts : List Tree) → AllByRecursion (IsGood s way) ts
     → AllByRecursion IsFull ts → AreGoodCuts s way ts (honest_cuts s way ts)
 goods s way [] all full = record { cuts = refl; tight = tt }
 goods s way (t ∷ ts) all full =
@@ -153,7 +153,7 @@ goods s way (t ∷ ts) all full =
     let rest = goods s way ts all.1 full.1 in
     record { cuts = (t, ts, refl, one.cut, rest.cuts); tight = (one.tight, rest.tight) }
 
-inner_good : (s : Scheme) (way : Seen → Way) (ts : List Tree)
+inner_good : (s : Scheme) (way : Key → Way) (ts : List Tree)
     → meets way (tree.Inner ts) ≡ true → AreGoodCuts s way ts (honest_cuts s way ts)
     → IsGoodCut s way (tree.Inner ts) (honest_cut s way (tree.Inner ts))
 inner_good s way ts m all =
@@ -164,10 +164,10 @@ inner_good s way ts m all =
     (sym (honest_met s way (tree.Inner ts) (node.Inner ts) (tree.outs-Inner ts) m))
     (record {
       cut = c;
-      tight = (ap (λ (o : Option Rectangle). opens_seen way (option_map seen_at o)) whole ∙ m, all.tight);
+      tight = (ap (λ (o : Option Rectangle). opens_seen way (option_map key_at o)) whole ∙ m, all.tight);
     })
 
-pub honest_good : (s : Scheme) (way : Seen → Way) (t : Tree) → IsFull t
+pub honest_good : (s : Scheme) (way : Key → Way) (t : Tree) → IsFull t
     → IsGoodCut s way t (honest_cut s way t)
 honest_good s way = tree_induction (IsGood s way)
     (λ full. absurd (not_full_empty full))

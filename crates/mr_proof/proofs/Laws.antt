@@ -15,7 +15,7 @@ use Rattle.mr_geom.proofs.Planes.{SidesMeet, SidesInside, SidesInside-Inside, to
 use Rattle.mr_record.specs.Record.{IsRecord}
 use Rattle.mr_record.specs.declared.record.Record.{Record}
 use Rattle.mr_query.specs.Nearest.{distance, distances, kth_least, is_within, nearer_than, not_farther_than}
-use Rattle.mr_query.specs.Radius.{IsRadius}
+use Rattle.mr_query.specs.private.Radius.{IsRadius}
 use Rattle.mr_query.specs.Region.{touches, reaches}
 use Rattle.mr_query.specs.Scan.{by_number, scan}
 use Rattle.mr_query.specs.Word.{FitsPoint, IsQuery}
@@ -30,10 +30,10 @@ use Rattle.mr_proof.specs.declared.head.Kind.{Kind}
 use Rattle.mr_proof.specs.declared.head.Kind.TheVariants as kind
 use Rattle.mr_proof.specs.declared.head.Head.{Head}
 use Rattle.mr_proof.specs.Limits.{radius_limit}
-use Rattle.mr_proof.specs.Spelling.{FitsHead, FitsRadius}
+use Rattle.mr_proof.specs.Spelling.{FitsProofHead, FitsRadius}
 use Rattle.mr_proof.specs.declared.way.Way.{Way}
 use Rattle.mr_proof.specs.declared.way.Way.TheVariants as ways
-use Rattle.mr_proof.specs.Tight.{Seen, seen_at, is_open, is_kept, way_if, opens_at, keeps_at, Question, radius_by, FitsAround, IsCircle, IsLawful, around_of, question}
+use Rattle.mr_proof.specs.Tight.{Key, key_at, is_open, is_kept, way_if, opens_at, keeps_at, Question, radius_by, FitsAround, IsCircle, IsLawful, around_of, question}
 use Rattle.mr_proof.specs.Refused.{has_other_radius}
 
 -- ---- ways by a test
@@ -103,18 +103,18 @@ is_lawful (Nearest p k) is = record {
 
 -- ---- equal opened records have one radius
 
-opened_near : (x : Around) (way : Option ℕ → Seen → Way) → IsCircle (Some x) way → (radius : Option ℕ)
+opened_near : (x : Around) (way : Option ℕ → Key → Way) → IsCircle (Some x) way → (radius : Option ℕ)
     → ◌≡◌ {A = Record → Bool} (λ (r : Record). opens_at (way radius) r.rect)
     (λ (r : Record). is_within x.center radius r.rect)
 opened_near x way law radius = λ i r. (
-    ap is_open (law radius (seen_at r.rect)) ∙ open_if (is_within x.center radius r.rect)
+    ap is_open (law radius (key_at r.rect)) ∙ open_if (is_within x.center radius r.rect)
     ) i
 
-kept_near : (x : Around) (way : Option ℕ → Seen → Way) → IsCircle (Some x) way → (radius : Option ℕ)
+kept_near : (x : Around) (way : Option ℕ → Key → Way) → IsCircle (Some x) way → (radius : Option ℕ)
     → ◌≡◌ {A = Record → Bool} (λ (r : Record). keeps_at (way radius) r.rect)
     (λ (r : Record). is_within x.center radius r.rect)
 kept_near x way law radius = λ i r. (
-    ap is_kept (law radius (seen_at r.rect)) ∙ kept_if (is_within x.center radius r.rect)
+    ap is_kept (law radius (key_at r.rect)) ∙ kept_if (is_within x.center radius r.rect)
     ) i
 
 -- a kind that has a radius has a number of records
@@ -123,7 +123,7 @@ some_near kind.W x fits = absurd cc
 some_near kind.K x fits = fits
 some_near (kind.Choice letter) x fits = absurd cc
 
-same_by : (k : Kind) (x : Option Around) (way : Option ℕ → Seen → Way) → FitsAround k x → IsCircle x way
+same_by : (k : Kind) (x : Option Around) (way : Option ℕ → Key → Way) → FitsAround k x → IsCircle x way
     → (rs ss : List Record)
     → filter (λ (r : Record). opens_at (way (radius_by x rs)) r.rect) rs
     ≡ filter (λ (r : Record). opens_at (way (radius_by x rs)) r.rect) ss → radius_by x rs ≡ radius_by x ss
@@ -169,7 +169,7 @@ right_by (kind.Choice letter) None r rs law fits right = fits
 right_by (kind.Choice letter) (Some x) r rs law fits right = absurd cc
 
 -- a head of the right kind that does not break the rule on the radius has that of the records
-pub right_radius : (a : Question) (h : Head) (rs : List Record) → IsLawful a → h.kind ≡ a.kind → FitsHead h
+pub right_radius : (a : Question) (h : Head) (rs : List Record) → IsLawful a → h.kind ≡ a.kind → FitsProofHead h
     → has_other_radius a.around h.radius rs ≡ false → h.radius ≡ radius_by a.around rs
 right_radius a h rs law k fits right =
     right_by a.kind a.around h.radius rs law.around (subst (λ (k : Kind). FitsRadius k h.radius) k fits.radius) right
@@ -207,7 +207,7 @@ other_near x None rs = ap (λ (ts : List Record). leb x.k (length ts)) (all_pass
 other_near x (Some n) rs =
     λ i. leb x.k (nearer_near x.center n rs i) || ltb (not_farther_near x.center n rs i) x.k
 
-other_by : (x : Option Around) (way : Option ℕ → Seen → Way) → IsCircle x way → (radius : Option ℕ)
+other_by : (x : Option Around) (way : Option ℕ → Key → Way) → IsCircle x way → (radius : Option ℕ)
     (rs : List Record)
     → has_other_radius x radius (filter (λ (r : Record). keeps_at (way radius) r.rect) rs)
     ≡ has_other_radius x radius rs

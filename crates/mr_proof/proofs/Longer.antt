@@ -10,11 +10,11 @@ use Rattle.mr_proof.specs.declared.want.Want.{Want}
 use Rattle.mr_proof.specs.declared.field.Field.{Field}
 use Rattle.mr_proof.specs.Limits.{place_limit}
 use Rattle.mr_proof.specs.Fields.{size_of, field_of}
-use Rattle.mr_proof.specs.Spelling.{Said, opened_records}
+use Rattle.mr_proof.specs.Spelling.{Parsed, opened_records}
 use Rattle.mr_proof.specs.Tight.{Question}
 use Rattle.mr_proof.specs.Accepted.{root_found}
 use Rattle.mr_proof.specs.Grammar.{Grammar, must, opens, done, reads, notes, whole}
-use Rattle.mr_proof.specs.Layout.{fault, Stand, start, field_or_fault, field_at}
+use Rattle.mr_proof.specs.Layout.{fault, Cursor, start, field_or_fault, field_at}
 use Rattle.mr_proof.specs.Refused.{has_other_radius}
 use Rattle.mr_proof.specs.Reading.{◌>>=◌, walk, ending, checked}
 use Rattle.mr_proof.specs.Halves.{IsSettled, StaysRefused}
@@ -22,24 +22,24 @@ use Rattle.mr_proof.proofs.FirstFault.{faults_just}
 use Rattle.mr_proof.proofs.Values.{same_fault}
 
 -- the same place in a longer string
-abbrev longer : List ℕ → Stand → Stand
+abbrev longer : List ℕ → Cursor → Cursor
 longer more s = record { at = s.at; last = s.last; rest = s.rest ++ more }
 
 -- ---- one field
 
 -- a field that is read is read again, and a settled fault comes again
-abbrev Again : Want → Stand → List ℕ → Result (Field × Stand) Fault → Type 0
+abbrev Again : Want → Cursor → List ℕ → Result (Field × Cursor) Fault → Type 0
 Again w s more (Ok x) = field_at w (longer more s) ≡ Ok (x.0, longer more x.1)
 Again w s more (Err f) = IsSettled f.rule → field_at w (longer more s) ≡ Err f
 
-value_again : (w : Want) (s : Stand) (more : List ℕ) (r : Result Field Rule)
+value_again : (w : Want) (s : Cursor) (more : List ℕ) (r : Result Field Rule)
     → drop (size_of w) (s.rest ++ more) ≡ drop (size_of w) s.rest ++ more
     → field_at w (longer more s) ≡ field_or_fault w (longer more s) r → Again w s more (field_or_fault w s r)
 value_again w s more (Ok v) tail e =
     e ∙ ap (λ (rest : List ℕ). Ok (v, record { at = s.at + size_of w; last = s.at; rest = rest })) tail
 value_again w s more (Err d) tail e = λ settled. e
 
-field_again : (w : Want) (s : Stand) (more : List ℕ) → Again w s more (field_at w s)
+field_again : (w : Want) (s : Cursor) (more : List ℕ) → Again w s more (field_at w s)
 unfolding field_at
 field_again w s more = elim (cases_Bool (ltb place_limit (s.at + size_of w))) [
   | inl long ↦
@@ -63,17 +63,17 @@ field_again w s more = elim (cases_Bool (ltb place_limit (s.at + size_of w))) [
 
 -- ---- a layout
 
-step_stays : {B : Type 0} (w : Want) (s : Stand) (more : List ℕ) (r : Result (Field × Stand) Fault) → Again w s more r
-    → (k : Field × Stand → Result B Fault) (f : Fault) → IsSettled f.rule
-    → ((x : Field × Stand) → k x ≡ Err f → k (x.0, longer more x.1) ≡ Err f) → (r >>= k) ≡ Err f
+step_stays : {B : Type 0} (w : Want) (s : Cursor) (more : List ℕ) (r : Result (Field × Cursor) Fault) → Again w s more r
+    → (k : Field × Cursor → Result B Fault) (f : Fault) → IsSettled f.rule
+    → ((x : Field × Cursor) → k x ≡ Err f → k (x.0, longer more x.1) ≡ Err f) → (r >>= k) ≡ Err f
     → (field_at w (longer more s) >>= k) ≡ Err f
 step_stays w s more (Ok x) again k f settled rest e = rw again (rest x e)
 step_stays w s more (Err g) again k f settled rest e =
     let same : g ≡ f = same_fault g f e in
     rw (again (subst (λ (h : Fault). IsSettled h.rule) (sym same) settled)) e
 
-walk_stays : {A B : Type 0} (e : A → Stand → Result B Fault) (more : List ℕ) (f : Fault) → IsSettled f.rule
-    → ((x : A) (s : Stand) → e x s ≡ Err f → e x (longer more s) ≡ Err f) → (g : Grammar A) (s : Stand)
+walk_stays : {A B : Type 0} (e : A → Cursor → Result B Fault) (more : List ℕ) (f : Fault) → IsSettled f.rule
+    → ((x : A) (s : Cursor) → e x s ≡ Err f → e x (longer more s) ≡ Err f) → (g : Grammar A) (s : Cursor)
     → walk true e g s ≡ Err f → walk true e g (longer more s) ≡ Err f
 walk_stays e more f settled last (done x) s is = last x s is
 walk_stays e more f settled last (reads w next) s is =
@@ -85,7 +85,7 @@ walk_stays e more f settled last (notes (opens x met) next) s is = walk_stays e 
 
 -- ---- the whole
 
-end_stays : (b c d b2 : Bool) (t w r f : Fault) (x : Said) (after : Result Said Fault) → (b ≡ true → b2 ≡ true)
+end_stays : (b c d b2 : Bool) (t w r f : Fault) (x : Parsed) (after : Result Parsed Fault) → (b ≡ true → b2 ≡ true)
     → (IsSettled w.rule → ⊥) → (IsSettled r.rule → ⊥) → IsSettled f.rule
     → cond b (Err t) (cond (not c) (Err w) (cond d (Err r) (Ok x))) ≡ Err f → cond b2 (Err t) after ≡ Err f
 end_stays true c d b2 t w r f x after more no_w no_r settled e = rw (more refl) e
@@ -96,7 +96,7 @@ end_stays false false d b2 t w r f x after more no_w no_r settled e =
     absurd (no_w (subst (λ (h : Fault). IsSettled h.rule) (sym (same_fault w f e)) settled))
 
 ending_stays : (hash : List ℕ → List ℕ) (root : List ℕ) (a : Question) (more : List ℕ) (f : Fault) → IsSettled f.rule
-    → (x : Said) (s : Stand) → ending hash root a x s ≡ Err f → ending hash root a x (longer more s) ≡ Err f
+    → (x : Parsed) (s : Cursor) → ending hash root a x s ≡ Err f → ending hash root a x (longer more s) ≡ Err f
 unfolding ending
 ending_stays hash root a more f settled x s is =
     let found = root_found hash x.head x.part in

@@ -19,7 +19,7 @@ use Rattle.mr_record.specs.declared.version.Version.{Version}
 use Rattle.mr_proof.specs.Fields.{version}
 use Rattle.mr_proof.specs.Cut.{Cut, Cuts, Pruned, Leaf, Inner, no_more, first, entries, CutOf, CutsOf}
 use Rattle.mr_proof.specs.Tight.{Question, IsLawful, kind_of, question}
-use Rattle.mr_proof.specs.Accepted.{root_bytes}
+use Rattle.mr_proof.specs.Accepted.{proof_preimage}
 use Rattle.mr_proof.specs.Honest.{honest_head, honest_part, proof_for, proof}
 use Rattle.mr_proof.specs.Halves.{IsQueried}
 use Rattle.mr_proof.specs.Reading.{kind_in}
@@ -80,7 +80,7 @@ own_quiet s one h a law = λ t b well layers low.
     let part = honest_part s a t in
     let same = root_same s one a t b part well own.spelled.part own.cut in
     ap (λ o. if_said o (pair_clash s t b)) (pair_found_of a.kind head part (proof_for s a t b) refl own.spelled)
-    ∙ (λ i. or_else (differ_same (digests.root_bytes s t b) (root_bytes s.of head part) same i)
+    ∙ (λ i. or_else (differ_same (digests.root_preimage_of s t b) (proof_preimage s.of head part) same i)
     (part_quiet s one t part well own.cut i))
 
 queried : (q : Query) → IsQueried (kind_of q)

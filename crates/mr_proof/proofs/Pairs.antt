@@ -9,7 +9,7 @@ use Rattle.mr_proof.specs.declared.rule.Rule.TheVariants as rule
 use Rattle.mr_proof.specs.declared.rule.Fault.{Fault}
 use Rattle.mr_proof.specs.Fields.{kind_byte}
 use Rattle.mr_proof.specs.Cut.{Cut}
-use Rattle.mr_proof.specs.Spelling.{Said, said, IsSpelled}
+use Rattle.mr_proof.specs.Spelling.{Parsed, said, IsSpelled}
 use Rattle.mr_proof.specs.Grammar.{whole}
 use Rattle.mr_proof.specs.Layout.{fault, start}
 use Rattle.mr_proof.specs.Reading.{walk, kind_in, at_end, if_spelled, anywhere, pair_of, pair_in}
@@ -51,24 +51,24 @@ pair_found h P bytes of s = pair_found_of (kind_in bytes) h P bytes (sym (kind_s
 
 -- ---- what is found is spelled
 
-abbrev pub some : Said → Option Said
+abbrev pub some : Parsed → Option Parsed
 some x = Some x
 
-same_pair : (x y : Said) → some x ≡ some y → x ≡ y
+same_pair : (x y : Parsed) → some x ≡ some y → x ≡ y
 same_pair x y e = cc
 
-read_pair : (r : Result Said Fault) (x : Said) → if_spelled r ≡ Some x → r ≡ Ok x
-read_pair (Ok y) x e = ap (λ (z : Said). Ok z) (same_pair y x e)
+read_pair : (r : Result Parsed Fault) (x : Parsed) → if_spelled r ≡ Some x → r ≡ Ok x
+read_pair (Ok y) x e = ap (λ (z : Parsed). Ok z) (same_pair y x e)
 read_pair (Err f) x e = absurd cc
 
-abbrev found : Said → Result Said Fault
+abbrev found : Parsed → Result Parsed Fault
 found x = Ok x
 
-same_found : (x y : Said) → found x ≡ found y → x ≡ y
+same_found : (x y : Parsed) → found x ≡ found y → x ≡ y
 same_found x y e = cc
 
 -- bytes spell the pair that is found in them
-pub pair_spelled : (k : Kind) (bytes : List ℕ) (x : Said) → IsBytes bytes → pair_of k bytes ≡ Some x
+pub pair_spelled : (k : Kind) (bytes : List ℕ) (x : Parsed) → IsBytes bytes → pair_of k bytes ≡ Some x
     → (x.head.kind ≡ k) × IsSpelled x.head x.part bytes
 unfolding pair_of
 pair_spelled k bytes x fits e =
@@ -76,8 +76,8 @@ pair_spelled k bytes x fits e =
     (read_pair (walk false at_end (whole k anywhere) (start bytes)) x e) in
     let z = not_failed (nat_lt 0 (length t.end.rest)) (fault rule.Trailing t.end.at) (Ok t.value) x t.rest in
     let same = same_found t.value x z.1 in (
-      subst (λ (y : Said). y.head.kind ≡ k) same t.kind,
-      subst (λ (y : Said). IsSpelled y.head y.part bytes) same
+      subst (λ (y : Parsed). y.head.kind ≡ k) same t.kind,
+      subst (λ (y : Parsed). IsSpelled y.head y.part bytes) same
           (spelled_whole false at_end k anywhere bytes x t (nothing_left t.end.rest z.0)),
     )
 
@@ -98,7 +98,7 @@ pub one_pair_of : (k : Kind) (bytes : List ℕ) → SpellsOneOf k bytes
 one_pair_of k bytes = λ h g P Q e f s t.
     let same : said h P ≡ said g Q = same_pair (said h P) (said g Q)
     (sym (pair_found_of k h P bytes e s) ∙ pair_found_of k g Q bytes f t) in
-    (ap (λ (x : Said). x.head) same, ap (λ (x : Said). x.part) same)
+    (ap (λ (x : Parsed). x.head) same, ap (λ (x : Parsed). x.part) same)
 
 pub one_pair : (bytes : List ℕ) → SpellsOne bytes
 one_pair bytes = λ h g P Q of ofg s t.

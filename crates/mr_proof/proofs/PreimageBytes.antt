@@ -7,7 +7,7 @@ use Rattle.std.proofs.lemmas.List.{length-map}
 use Rattle.std.proofs.lemmas.List.Concat.{flat_map-cons}
 use Rattle.std.proofs.lemmas.List.Elements.{All-append, All-cons, All-nil}
 use Rattle.mr_geom.specs.Rectangle.{Rectangle}
-use Rattle.mr_record.specs.Bytes.{AreBytes}
+use Rattle.mr_record.specs.private.Bytes.{AreBytes}
 use Rattle.mr_record.specs.Record.{IsRecord, record_bytes, rectangle_bytes, coordinate_bytes, layer_bytes}
 use Rattle.mr_record.specs.declared.version.Version.{Version}
 use Rattle.mr_record.specs.declared.version.Version.TheVariants.{One, Two}
@@ -15,7 +15,7 @@ use Rattle.mr_record.specs.declared.record.Record.{Record}
 use Rattle.mr_tree.specs.Tree.{level, first_level}
 use Rattle.mr_tree.specs.Digest.{Scheme, entry, entry_step, entry_bytes, rect_bytes, word_bytes, level_over, node_preimage, digest}
 use Rattle.mr_tree.specs.Digest.{leaf_tag, inner_tag}
-use Rattle.mr_tree.specs.Slim.{IsSlim, IsSlimNode}
+use Rattle.mr_tree.specs.private.Slim.{IsSlim, IsSlimNode}
 use Rattle.mr_tree.specs.declared.entry.Entry.{Entry}
 use Rattle.mr_tree.specs.declared.tree.Tree.{Tree}
 use Rattle.mr_tree.specs.declared.tree.Tree.TheVariants as tree

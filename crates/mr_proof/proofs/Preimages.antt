@@ -8,7 +8,7 @@ use Rattle.mr_tree.specs.declared.tree.Tree.TheOpen as node
 use Rattle.mr_proof.specs.Cut.{Cut, Cuts, Pruned, Leaf, Inner, no_more, first, rect, rects, entry, entries, digest, preimage}
 use Rattle.mr_proof.specs.declared.head.Head.{Head}
 use Rattle.mr_proof.specs.Spelling.{version_of}
-use Rattle.mr_proof.specs.Accepted.{root_bytes}
+use Rattle.mr_proof.specs.Accepted.{proof_preimage}
 
 abbrev some : List ℕ → Option (List ℕ)
 some x = Some x
@@ -38,7 +38,7 @@ mutual
 
 -- the root preimage of a head in the scheme's version and of a cut
 pub root_by : (s : Scheme) (h : Head) (P : Cut) → version_of h ≡ s.version
-    → root_bytes s.of h (Some P) ≡ root_preimage s.version h.batch h.count (record {
+    → proof_preimage s.of h (Some P) ≡ root_preimage s.version h.batch h.count (record {
       level = h.level;
       rect = rect P;
       mask = 0;

@@ -23,7 +23,7 @@ use Rattle.mr_tree.specs.declared.tree.Tree.TheFolds.{map-Tree}
 use Rattle.mr_tree.proofs.Equations.{entry_rect, digest_of_preimage}
 use Rattle.mr_tree.proofs.RootLengths.{length-word_bytes}
 use Rattle.mr_tree.proofs.Induction.{tree_induction, here-Leaf, every_child}
-use Rattle.mr_proof.specs.Cut.{Cut, Cuts, Pruned, Leaf, Inner, no_more, first, count_of, entry, entries, CutOf, CutsOf}
+use Rattle.mr_proof.specs.Cut.{Cut, Cuts, Pruned, Leaf, Inner, no_more, first, number_of_cuts, entry, entries, CutOf, CutsOf}
 use Rattle.mr_proof.specs.Fields.{version}
 use Rattle.mr_proof.specs.Spelling.{FitsCut, FitCuts}
 use Rattle.mr_proof.specs.Clash.{Pair, differ, or_else, children, children_in, node_clash, children_clash, NoneAnd}
@@ -118,7 +118,7 @@ named_tree s sized t full = record {
   long = ap length (digest_of_preimage s t) ∙ sized (digests.preimage s t);
 }
 
-rects_some : (s : Scheme) (v : ℕ) (Ps : Cuts) → 1 ≤ count_of Ps
+rects_some : (s : Scheme) (v : ℕ) (Ps : Cuts) → 1 ≤ number_of_cuts Ps
     → 1 ≤ length (map (λ (e : Entry). e.rect) (entries s v Ps))
 rects_some s v no_more some = absurd (omega arith)
 rects_some s v (first P Ps) some = omega arith

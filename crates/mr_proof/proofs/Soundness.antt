@@ -8,7 +8,7 @@ use Rattle.std.proofs.lemmas.List.{nil_from_length, append-nil}
 use Rattle.std.proofs.lemmas.List.Concat.{flat_map-cons}
 use Rattle.std.proofs.lemmas.List.Elements.{All-from_recursion}
 use Rattle.mr_geom.specs.Rectangle.{Rectangle, IsOrdered, FitsMap}
-use Rattle.mr_record.specs.Bytes.{AreBytes}
+use Rattle.mr_record.specs.private.Bytes.{AreBytes}
 use Rattle.mr_record.specs.Record.{IsRecord, HasLayer, record_bytes, rectangle_bytes}
 use Rattle.mr_record.specs.Version.{version_byte}
 use Rattle.mr_record.specs.declared.record.Record.{Record}
@@ -25,13 +25,13 @@ use Rattle.mr_proof.specs.declared.rule.Fault.{Fault}
 use Rattle.mr_proof.specs.declared.want.Want.TheVariants as want
 use Rattle.mr_proof.specs.Limits.{count_limit, radius_limit, level_limit, leaf_limit, inner_limit, place_limit}
 use Rattle.mr_proof.specs.Fields.{magic, kind_byte, pruned_tag, leaf_tag, inner_tag, opened_tag, version}
-use Rattle.mr_proof.specs.Cut.{Cut, Cuts, Pruned, Leaf, Inner, no_more, first, count_of}
-use Rattle.mr_proof.specs.Spelling.{cut_bytes, cuts_bytes, FitsShown, FitsLeaf, FitsInner, FitsCut, FitCuts, radius_bytes, level_bytes, head_bytes, FitsRadius, FitsHead, Said, said, opened_records, part_bytes, FitsPart, IsSpelled}
+use Rattle.mr_proof.specs.Cut.{Cut, Cuts, Pruned, Leaf, Inner, no_more, first, number_of_cuts}
+use Rattle.mr_proof.specs.Spelling.{cut_bytes, cuts_bytes, FitsShown, FitsLeaf, FitsInner, FitsCut, FitCuts, radius_bytes, level_bytes, head_bytes, FitsRadius, FitsProofHead, Parsed, said, opened_records, part_bytes, FitsPart, IsSpelled}
 use Rattle.mr_proof.specs.declared.way.Way.{Way}
-use Rattle.mr_proof.specs.Tight.{Seen, seen, opens_seen, opens_at, keeps_at, Question, question, IsLawful, IsTightCut, AreTightCuts}
-use Rattle.mr_proof.specs.Accepted.{root_found, Shows, Proves}
+use Rattle.mr_proof.specs.Tight.{Key, key_of, opens_seen, opens_at, keeps_at, Question, question, IsLawful, IsTightCut, AreTightCuts}
+use Rattle.mr_proof.specs.Accepted.{root_found, ShowsCut, ProvesAnswer}
 use Rattle.mr_proof.specs.Grammar.{must, opens, Grammar, done, reads, notes, number_in, wide_in, tag_in, rect_in, bytes_in, payload, one_record, some_records, opened, leaf, some_items, inner, pruned, item, radius, level, head, part, whole}
-use Rattle.mr_proof.specs.Layout.{fault, Stand, start}
+use Rattle.mr_proof.specs.Layout.{fault, Cursor, start}
 use Rattle.mr_proof.specs.Refused.{has_other_radius}
 use Rattle.mr_proof.specs.Reading.{past, walk, ending, checked, verdict}
 use Rattle.mr_record.proofs.Encodings.{IsBytes, AreBytes-from}
@@ -42,8 +42,8 @@ use Rattle.mr_proof.proofs.FieldsTaken.{Took, took_none, took_both, took_as, Tak
 
 -- ---- records
 
-take_payload : {A B : Type 0} (heeds : Bool) (e : A → Stand → Result B Fault) (n : ℕ) (next : List ℕ → Grammar A)
-    (s : Stand) (a : B) → IsBytes s.rest → s.at ≤ place_limit → walk heeds e (payload n next) s ≡ Ok a
+take_payload : {A B : Type 0} (heeds : Bool) (e : A → Cursor → Result B Fault) (n : ℕ) (next : List ℕ → Grammar A)
+    (s : Cursor) (a : B) → IsBytes s.rest → s.at ≤ place_limit → walk heeds e (payload n next) s ≡ Ok a
     → Taken heeds e (λ p. p) (λ p. (length p ≡ n) × AreBytes p) next s a
 take_payload heeds e n next s a fits within is = elim (cases_Bool (eqb n 0)) [
   | inl t ↦
@@ -60,7 +60,7 @@ take_payload heeds e n next s a fits within is = elim (cases_Bool (eqb n 0)) [
       (payload_meant n) next s a fits (rw f at is)
 ]
 
-take_record : {A B : Type 0} (heeds : Bool) (e : A → Stand → Result B Fault) (next : Record → Grammar A) (s : Stand)
+take_record : {A B : Type 0} (heeds : Bool) (e : A → Cursor → Result B Fault) (next : Record → Grammar A) (s : Cursor)
     (a : B) → IsBytes s.rest → walk heeds e (one_record next) s ≡ Ok a → Taken heeds e (record_bytes version) IsPlain
     next s a
 unfolding record_bytes
@@ -104,9 +104,9 @@ take_record heeds e next s a fits is =
       rest = p.rest;
     }
 
-take_records : {A B : Type 0} (heeds : Bool) (e : A → Stand → Result B Fault) (way : Seen → Way) (n : ℕ)
+take_records : {A B : Type 0} (heeds : Bool) (e : A → Cursor → Result B Fault) (way : Key → Way) (n : ℕ)
     (next : List Record → Grammar A)
-    (s : Stand) (a : B) → IsBytes s.rest → s.at ≤ place_limit → walk heeds e (some_records way n next) s ≡ Ok a
+    (s : Cursor) (a : B) → IsBytes s.rest → s.at ≤ place_limit → walk heeds e (some_records way n next) s ≡ Ok a
     → Taken heeds e (flat_map (record_bytes version)) (λ rs. (length rs ≡ n) × AllByRecursion IsPlain rs) next s a
 take_records heeds e way zero next s a fits within is = record
     { value = []; end = s; good = (refl, tt); took = took_none s fits within; rest = is }
@@ -128,11 +128,11 @@ take_records heeds e way (suc n) next s a fits within is =
 -- ---- items
 
 -- a cut of this level that is spelled, and, where notes are heeded, is tight for the region
-abbrev pub IsGood : Bool → (Seen → Way) → ℕ → Cut → Type 0
+abbrev pub IsGood : Bool → (Key → Way) → ℕ → Cut → Type 0
 IsGood heeds way v P = FitsCut v P × (heeds ≡ true → IsTightCut way P)
 
-abbrev pub AreGood : Bool → (Seen → Way) → ℕ → ℕ → Cuts → Type 0
-AreGood heeds way v n Ps = (count_of Ps ≡ n) × FitCuts v Ps × (heeds ≡ true → AreTightCuts way Ps)
+abbrev pub AreGood : Bool → (Key → Way) → ℕ → ℕ → Cuts → Type 0
+AreGood heeds way v n Ps = (number_of_cuts Ps ≡ n) × FitCuts v Ps × (heeds ≡ true → AreTightCuts way Ps)
 
 -- a note was passed
 note_passed : {B : Type 0} (heeds : Bool) (broken : Rule) (b : Bool) (at : ℕ) (r : Result B Fault) (a : B)
@@ -146,10 +146,10 @@ not_true : (b : Bool) → not b ≡ true → b ≡ false
 not_true true e = absurd (false≢true e)
 not_true false e = refl
 
-take_leaf : {A B : Type 0} (heeds : Bool) (e : A → Stand → Result B Fault) (way : Seen → Way)
-    (next : Cut → Grammar A) (s : Stand) (a : B) → IsBytes s.rest → s.at ≤ place_limit
+take_leaf : {A B : Type 0} (heeds : Bool) (e : A → Cursor → Result B Fault) (way : Key → Way)
+    (next : Cut → Grammar A) (s : Cursor) (a : B) → IsBytes s.rest → s.at ≤ place_limit
     → walk heeds e (leaf way next) s ≡ Ok a
-    → (P : Cut) × (t : Stand) × IsGood heeds way 0 P × (cut_bytes P ≡ leaf_tag ∷ tail P) × Took (tail P) s t
+    → (P : Cut) × (t : Cursor) × IsGood heeds way 0 P × (cut_bytes P ≡ leaf_tag ∷ tail P) × Took (tail P) s t
     × (walk heeds e (next P) t ≡ Ok a)
 take_leaf heeds e way next s a fits within is =
     let n = take_reads heeds e want.LeafCount number_in (λ n. n ∷ []) (λ n. (1 ≤ n) × (n ≤ leaf_limit)) leaf_count_meant
@@ -157,7 +157,7 @@ take_leaf heeds e way next s a fits within is =
     let rs = take_records heeds e way n.value (λ rs. opened way (Leaf rs) next) n.end a n.took.fits n.took.within
     n.rest
     in
-    let met = note_passed heeds rule.Needless (opens_seen way (seen (Leaf rs.value))) rs.end.last
+    let met = note_passed heeds rule.Needless (opens_seen way (key_of (Leaf rs.value))) rs.end.last
     (walk heeds e (next (Leaf rs.value)) rs.end) a rs.rest in
     let long = rs.good.0 in
     let low = n.good.0 in
@@ -180,9 +180,9 @@ take_leaf heeds e way next s a fits within is =
       met.1,
     )
 
-take_pruned : {A B : Type 0} (heeds : Bool) (e : A → Stand → Result B Fault) (way : Seen → Way) (v : ℕ)
-    (next : Cut → Grammar A) (s : Stand) (a : B) → IsBytes s.rest → walk heeds e (pruned way next) s ≡ Ok a
-    → (P : Cut) × (t : Stand) × IsGood heeds way v P × (cut_bytes P ≡ pruned_tag ∷ tail P) × Took (tail P) s t
+take_pruned : {A B : Type 0} (heeds : Bool) (e : A → Cursor → Result B Fault) (way : Key → Way) (v : ℕ)
+    (next : Cut → Grammar A) (s : Cursor) (a : B) → IsBytes s.rest → walk heeds e (pruned way next) s ≡ Ok a
+    → (P : Cut) × (t : Cursor) × IsGood heeds way v P × (cut_bytes P ≡ pruned_tag ∷ tail P) × Took (tail P) s t
     × (walk heeds e (next P) t ≡ Ok a)
 take_pruned heeds e way v next s a fits is =
     let behind_rect = λ (r : Rectangle). reads want.Digest
@@ -204,15 +204,15 @@ take_pruned heeds e way v next s a fits is =
     )
 
 -- an item by its tag
-abbrev Items : {A B : Type 0} → Bool → (A → Stand → Result B Fault) → (Seen → Way) → ℕ
+abbrev Items : {A B : Type 0} → Bool → (A → Cursor → Result B Fault) → (Key → Way) → ℕ
     → ((Cut → Grammar A) → Grammar A) → Type 0
 Items {A} {B} heeds e way v one =
-    (next : Cut → Grammar A) (s : Stand) (a : B) → IsBytes s.rest → walk heeds e (one next) s ≡ Ok a
+    (next : Cut → Grammar A) (s : Cursor) (a : B) → IsBytes s.rest → walk heeds e (one next) s ≡ Ok a
     → Taken heeds e cut_bytes (IsGood heeds way v) next s a
 
-take_items : {A B : Type 0} (heeds : Bool) (e : A → Stand → Result B Fault) (way : Seen → Way) (v : ℕ)
+take_items : {A B : Type 0} (heeds : Bool) (e : A → Cursor → Result B Fault) (way : Key → Way) (v : ℕ)
     (one : (Cut → Grammar A) → Grammar A) → Items heeds e way v one
-    → (n : ℕ) (next : Cuts → Grammar A) (s : Stand) (a : B) → IsBytes s.rest → s.at ≤ place_limit
+    → (n : ℕ) (next : Cuts → Grammar A) (s : Cursor) (a : B) → IsBytes s.rest → s.at ≤ place_limit
     → walk heeds e (some_items one n next) s ≡ Ok a → Taken heeds e cuts_bytes (AreGood heeds way v n) next s a
 take_items heeds e way v one take_one zero next s a fits within is = record
     { value = no_more; end = s; good = (refl, tt, λ h. tt); took = took_none s fits within; rest = is }
@@ -228,10 +228,10 @@ take_items heeds e way v one take_one (suc n) next s a fits within is =
       rest = Ps.rest;
     }
 
-take_inner : {A B : Type 0} (heeds : Bool) (e : A → Stand → Result B Fault) (way : Seen → Way) (v : ℕ)
+take_inner : {A B : Type 0} (heeds : Bool) (e : A → Cursor → Result B Fault) (way : Key → Way) (v : ℕ)
     (one : (Cut → Grammar A) → Grammar A) → Items heeds e way v one
-    → (next : Cut → Grammar A) (s : Stand) (a : B) → IsBytes s.rest → walk heeds e (inner way one next) s ≡ Ok a
-    → (P : Cut) × (t : Stand) × IsGood heeds way (suc v) P × (cut_bytes P ≡ inner_tag ∷ tail P) × Took (tail P) s t
+    → (next : Cut → Grammar A) (s : Cursor) (a : B) → IsBytes s.rest → walk heeds e (inner way one next) s ≡ Ok a
+    → (P : Cut) × (t : Cursor) × IsGood heeds way (suc v) P × (cut_bytes P ≡ inner_tag ∷ tail P) × Took (tail P) s t
     × (walk heeds e (next P) t ≡ Ok a)
 take_inner heeds e way v one take_one next s a fits is =
     let n = take_reads heeds e want.InnerCount number_in (λ n. n ∷ [])
@@ -239,25 +239,26 @@ take_inner heeds e way v one take_one next s a fits is =
     (λ n. some_items one n (λ Ps. opened way (Inner Ps) next)) s a fits is in
     let Ps = take_items heeds e way v one take_one n.value
     (λ Ps. opened way (Inner Ps) next) n.end a n.took.fits n.took.within n.rest in
-    let met = note_passed heeds rule.Needless (opens_seen way (seen (Inner Ps.value))) Ps.end.last
+    let met = note_passed heeds rule.Needless (opens_seen way (key_of (Inner Ps.value))) Ps.end.last
     (walk heeds e (next (Inner Ps.value)) Ps.end) a Ps.rest in
     let long = Ps.good.0 in
     let low = n.good.0 in
     let high = n.good.1 in
     let below : suc v - 1 ≡ v = omega arith in
-    let fine : FitsInner (suc v) (count_of Ps.value) = record
+    let fine : FitsInner (suc v) (number_of_cuts Ps.value) = record
     { above = omega arith; some = omega arith; few = omega arith } in (
       Inner Ps.value,
       Ps.end,
       ((fine, subst (λ (k : ℕ). FitCuts k Ps.value) (sym below) Ps.good.1), λ h. (met.0 h, Ps.good.2 h)),
       refl,
-      took_both (count_of Ps.value ∷ []) (cuts_bytes Ps.value) s n.end Ps.end
-          (took_as (n.value ∷ []) (count_of Ps.value ∷ []) s n.end (ap (λ (k : ℕ). k ∷ []) (sym Ps.good.0)) n.took)
+      took_both (number_of_cuts Ps.value ∷ []) (cuts_bytes Ps.value) s n.end Ps.end
+          (took_as (n.value ∷ []) (number_of_cuts Ps.value ∷ []) s n.end (ap (λ (k : ℕ). k ∷ []) (sym Ps.good.0))
+          n.took)
           Ps.took,
       met.1,
     )
 
-tagged : (b c : ℕ) (P : Cut) (s t u : Stand) → b ≡ c → cut_bytes P ≡ c ∷ tail P → Took (b ∷ []) s t → Took (tail P) t u
+tagged : (b c : ℕ) (P : Cut) (s t u : Cursor) → b ≡ c → cut_bytes P ≡ c ∷ tail P → Took (b ∷ []) s t → Took (tail P) t u
     → Took (cut_bytes P) s u
 tagged b c P s t u e bytes p q =
     took_as (b ∷ tail P) (cut_bytes P) s u (ap (λ (k : ℕ). k ∷ tail P) e ∙ sym bytes)
@@ -271,7 +272,7 @@ other_tag b c d (inr p) f = p
 inner_tag_is : (v : ℕ) → opened_tag (suc v) ≡ inner_tag
 inner_tag_is v = rw (eqb-suc-zero v) refl
 
-take_item : {A B : Type 0} (heeds : Bool) (e : A → Stand → Result B Fault) (way : Seen → Way) (v : ℕ)
+take_item : {A B : Type 0} (heeds : Bool) (e : A → Cursor → Result B Fault) (way : Key → Way) (v : ℕ)
     → Items heeds e way v (item way v)
 take_item heeds e way zero next s a fits is =
     let t = take_reads heeds e (want.Tag 0) tag_in (λ b. b ∷ []) (λ b. (b ≡ pruned_tag) ⊎ (b ≡ opened_tag 0))
@@ -328,8 +329,8 @@ take_item heeds e way (suc v) next s a fits is =
 
 -- ---- the head
 
-take_level : {A B : Type 0} (heeds : Bool) (e : A → Stand → Result B Fault) (count : ℕ) (next : ℕ → Grammar A)
-    (s : Stand) (a : B) → IsBytes s.rest → s.at ≤ place_limit → walk heeds e (level count next) s ≡ Ok a
+take_level : {A B : Type 0} (heeds : Bool) (e : A → Cursor → Result B Fault) (count : ℕ) (next : ℕ → Grammar A)
+    (s : Cursor) (a : B) → IsBytes s.rest → s.at ≤ place_limit → walk heeds e (level count next) s ≡ Ok a
     → Taken heeds e (level_bytes count) (λ v. (v ≤ level_limit) × (count ≡ 0 → v ≡ 0)) next s a
 take_level heeds e count next s a fits within is = elim (cases_Bool (eqb count 0)) [
   | inl t ↦ record {
@@ -353,8 +354,8 @@ take_level heeds e count next s a fits within is = elim (cases_Bool (eqb count 0
       }
 ]
 
-take_radius : {A B : Type 0} (heeds : Bool) (e : A → Stand → Result B Fault) (k : Kind) (next : Option ℕ → Grammar A)
-    (s : Stand) (a : B) → IsBytes s.rest → s.at ≤ place_limit → walk heeds e (radius k next) s ≡ Ok a
+take_radius : {A B : Type 0} (heeds : Bool) (e : A → Cursor → Result B Fault) (k : Kind) (next : Option ℕ → Grammar A)
+    (s : Cursor) (a : B) → IsBytes s.rest → s.at ≤ place_limit → walk heeds e (radius k next) s ≡ Ok a
     → Taken heeds e (radius_bytes k) (FitsRadius k) next s a
 take_radius heeds e kind.W next s a fits within is = record
     { value = None; end = s; good = refl; took = took_none s fits within; rest = is }
@@ -387,10 +388,10 @@ take_radius heeds e kind.K next s a fits within is =
     ]
 
 -- what stands before the batch
-take_opening : {A B : Type 0} (heeds : Bool) (e : A → Stand → Result B Fault) (k : Kind) (g : Grammar A) (s : Stand)
+take_opening : {A B : Type 0} (heeds : Bool) (e : A → Cursor → Result B Fault) (k : Kind) (g : Grammar A) (s : Cursor)
     (a : B) → IsBytes s.rest
     → walk heeds e (reads want.Magic (λ _. reads want.Version (λ _. reads (want.Kind k) (λ _. g)))) s ≡ Ok a
-    → (t : Stand) × Took (magic ++ version_byte version ∷ kind_byte k ∷ []) s t × (walk heeds e g t ≡ Ok a)
+    → (t : Cursor) × Took (magic ++ version_byte version ∷ kind_byte k ∷ []) s t × (walk heeds e g t ≡ Ok a)
 take_opening heeds e k g s a fits is =
     let m = take_reads heeds e want.Magic (λ _. tt) (λ (_ : Unit {0}). magic) (λ _. ⊤) magic_meant
     (λ _. reads want.Version (λ _. reads (want.Kind k) (λ _. g))) s a fits is in
@@ -405,9 +406,9 @@ take_opening heeds e k g s a fits is =
       b.rest,
     )
 
-take_head : {A B : Type 0} (heeds : Bool) (e : A → Stand → Result B Fault) (k : Kind) (next : Head → Grammar A)
-    (s : Stand) (a : B) → IsBytes s.rest → walk heeds e (head k next) s ≡ Ok a
-    → Taken heeds e head_bytes (λ h. (h.kind ≡ k) × FitsHead h) next s a
+take_head : {A B : Type 0} (heeds : Bool) (e : A → Cursor → Result B Fault) (k : Kind) (next : Head → Grammar A)
+    (s : Cursor) (a : B) → IsBytes s.rest → walk heeds e (head k next) s ≡ Ok a
+    → Taken heeds e head_bytes (λ h. (h.kind ≡ k) × FitsProofHead h) next s a
 take_head heeds e k next s a fits is =
     let made = λ (b c : ℕ) (r : Option ℕ) (l : ℕ). next
     (record { kind = k; batch = b; count = c; radius = r; level = l }) in
@@ -442,19 +443,19 @@ take_head heeds e k next s a fits is =
 -- ---- the whole
 
 -- what a walk through a whole proof took: a head of the kind and a cut, and what the ending gives behind them
-pub record TakenWhole {B : Type 0} (heeds : Bool) (e : Said → Stand → Result B Fault) (k : Kind)
-    (way : Option ℕ → Seen → Way) (bytes : List ℕ) (a : B) : Type 0 where
-  pub value : Said
-  pub end : Stand
+pub record TakenWhole {B : Type 0} (heeds : Bool) (e : Parsed → Cursor → Result B Fault) (k : Kind)
+    (way : Option ℕ → Key → Way) (bytes : List ℕ) (a : B) : Type 0 where
+  pub value : Parsed
+  pub end : Cursor
   pub kind : value.head.kind ≡ k
-  pub fits : FitsHead value.head
+  pub fits : FitsProofHead value.head
   pub part : FitsPart value.head value.part
   pub tight : heeds ≡ true → IfSome value.part (IsTightCut (way value.head.radius))
   pub took : Took (head_bytes value.head ++ part_bytes value.part) (start bytes) end
   pub rest : e value end ≡ Ok a
 
-pub take_whole : {B : Type 0} (heeds : Bool) (e : Said → Stand → Result B Fault) (k : Kind)
-    (way : Option ℕ → Seen → Way) (bytes : List ℕ) (a : B) → IsBytes bytes
+pub take_whole : {B : Type 0} (heeds : Bool) (e : Parsed → Cursor → Result B Fault) (k : Kind)
+    (way : Option ℕ → Key → Way) (bytes : List ℕ) (a : B) → IsBytes bytes
     → walk heeds e (whole k way) (start bytes) ≡ Ok a → TakenWhole heeds e k way bytes a
 take_whole heeds e k way bytes a fits is =
     let h = take_head heeds e k (part way) (start bytes) a fits is in
@@ -487,8 +488,8 @@ take_whole heeds e k way bytes a fits is =
     ]
 
 -- where nothing is left, the whole of the bytes was taken
-pub spelled_whole : {B : Type 0} (heeds : Bool) (e : Said → Stand → Result B Fault) (k : Kind)
-    (way : Option ℕ → Seen → Way) (bytes : List ℕ) (a : B) (x : TakenWhole heeds e k way bytes a)
+pub spelled_whole : {B : Type 0} (heeds : Bool) (e : Parsed → Cursor → Result B Fault) (k : Kind)
+    (way : Option ℕ → Key → Way) (bytes : List ℕ) (a : B) (x : TakenWhole heeds e k way bytes a)
     → x.end.rest ≡ []
     → IsSpelled x.value.head x.value.part bytes
 spelled_whole heeds e k way bytes a x none =
@@ -513,7 +514,7 @@ not_false false e = absurd (false≢true (sym e))
 pub nothing_left : (rest : List ℕ) → nat_lt 0 (length rest) ≡ false → rest ≡ []
 nothing_left rest e = let none : length rest ≤ 0 = ltb-false 0 (length rest) e in nil_from_length rest (omega arith)
 
-pub take_end : (hash : List ℕ → List ℕ) (root : List ℕ) (a : Question) (x : Said) (s : Stand) (y : Said)
+pub take_end : (hash : List ℕ → List ℕ) (root : List ℕ) (a : Question) (x : Parsed) (s : Cursor) (y : Parsed)
     → ending hash root a x s ≡ Ok y
     → (s.rest ≡ []) × (root_found hash x.head x.part ≡ root)
     × (has_other_radius a.around x.head.radius (opened_records x.part) ≡ false) × (x ≡ y)
@@ -531,13 +532,13 @@ take_end hash root a x s y is =
     (nothing_left s.rest t.0, same_bytes found root (not_false (bytes_eq found root) r.0), o.0, same_value x y o.1)
 
 -- the head and cut of accepted bytes are shown by them
-pub shows_from : (hash : List ℕ → List ℕ) (root : List ℕ) (a : Question) (bytes : List ℕ) (y : Said)
-    → IsLawful a → IsBytes bytes → checked hash root a bytes ≡ Ok y → Shows hash root a bytes y
+pub shows_from : (hash : List ℕ → List ℕ) (root : List ℕ) (a : Question) (bytes : List ℕ) (y : Parsed)
+    → IsLawful a → IsBytes bytes → checked hash root a bytes ≡ Ok y → ShowsCut hash root a bytes y
 unfolding checked
 shows_from hash root a bytes y law fits is =
     let x = take_whole true (ending hash root a) a.kind a.way bytes y fits is in
     let z = take_end hash root a x.value x.end y x.rest in
-    subst (Shows hash root a bytes) z.3 (record {
+    subst (ShowsCut hash root a bytes) z.3 (record {
       spelled = spelled_whole true (ending hash root a) a.kind a.way bytes y x z.0;
       kind = x.kind;
       tight = record {
@@ -548,7 +549,7 @@ shows_from hash root a bytes y law fits is =
     })
 
 pub proves_from : (hash : List ℕ → List ℕ) (root : List ℕ) (q : Query) (bytes : List ℕ) (answer : List Record)
-    → IsQuery q → IsBytes bytes → verdict hash root q bytes ≡ Ok answer → Proves hash root q bytes answer
+    → IsQuery q → IsBytes bytes → verdict hash root q bytes ≡ Ok answer → ProvesAnswer hash root q bytes answer
 unfolding verdict
 proves_from hash root q bytes answer is fits e =
     let c = behind_step (checked hash root (question q) bytes) (λ x. Ok (scan (opened_records x.part) q)) answer e in

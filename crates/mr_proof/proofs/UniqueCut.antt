@@ -9,36 +9,36 @@ use Rattle.mr_tree.specs.declared.tree.Tree.{Tree}
 use Rattle.mr_tree.specs.declared.tree.Tree.TheVariants as tree
 use Rattle.mr_tree.specs.declared.tree.Tree.TheOpen as node
 use Rattle.mr_tree.specs.declared.tree.Tree.TheViews.{out-Tree}
-use Rattle.mr_proof.specs.declared.shown.Shown.{Shown}
+use Rattle.mr_proof.specs.declared.pruned_entry.PrunedEntry.{PrunedEntry}
 use Rattle.mr_proof.specs.Cut.{Cut, Cuts, Pruned, Leaf, Inner, no_more, first, CutOf, CutsOf}
 use Rattle.mr_proof.specs.declared.way.Way.{Way}
-use Rattle.mr_proof.specs.Tight.{Seen, seen_at, opens_seen, opens_at, IsTightCut, AreTightCuts}
+use Rattle.mr_proof.specs.Tight.{Key, key_at, opens_seen, opens_at, IsTightCut, AreTightCuts}
 use Rattle.mr_proof.specs.Honest.{honest_cut}
 use Rattle.mr_proof.proofs.HonestCut.{meets, rect_of_cut, honest_cuts, honest_missed, pruned_shown, honest_met}
 
 -- whether the region meets what is seen by this rectangle
-abbrev met_at : (Seen → Way) → Option Rectangle → Bool
-met_at way o = opens_seen way (option_map seen_at o)
+abbrev met_at : (Key → Way) → Option Rectangle → Bool
+met_at way o = opens_seen way (option_map key_at o)
 
-pruned_is : (s : Scheme) (way : Seen → Way) (x : Shown) (t : Tree) → Some x.rect ≡ trees.rect t
+pruned_is : (s : Scheme) (way : Key → Way) (x : PrunedEntry) (t : Tree) → Some x.rect ≡ trees.rect t
     → x.digest ≡ digest s t → opens_at way x.rect ≡ false → Pruned x ≡ honest_cut s way t
 pruned_is s way x t e f missed =
     let miss : meets way t ≡ false = sym (ap (met_at way) e) ∙ missed in
     (λ i. Pruned (record { rect = x.rect; digest = f i })) ∙ sym (pruned_shown s t x.rect (sym e))
     ∙ sym (honest_missed s way t miss)
 
-leaf_is : (s : Scheme) (way : Seen → Way) (rs : List Record) (t : Tree) → t ≡ tree.Leaf rs
+leaf_is : (s : Scheme) (way : Key → Way) (rs : List Record) (t : Tree) → t ≡ tree.Leaf rs
     → meets way t ≡ true → Leaf rs ≡ honest_cut s way t
 leaf_is s way rs t e met = sym (honest_met s way t (node.Leaf rs) (ap out-Tree e ∙ tree.outs-Leaf rs) met)
 
-inner_is : (s : Scheme) (way : Seen → Way) (cuts : Cuts) (ts : List Tree) (t : Tree)
+inner_is : (s : Scheme) (way : Key → Way) (cuts : Cuts) (ts : List Tree) (t : Tree)
     → t ≡ tree.Inner ts → meets way t ≡ true → cuts ≡ honest_cuts s way ts
     → Inner cuts ≡ honest_cut s way t
 inner_is s way cuts ts t e met same =
     ap Inner same ∙ sym (honest_met s way t (node.Inner ts) (ap out-Tree e ∙ tree.outs-Inner ts) met)
 
 mutual
-  pub is_honest : (s : Scheme) (way : Seen → Way) (P : Cut) (t : Tree) → CutOf s P t
+  pub is_honest : (s : Scheme) (way : Key → Way) (P : Cut) (t : Tree) → CutOf s P t
       → IsTightCut way P → P ≡ honest_cut s way t
   is_honest s way (Pruned x) t c tight = pruned_is s way x t c.0 c.1 tight
   is_honest s way (Leaf rs) t c tight =
@@ -47,7 +47,7 @@ mutual
       inner_is s way cuts c.0 t c.1 (sym (ap (met_at way) (rect_of_cut s (Inner cuts) t c)) ∙ tight.0)
       (are_honest s way cuts c.0 c.2 tight.1)
 
-  are_honest : (s : Scheme) (way : Seen → Way) (Ps : Cuts) (ts : List Tree) → CutsOf s Ps ts
+  are_honest : (s : Scheme) (way : Key → Way) (Ps : Cuts) (ts : List Tree) → CutsOf s Ps ts
       → AreTightCuts way Ps → Ps ≡ honest_cuts s way ts
   are_honest s way no_more ts c tight = sym (ap (honest_cuts s way) c)
   are_honest s way (first P Ps) ts c tight =

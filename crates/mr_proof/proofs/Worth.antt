@@ -21,9 +21,9 @@ use Rattle.mr_proof.specs.declared.head.Head.{Head}
 use Rattle.mr_proof.specs.declared.rule.Fault.{Fault}
 use Rattle.mr_proof.specs.Cut.{Cut, CutOf}
 use Rattle.mr_proof.specs.Cut as cut
-use Rattle.mr_proof.specs.Spelling.{version_of, Said, said, head_bytes, part_bytes, opened_records, IsSpelled}
+use Rattle.mr_proof.specs.Spelling.{version_of, Parsed, said, head_bytes, part_bytes, opened_records, IsSpelled}
 use Rattle.mr_proof.specs.Tight.{Question, radius_by, IsLawful, kind_of, question, IsTightCut}
-use Rattle.mr_proof.specs.Accepted.{root_bytes, Shows}
+use Rattle.mr_proof.specs.Accepted.{proof_preimage, ShowsCut}
 use Rattle.mr_proof.specs.Honest.{ways_of, honest_cut, honest_head, honest_part, proof}
 use Rattle.mr_proof.specs.Halves.{IsQueried}
 use Rattle.mr_proof.specs.Reading.{kind_in, verdict}
@@ -61,8 +61,8 @@ own_by s a t b h P bytes spelled e f = record {
 -- ---- the empty map
 
 empty_own : (s : Scheme) (a : Question) (t : Tree) (b : ℕ) (h : Head) (bytes held : List ℕ)
-    → t ≡ tree.Empty → b < 2 ^ 64 → Shows s.of held a bytes (said h None)
-    → digests.root_bytes s t b ≡ root_bytes s.of h None → MatchesHonest s t b a bytes (said h None)
+    → t ≡ tree.Empty → b < 2 ^ 64 → ShowsCut s.of held a bytes (said h None)
+    → digests.root_preimage_of s t b ≡ proof_preimage s.of h None → MatchesHonest s t b a bytes (said h None)
 empty_own s a t b h bytes held e low p same =
     let none : records t ≡ [] = ap records e ∙ records-Empty in
     let zero : length (records t) ≡ 0 = ap length none in
@@ -78,7 +78,7 @@ empty_own s a t b h bytes held e low p same =
 -- ---- other maps
 
 filled_own : (s : Scheme) (a : Question) → IsLawful a → (t : Tree) (b : ℕ) (h : Head) (P : Cut)
-    (bytes held : List ℕ) → IsFull t → Shows s.of held a bytes (said h (Some P))
+    (bytes held : List ℕ) → IsFull t → ShowsCut s.of held a bytes (said h (Some P))
     → b ≡ h.batch → length (records t) ≡ h.count → level t ≡ h.level → CutOf s P t
     → MatchesHonest s t b a bytes (said h (Some P))
 filled_own s a law t b h P bytes held full p batch count flat c =
@@ -105,8 +105,8 @@ entry_said s h P = record {
 
 by_part : (s : Scheme) → ((m : List ℕ) → length (s.of m) ≡ 32) → (a : Question) → IsLawful a → (t : Tree)
     (b : ℕ) (h : Head) (P : Option Cut) (bytes held : List ℕ) → WellFormed t
-    → (t ≡ tree.Empty) ⊎ IsFull t → IsPlainTree t → b < 2 ^ 64 → Shows s.of held a bytes (said h P)
-    → digests.root_bytes s t b ≡ root_bytes s.of h P
+    → (t ≡ tree.Empty) ⊎ IsFull t → IsPlainTree t → b < 2 ^ 64 → ShowsCut s.of held a bytes (said h P)
+    → digests.root_preimage_of s t b ≡ proof_preimage s.of h P
     → NoneAnd s.of (part_clash s h.level t P) (MatchesHonest s t b a bytes (said h P))
 by_part s sized a law t b h None bytes held well (inl e) plain low p same =
     empty_own s a t b h bytes held e low p same
@@ -140,7 +140,7 @@ by_part s sized a law t b h (Some P) bytes held well (inr full) plain low p same
 
 -- with one root, the map is of the version of proofs
 pub version_said : (s : Scheme) (t : Tree) (b : ℕ) (h : Head) (P : Option Cut)
-    → digests.root_bytes s t b ≡ root_bytes s.of h P → s.version ≡ version
+    → digests.root_preimage_of s t b ≡ proof_preimage s.of h P → s.version ≡ version
 version_said s t b h None same =
     one_version s.version version b (length (records t)) h.batch 0 (digests.entry s t)
     (record { level = 0; rect = None; mask = 0; count = 0; digest = [] }) same
@@ -149,15 +149,15 @@ version_said s t b h (Some P) same =
 
 -- what bytes are worth that show what is asked
 pub shown_is_own : (s : Scheme) → ((m : List ℕ) → length (s.of m) ≡ 32) → (a : Question) → IsLawful a
-    → (t : Tree) (b : ℕ) (bytes : List ℕ) (x : Said) → WellFormed t → HasLayers s.version t → b < 2 ^ 64
-    → Shows s.of (root s t b) a bytes x → MatchesHonestOrCollides s t b a bytes x
+    → (t : Tree) (b : ℕ) (bytes : List ℕ) (x : Parsed) → WellFormed t → HasLayers s.version t → b < 2 ^ 64
+    → ShowsCut s.of (root s t b) a bytes x → MatchesHonestOrCollides s t b a bytes x
 shown_is_own s sized a law t b bytes x well layers low p =
     subst (λ o. NoneAnd s.of (if_said o (pair_clash s t b)) (MatchesHonest s t b a bytes x))
     (sym (pair_found_of a.kind x.head x.part bytes p.kind p.spelled))
-    (none_both s.of (differ (digests.root_bytes s t b) (Some (root_bytes s.of x.head x.part)))
-    (part_clash s x.head.level t x.part) (digests.root_bytes s t b ≡ root_bytes s.of x.head x.part)
+    (none_both s.of (differ (digests.root_preimage_of s t b) (Some (proof_preimage s.of x.head x.part)))
+    (part_clash s x.head.level t x.part) (digests.root_preimage_of s t b ≡ proof_preimage s.of x.head x.part)
     (MatchesHonest s t b a bytes x)
-    (none_differ s.of (digests.root_bytes s t b) (root_bytes s.of x.head x.part) (sym p.held))
+    (none_differ s.of (digests.root_preimage_of s t b) (proof_preimage s.of x.head x.part) (sym p.held))
     (λ same.
     let plain = subst (λ (v : Version). HasLayers v t) (version_said s t b x.head x.part same) layers in
     by_part s sized a law t b x.head x.part bytes (root s t b) well (empty_or_full t well) (plain_tree t plain) low p
@@ -184,7 +184,7 @@ headline s h q bytes is = λ t b answer well layers low p.
     (subst (λ (k : Kind). NoneAnd s.of (clash_of k s t b bytes) (MatchesHonest s t b (question q) bytes p.said))
     (sym kind) worth)
     (λ own. record {
-      complete = p.scanned ∙ ap (λ (x : Said). scan (opened_records x.part) q) own.same
+      complete = p.scanned ∙ ap (λ (x : Parsed). scan (opened_records x.part) q) own.same
           ∙ sym (honest_scan s h t q is well);
       own = own.own;
     })

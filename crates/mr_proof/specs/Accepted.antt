@@ -8,17 +8,17 @@ use Rattle.mr_query.specs.declared.query.Query.{Query}
 use Rattle.mr_query.specs.Scan.{scan}
 use Rattle.mr_proof.specs.declared.head.Head.{Head}
 use Rattle.mr_proof.specs.Cut.{Cut, rect, digest}
-use Rattle.mr_proof.specs.Spelling.{version_of, Said, opened_records, IsSpelled}
+use Rattle.mr_proof.specs.Spelling.{version_of, Parsed, opened_records, IsSpelled}
 use Rattle.mr_proof.specs.Tight.{Question, question, IsTight}
 
 -- The bytes that the root digest is of, of the map of which a proof with this head and cut is: by
 -- the head's version, batch, count and level, and the rectangle and digest of the cut. Without a
 -- cut the map is empty.
-abbrev pub root_bytes : (List ℕ → List ℕ) → Head → Option Cut → List ℕ
-root_bytes hash h None =
+abbrev pub proof_preimage : (List ℕ → List ℕ) → Head → Option Cut → List ℕ
+proof_preimage hash h None =
     root_preimage (version_of h) h.batch 0 (record
     { level = 0; rect = None; mask = 0; count = 0; digest = [] })
-root_bytes hash h (Some P) =
+proof_preimage hash h (Some P) =
     root_preimage (version_of h) h.batch h.count (record {
       level = h.level;
       rect = rect P;
@@ -29,19 +29,19 @@ root_bytes hash h (Some P) =
 
 -- the root digest of that map
 abbrev pub root_found : (List ℕ → List ℕ) → Head → Option Cut → List ℕ
-root_found hash h P = hash (root_bytes hash h P)
+root_found hash h P = hash (proof_preimage hash h P)
 
 -- the bytes spell this head and cut, which show what is asked, of the map with the root digest
-pub record Shows (hash : List ℕ → List ℕ) (root : List ℕ) (a : Question) (bytes : List ℕ)
-    (x : Said) : Type 0 where
+pub record ShowsCut (hash : List ℕ → List ℕ) (root : List ℕ) (a : Question) (bytes : List ℕ)
+    (x : Parsed) : Type 0 where
   pub spelled : IsSpelled x.head x.part bytes
   pub kind : x.head.kind ≡ a.kind
   pub tight : IsTight a x.head x.part
   pub held : root_found hash x.head x.part ≡ root
 
 -- the bytes prove the answer to the query
-pub record Proves (hash : List ℕ → List ℕ) (root : List ℕ) (q : Query) (bytes : List ℕ)
+pub record ProvesAnswer (hash : List ℕ → List ℕ) (root : List ℕ) (q : Query) (bytes : List ℕ)
     (answer : List Record) : Type 0 where
-  pub said : Said
-  pub shows : Shows hash root (question q) bytes said
+  pub said : Parsed
+  pub shows : ShowsCut hash root (question q) bytes said
   pub scanned : answer ≡ scan (opened_records said.part) q

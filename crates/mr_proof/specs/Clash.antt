@@ -7,8 +7,8 @@ use Rattle.mr_tree.specs.declared.tree.Tree.TheOpen as node
 use Rattle.mr_tree.specs.declared.tree.Tree.TheOpen.{Tree-F}
 use Rattle.mr_tree.specs.declared.tree.Tree.TheViews.{out-Tree}
 use Rattle.mr_proof.specs.Cut.{Cut, Cuts, Pruned, Leaf, Inner, no_more, first, preimage}
-use Rattle.mr_proof.specs.Spelling.{Said}
-use Rattle.mr_proof.specs.Accepted.{root_bytes}
+use Rattle.mr_proof.specs.Spelling.{Parsed}
+use Rattle.mr_proof.specs.Accepted.{proof_preimage}
 use Rattle.mr_proof.specs.declared.head.Kind.{Kind}
 use Rattle.mr_proof.specs.Reading.{kind_in, pair_of}
 
@@ -58,12 +58,12 @@ part_clash s level t None = None
 part_clash s level t (Some P) = node_clash s level t P
 
 -- of the map with this tree at this batch, and a head and a cut: the roots before the nodes
-abbrev pub pair_clash : Scheme → Tree → (batch : ℕ) → Said → Option Pair
+abbrev pub pair_clash : Scheme → Tree → (batch : ℕ) → Parsed → Option Pair
 pair_clash s t batch x = or_else
-    (differ (digests.root_bytes s t batch) (Some (root_bytes s.of x.head x.part)))
+    (differ (digests.root_preimage_of s t batch) (Some (proof_preimage s.of x.head x.part)))
     (part_clash s x.head.level t x.part)
 
-abbrev pub if_said : Option Said → (Said → Option Pair) → Option Pair
+abbrev pub if_said : Option Parsed → (Parsed → Option Pair) → Option Pair
 if_said None f = None
 if_said (Some x) f = f x
 

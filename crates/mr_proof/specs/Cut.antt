@@ -10,12 +10,12 @@ use Rattle.mr_tree.specs.declared.entry.Entry.{Entry}
 use Rattle.mr_tree.specs.declared.tree.Tree.{Tree}
 use Rattle.mr_tree.specs.declared.tree.Tree.TheVariants as trees
 use Rattle.mr_tree.specs.declared.tree.Tree.TheOpen as node
-use Rattle.mr_proof.specs.declared.shown.Shown.{Shown}
+use Rattle.mr_proof.specs.declared.pruned_entry.PrunedEntry.{PrunedEntry}
 
 mutual
   -- a pruned part, with what is shown of it; a leaf; or an inner node with a cut of each child
   pub data Cut : Type 0 where
-    Pruned : Shown → Cut
+    Pruned : PrunedEntry → Cut
     Leaf : List Record → Cut
     Inner : Cuts → Cut
 
@@ -26,26 +26,26 @@ mutual
 
 -- ---- what is shown of a pruned part: what its parent's entry shows of it
 
-abbrev pub shown_with : Entry → Rectangle → Shown
+abbrev pub shown_with : Entry → Rectangle → PrunedEntry
 shown_with e r = record { rect = r; digest = e.digest }
 
 -- the entry of the empty tree, of which there is no cut, has no rectangle and shows nothing
-abbrev pub shown_of : Entry → Option Shown
-shown_of e = option_map (shown_with e) e.rect
+abbrev pub pruned_entry : Entry → Option PrunedEntry
+pruned_entry e = option_map (shown_with e) e.rect
 
 -- the entry of a part of this level, by what is shown of it; the version of proofs tells of no
 -- layers and no counts
-abbrev pub entry_shown : (level : ℕ) → Shown → Entry
+abbrev pub entry_shown : (level : ℕ) → PrunedEntry → Entry
 entry_shown level part = record
     { level = level; rect = Some part.rect; mask = 0; count = 0; digest = part.digest }
 
-abbrev pub pruned_if : Option Shown → Cut
+abbrev pub pruned_if : Option PrunedEntry → Cut
 pruned_if None = Leaf []
 pruned_if (Some part) = Pruned part
 
 -- the part with this entry, pruned
 abbrev pub pruned_cut : Entry → Cut
-pruned_cut e = pruned_if (shown_of e)
+pruned_cut e = pruned_if (pruned_entry e)
 
 -- ---- cuts side by side
 
@@ -53,9 +53,9 @@ abbrev pub cuts_of : List Cut → Cuts
 cuts_of [] = no_more
 cuts_of (P ∷ Ps) = first P (cuts_of Ps)
 
-abbrev pub count_of : Cuts → ℕ
-count_of no_more = 0
-count_of (first P Ps) = count_of Ps + 1
+abbrev pub number_of_cuts : Cuts → ℕ
+number_of_cuts no_more = 0
+number_of_cuts (first P Ps) = number_of_cuts Ps + 1
 
 -- ---- what is known of the tree by a cut of it
 

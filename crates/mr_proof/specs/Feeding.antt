@@ -6,7 +6,7 @@ use Rattle.mr_query.specs.Scan.{scan}
 use Rattle.mr_proof.specs.declared.head.Head.{Head}
 use Rattle.mr_proof.specs.declared.rule.Fault.{Fault}
 use Rattle.mr_proof.specs.Cut.{Cut}
-use Rattle.mr_proof.specs.Spelling.{Said, opened_records, IsSpelled}
+use Rattle.mr_proof.specs.Spelling.{Parsed, opened_records, IsSpelled}
 use Rattle.mr_proof.specs.Tight.{Question, question, keeps_at, IsTightCut}
 use Rattle.mr_proof.specs.Reading.{checked, verdict}
 use Rattle.mr_proof.specs.Halves.{IsSettled}
@@ -19,7 +19,8 @@ IsUnsettled hash root a bytes =
 
 -- behind these bytes the last of so many of the piece completes a record, the first that the piece
 -- hands out
-pub record Completes (a : Question) (so_far piece : List ℕ) (taken : ℕ) (one : Record) : Type 0
+pub record CompletesRecord (a : Question) (so_far piece : List ℕ) (taken : ℕ) (one : Record) :
+    Type 0
   where
     pub item : handed_out a (so_far ++ take taken piece) ≡ handed_out a so_far ++ one ∷ []
     pub none_before : handed_out a (so_far ++ take (taken - 1) piece) ≡ handed_out a so_far
@@ -33,8 +34,8 @@ pub record IsFinal (hash : List ℕ → List ℕ) (root : List ℕ) (a : Questio
   pub none : handed_out a (so_far ++ piece) ≡ handed_out a so_far
 
 -- some records, and then the rest of them
-abbrev pub IsFront : List Record → List Record → Type 0
-IsFront some all = (rest : List Record) × (all ≡ some ++ rest)
+abbrev pub IsFrontOfRecords : List Record → List Record → Type 0
+IsFrontOfRecords some all = (rest : List Record) × (all ≡ some ++ rest)
 
 -- the records that are opened and not left out, in reading order
 abbrev pub kept_records : Question → Head → Option Cut → List Record
@@ -45,14 +46,14 @@ kept_records a h P = filter (λ (r : Record). keeps_at (a.way h.radius) r.rect) 
 -- the radius, accepted or not.
 pub record HandsOpened (a : Question) (bytes : List ℕ) : Type 0 where
   pub front : (h : Head) (P : Option Cut) → h.kind ≡ a.kind → IsSpelled h P bytes
-      → IsFront (handed_out a bytes) (kept_records a h P)
+      → IsFrontOfRecords (handed_out a bytes) (kept_records a h P)
   pub tight : (h : Head) (P : Option Cut) → h.kind ≡ a.kind → IsSpelled h P bytes
       → IfSome P (IsTightCut (a.way h.radius)) → handed_out a bytes ≡ kept_records a h P
 
 -- the proof is accepted, with this head and cut; and the records that were handed out are those
 -- opened that are not left out, in reading order
 pub record HandsOut (hash : List ℕ → List ℕ) (root : List ℕ) (a : Question) (bytes : List ℕ)
-    (x : Said) : Type 0 where
+    (x : Parsed) : Type 0 where
   pub is_read : checked hash root a bytes ≡ Ok x
   pub all : handed_out a bytes
       ≡ filter (λ (r : Record). keeps_at (a.way x.head.radius) r.rect) (opened_records x.part)
@@ -60,12 +61,12 @@ pub record HandsOut (hash : List ℕ → List ℕ) (root : List ℕ) (a : Questi
 -- for a query their scan is the answer
 pub record HandsOutAll (hash : List ℕ → List ℕ) (root : List ℕ) (q : Query)
     (bytes : List ℕ) : Type 0 where
-  pub said : Said
+  pub said : Parsed
   pub hands : HandsOut hash root (question q) bytes said
   pub answer : verdict hash root q bytes ≡ Ok (scan (handed_out (question q) bytes) q)
 
 -- what is answered at the end of the bytes: their verdict
-abbrev pub Ends : {X : Type 0} → (List ℕ → List ℕ) → List ℕ → Query → List ℕ → Result X Fault
+abbrev pub EndsFeeding : {X : Type 0} → (List ℕ → List ℕ) → List ℕ → Query → List ℕ → Result X Fault
     → Type 0
-Ends hash root q bytes (Ok x) = HandsOutAll hash root q bytes
-Ends hash root q bytes (Err f) = verdict hash root q bytes ≡ Err f
+EndsFeeding hash root q bytes (Ok x) = HandsOutAll hash root q bytes
+EndsFeeding hash root q bytes (Err f) = verdict hash root q bytes ≡ Err f

@@ -12,9 +12,9 @@ use Rattle.mr_proof.specs.declared.field.Field.{Field}
 use Rattle.mr_proof.specs.Fields.{pruned_tag}
 pub use Rattle.mr_proof.specs.Fields.{number_in, wide_in, tag_in, rect_in, bytes_in}
 use Rattle.mr_proof.specs.Cut.{Cut, Cuts, Pruned, Leaf, Inner, no_more, first}
-use Rattle.mr_proof.specs.Spelling.{Said, said}
+use Rattle.mr_proof.specs.Spelling.{Parsed, said}
 use Rattle.mr_proof.specs.declared.way.Way.{Way}
-use Rattle.mr_proof.specs.Tight.{Seen, seen, opens_seen, opens_at, keeps_at}
+use Rattle.mr_proof.specs.Tight.{Key, key_of, opens_seen, opens_at, keeps_at}
 
 -- What the fields so far say: that the rule is broken, unless this test passes; or that the record
 -- was opened, and whether it is not left out. A note stands at the last field before it.
@@ -42,18 +42,18 @@ one_record next =
     next (record { number = number_in n; rect = rect_in r; layer = 0; payload = p })))))
 
 -- n records of a leaf
-abbrev pub some_records : {A : Type 0} → (Seen → Way) → ℕ → (List Record → Grammar A) → Grammar A
+abbrev pub some_records : {A : Type 0} → (Key → Way) → ℕ → (List Record → Grammar A) → Grammar A
 some_records way zero next = next []
 some_records way (suc n) next =
     one_record (λ r. notes (opens r (keeps_at way r.rect))
     (some_records way n (λ rs. next (r ∷ rs))))
 
 -- a node that was opened, and was to be
-abbrev pub opened : {A : Type 0} → (Seen → Way) → Cut → (Cut → Grammar A) → Grammar A
-opened way P next = notes (must rule.Needless (opens_seen way (seen P))) (next P)
+abbrev pub opened : {A : Type 0} → (Key → Way) → Cut → (Cut → Grammar A) → Grammar A
+opened way P next = notes (must rule.Needless (opens_seen way (key_of P))) (next P)
 
 -- a leaf, behind its tag
-abbrev pub leaf : {A : Type 0} → (Seen → Way) → (Cut → Grammar A) → Grammar A
+abbrev pub leaf : {A : Type 0} → (Key → Way) → (Cut → Grammar A) → Grammar A
 leaf way next =
     reads want.LeafCount (λ n. some_records way (number_in n)
     (λ rs. opened way (Leaf rs) next))
@@ -65,20 +65,20 @@ some_items one zero next = next no_more
 some_items one (suc n) next = one (λ P. some_items one n (λ Ps. next (first P Ps)))
 
 -- an inner node, behind its tag, with items of this grammar
-abbrev pub inner : {A : Type 0} → (Seen → Way) → ((Cut → Grammar A) → Grammar A)
+abbrev pub inner : {A : Type 0} → (Key → Way) → ((Cut → Grammar A) → Grammar A)
     → (Cut → Grammar A) → Grammar A
 inner way one next =
     reads want.InnerCount (λ n. some_items one (number_in n) (λ Ps. opened way (Inner Ps) next))
 
 -- a pruned part, behind its tag, which was to be pruned
-abbrev pub pruned : {A : Type 0} → (Seen → Way) → (Cut → Grammar A) → Grammar A
+abbrev pub pruned : {A : Type 0} → (Key → Way) → (Cut → Grammar A) → Grammar A
 pruned way next =
     reads want.Rect (λ r. notes (must rule.Hidden (not (opens_at way (rect_in r))))
     (reads want.Digest (λ d.
     next (Pruned (record { rect = rect_in r; digest = bytes_in d })))))
 
 -- an item of this level
-abbrev pub item : {A : Type 0} → (Seen → Way) → ℕ → (Cut → Grammar A) → Grammar A
+abbrev pub item : {A : Type 0} → (Key → Way) → ℕ → (Cut → Grammar A) → Grammar A
 item way zero next =
     reads (want.Tag 0) (λ t. if tag_in t == pruned_tag then pruned way next else leaf way
     next)
@@ -114,11 +114,11 @@ head k next =
     }))))))))
 
 -- what follows the head: where there are records, an item of the head's level
-abbrev pub part : (Option ℕ → Seen → Way) → Head → Grammar Said
+abbrev pub part : (Option ℕ → Key → Way) → Head → Grammar Parsed
 part way h =
     if h.count == 0 then done (said h None) else item (way h.radius) h.level
     (λ P. done (said h (Some P)))
 
 -- a whole proof of this kind, in which parts have these ways by the head's radius
-abbrev pub whole : Kind → (Option ℕ → Seen → Way) → Grammar Said
+abbrev pub whole : Kind → (Option ℕ → Key → Way) → Grammar Parsed
 whole k way = head k (part way)

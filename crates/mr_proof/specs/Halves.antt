@@ -14,9 +14,9 @@ use Rattle.mr_proof.specs.declared.rule.Rule.{Rule}
 use Rattle.mr_proof.specs.declared.rule.Rule.TheVariants as rule
 use Rattle.mr_proof.specs.declared.rule.Fault.{Fault}
 use Rattle.mr_proof.specs.Cut.{Cut, CutOf}
-use Rattle.mr_proof.specs.Spelling.{Said, said, IsSpelled}
+use Rattle.mr_proof.specs.Spelling.{Parsed, said, IsSpelled}
 use Rattle.mr_proof.specs.Tight.{Question, question, IsTight}
-use Rattle.mr_proof.specs.Accepted.{root_found, Shows, Proves}
+use Rattle.mr_proof.specs.Accepted.{root_found, ShowsCut, ProvesAnswer}
 use Rattle.mr_proof.specs.Honest.{honest_head, honest_part, honest_said, proof_for, proof}
 use Rattle.mr_proof.specs.Refused.{IsRefused}
 use Rattle.mr_proof.specs.Reading.{checked, verdict, pair_of, pair_in}
@@ -26,7 +26,7 @@ use Rattle.mr_proof.specs.Reading.{checked, verdict, pair_of, pair_in}
 -- the head and cut of the verdict are just those that the bytes show
 abbrev pub ShowsJust : (List ℕ → List ℕ) → List ℕ → Question → List ℕ → Type 0
 ShowsJust hash root a bytes =
-    (x : Said) → (checked hash root a bytes ≡ Ok x) ↔ Shows hash root a bytes x
+    (x : Parsed) → (checked hash root a bytes ≡ Ok x) ↔ ShowsCut hash root a bytes x
 
 -- it is a fault just where that is the first of all that is broken
 abbrev pub FaultsJust : (List ℕ → List ℕ) → List ℕ → Question → List ℕ → Type 0
@@ -78,7 +78,8 @@ pub record IsHonestProof (s : Scheme) (t : Tree) (batch : ℕ) (a : Question) : 
 -- the verdict is an answer just where the bytes prove it
 abbrev pub AcceptsJust : (List ℕ → List ℕ) → List ℕ → Query → List ℕ → Type 0
 AcceptsJust hash root q bytes =
-    (answer : List Record) → (verdict hash root q bytes ≡ Ok answer) ↔ Proves hash root q bytes
+    (answer : List Record) → (verdict hash root q bytes ≡ Ok answer) ↔ ProvesAnswer hash root
+    q bytes
     answer
 
 -- it is a fault just where that is the first of all that is broken
@@ -89,9 +90,9 @@ RefusesJust hash root q bytes =
 -- the bytes prove an answer or have a fault, and never both
 pub record OneHalf (hash : List ℕ → List ℕ) (root : List ℕ) (q : Query)
     (bytes : List ℕ) : Type 0 where
-  pub some : ((answer : List Record) × Proves hash root q bytes answer) ⊎
+  pub some : ((answer : List Record) × ProvesAnswer hash root q bytes answer) ⊎
       ((f : Fault) × IsRefused hash root (question q) bytes f)
-  pub apart : (answer : List Record) (f : Fault) → Proves hash root q bytes answer
+  pub apart : (answer : List Record) (f : Fault) → ProvesAnswer hash root q bytes answer
       → IsRefused hash root (question q) bytes f → ⊥
 
 -- the kinds of queries

@@ -8,7 +8,7 @@ use Rattle.mr_proof.specs.Limits.{place_limit}
 use Rattle.mr_proof.specs.Fields.{size_of}
 use Rattle.mr_proof.specs.Tight.{Question}
 use Rattle.mr_proof.specs.Grammar.{must, opens, Grammar, done, reads, notes, whole}
-use Rattle.mr_proof.specs.Layout.{Stand, start, field_at}
+use Rattle.mr_proof.specs.Layout.{Cursor, start, field_at}
 
 -- Whether a fault is fixed at this place, whatever bytes follow: a note fails before the next
 -- field, or that field would end past the limit.
@@ -18,7 +18,7 @@ is_fixed (reads w next) at = nat_lt place_limit (at + size_of w)
 is_fixed (notes (must r passes) next) at = not passes || is_fixed next at
 is_fixed (notes (opens r met) next) at = is_fixed next at
 
-abbrev pub if_read : Result (Field × Stand) Fault → (Field × Stand → List Record) → List Record
+abbrev pub if_read : Result (Field × Cursor) Fault → (Field × Cursor → List Record) → List Record
 if_read (Ok x) behind = behind x
 if_read (Err f) behind = []
 
@@ -27,7 +27,7 @@ abbrev pub if_handed : Bool → Record → List Record → List Record
 if_handed out r rs = if out then r ∷ rs else rs
 
 -- the records handed out; one whose last byte also fixes a fault is not
-abbrev pub handed : {A : Type 0} → Grammar A → Stand → List Record
+abbrev pub handed : {A : Type 0} → Grammar A → Cursor → List Record
 handed (done x) s = []
 handed (reads w next) s = if_read (field_at w s) (λ x. handed (next x.0) x.1)
 handed (notes (must r passes) next) s = if passes then handed next s else []

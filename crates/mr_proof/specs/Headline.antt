@@ -9,9 +9,9 @@ use Rattle.mr_tree.specs.declared.tree.Tree.{Tree}
 use Rattle.mr_query.specs.declared.query.Query.{Query}
 use Rattle.mr_query.specs.Scan.{scan}
 use Rattle.mr_proof.specs.declared.rule.Fault.{Fault}
-use Rattle.mr_proof.specs.Spelling.{Said}
+use Rattle.mr_proof.specs.Spelling.{Parsed}
 use Rattle.mr_proof.specs.Tight.{Question}
-use Rattle.mr_proof.specs.Accepted.{Proves}
+use Rattle.mr_proof.specs.Accepted.{ProvesAnswer}
 use Rattle.mr_proof.specs.Honest.{honest_said, proof_for, proof}
 use Rattle.mr_proof.specs.Reading.{checked, verdict}
 use Rattle.mr_proof.specs.Clash.{Pair, clash_of, clash, IsCollision, NoneAnd}
@@ -20,11 +20,12 @@ use Rattle.mr_proof.specs.Clash.{Pair, clash_of, clash, IsCollision, NoneAnd}
 
 -- the head and cut are the map's own, and the bytes are those that an honest server sends
 pub record MatchesHonest (s : Scheme) (t : Tree) (batch : ℕ) (a : Question) (bytes : List ℕ)
-    (x : Said) : Type 0 where
+    (x : Parsed) : Type 0 where
   pub same : x ≡ honest_said s a t batch
   pub own : bytes ≡ proof_for s a t batch
 
-abbrev pub MatchesHonestOrCollides : Scheme → Tree → (batch : ℕ) → Question → List ℕ → Said → Type 0
+abbrev pub MatchesHonestOrCollides : Scheme → Tree → (batch : ℕ) → Question → List ℕ → Parsed →
+    Type 0
 MatchesHonestOrCollides s t batch a bytes x =
     NoneAnd s.of (clash_of a.kind s t batch bytes) (MatchesHonest s t batch a bytes x)
 
@@ -32,7 +33,7 @@ MatchesHonestOrCollides s t batch a bytes x =
 -- whatever the map.
 abbrev pub AcceptedMatchesHonest : Scheme → Question → List ℕ → Type 0
 AcceptedMatchesHonest s a bytes =
-    (t : Tree) (batch : ℕ) (x : Said) → WellFormed t → HasLayers s.version t → batch < 2 ^ 64
+    (t : Tree) (batch : ℕ) (x : Parsed) → WellFormed t → HasLayers s.version t → batch < 2 ^ 64
     → checked s.of (root s t batch) a bytes ≡ Ok x → MatchesHonestOrCollides s t batch a bytes x
 
 -- The honest proof shows no pair.
@@ -62,7 +63,7 @@ abbrev pub Headline : Scheme → Query → List ℕ → Type 0
 Headline s q bytes =
     (t : Tree) (batch : ℕ) (answer : List Record) → WellFormed t → HasLayers s.version t
     → batch < 2 ^ 64
-    → Proves s.of (root s t batch) q bytes answer
+    → ProvesAnswer s.of (root s t batch) q bytes answer
     → IsHonestOrCollides s t batch q bytes answer
 
 -- The same by the verdict: what an accepted proof is worth.

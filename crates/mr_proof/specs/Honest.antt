@@ -10,9 +10,9 @@ use Rattle.mr_tree.specs.declared.tree.Tree.TheFolds.{fold-Tree, map-Tree}
 use Rattle.mr_query.specs.declared.query.Query.{Query}
 use Rattle.mr_proof.specs.declared.head.Head.{Head}
 use Rattle.mr_proof.specs.Cut.{Cut, Leaf, Inner, pruned_cut, cuts_of, opened_nodes}
-use Rattle.mr_proof.specs.Spelling.{Said, said, head_bytes, part_bytes}
+use Rattle.mr_proof.specs.Spelling.{Parsed, said, head_bytes, part_bytes}
 use Rattle.mr_proof.specs.declared.way.Way.{Way}
-use Rattle.mr_proof.specs.Tight.{Seen, seen_at, opens_seen, Question, question, radius_by}
+use Rattle.mr_proof.specs.Tight.{Key, key_at, opens_seen, Question, question, radius_by}
 
 -- ---- the honest cut of a tree
 
@@ -32,27 +32,27 @@ opened_cut (node.Leaf records) = Leaf records
 opened_cut (node.Inner parts) = Inner (cuts_of (map (λ (p : Part). p.cut) parts))
 
 -- the node opened where its way is so, and else pruned
-abbrev pub opened_if_met : (Seen → Way) → Cut → Entry → Cut
+abbrev pub opened_if_met : (Key → Way) → Cut → Entry → Cut
 opened_if_met way P e =
-    if opens_seen way (option_map seen_at e.rect) then P else pruned_cut e
+    if opens_seen way (option_map key_at e.rect) then P else pruned_cut e
 
-abbrev pub part_step : Scheme → (Seen → Way) → Tree-F Part → Part
+abbrev pub part_step : Scheme → (Key → Way) → Tree-F Part → Part
 part_step s way x = record {
   entry = entry_over s x;
   cut = opened_if_met way (opened_cut x) (entry_over s x);
 }
 
-abbrev pub part : Scheme → (Seen → Way) → Tree → Part
+abbrev pub part : Scheme → (Key → Way) → Tree → Part
 part s way = fold-Tree Part (part_step s way)
 
 -- the cut that opens just the nodes of which the way is to open them, from the root down
-abbrev pub honest_cut : Scheme → (Seen → Way) → Tree → Cut
+abbrev pub honest_cut : Scheme → (Key → Way) → Tree → Cut
 honest_cut s way t = (part s way t).cut
 
 -- ---- what is asked of a map
 
 -- the ways by the squared radius of the records of the map
-abbrev pub ways_of : Question → Tree → Seen → Way
+abbrev pub ways_of : Question → Tree → Key → Way
 ways_of a t = a.way (radius_by a.around (records t))
 
 -- the head of the honest proof
@@ -71,7 +71,7 @@ honest_part s a t =
     if length (records t) == 0 then None else Some (honest_cut s (ways_of a t) t)
 
 -- both, of the map with this tree at this batch
-abbrev pub honest_said : Scheme → Question → Tree → (batch : ℕ) → Said
+abbrev pub honest_said : Scheme → Question → Tree → (batch : ℕ) → Parsed
 honest_said s a t batch = said (honest_head a t batch) (honest_part s a t)
 
 -- the bytes of the honest proof

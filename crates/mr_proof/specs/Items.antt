@@ -1,6 +1,6 @@
 -- The items of a proof one by one: the bytes of a cut are those of its items.
 use Rattle.std.specs.Prelude.{◌≡◌, ℕ, ◌≤◌, ⊤, List, [], ◌∷◌, length}
-use Rattle.mr_tree.specs.View.{level_of, records_in, entry_of}
+use Rattle.mr_tree.specs.View.{level_of, records_in, child_entry}
 use Rattle.mr_proof.specs.declared.item.Item.{Item}
 use Rattle.mr_proof.specs.declared.item.Item.TheVariants as item
 use Rattle.mr_proof.specs.Limits.{leaf_limit, inner_limit}
@@ -10,7 +10,7 @@ use Rattle.mr_proof.specs.Spelling.{cut_bytes}
 
 -- a pruned part and a leaf whole; of an inner node the tag and the number of its children
 abbrev pub item_bytes : Item → List ℕ
-item_bytes (item.Pruned child) = cut_bytes (pruned_cut (entry_of child.now))
+item_bytes (item.Pruned child) = cut_bytes (pruned_cut (child_entry child.now))
 item_bytes (item.Leaf view) = cut_bytes (Leaf (records_in view.now))
 item_bytes (item.Inner count) = inner_tag ∷ count ∷ []
 

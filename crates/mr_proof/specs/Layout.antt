@@ -13,25 +13,25 @@ fault broken at = record { rule = broken; at = at }
 
 -- Where a layout stands: the place of the next field, that of the last one, and the bytes from the
 -- next field on.
-pub record Stand : Type 0 where
+pub record Cursor : Type 0 where
   pub at : ℕ
   pub last : ℕ
   pub rest : List ℕ
 
 -- before the first field
-abbrev pub start : List ℕ → Stand
+abbrev pub start : List ℕ → Cursor
 start bytes = record { at = 0; last = 0; rest = bytes }
 
 -- behind the field
-abbrev pub behind : Want → Stand → Stand
+abbrev pub behind : Want → Cursor → Cursor
 behind w s = record { at = s.at + size_of w; last = s.at; rest = drop (size_of w) s.rest }
 
-abbrev pub field_or_fault : Want → Stand → Result Field Rule → Result (Field × Stand) Fault
+abbrev pub field_or_fault : Want → Cursor → Result Field Rule → Result (Field × Cursor) Fault
 field_or_fault w s (Ok value) = Ok (value, behind w s)
 field_or_fault w s (Err broken) = Err (fault broken s.at)
 
 -- the field that stands next, if it is whole and breaks no rule of its own
-unfoldable pub field_at : Want → Stand → Result (Field × Stand) Fault
+unfoldable pub field_at : Want → Cursor → Result (Field × Cursor) Fault
 field_at w s =
     if nat_lt place_limit (s.at + size_of w) then Err (fault rule.Long s.at)
     else if nat_lt (length s.rest) (size_of w) then Err (fault rule.Short s.at)

@@ -7,14 +7,14 @@ use Rattle.mr_proof.specs.declared.head.Kind.TheVariants as kind
 use Rattle.mr_proof.specs.declared.rule.Rule.TheVariants as rule
 use Rattle.mr_proof.specs.declared.rule.Fault.{Fault}
 use Rattle.mr_proof.specs.Fields.{kind_byte}
-use Rattle.mr_proof.specs.Spelling.{Said, opened_records}
+use Rattle.mr_proof.specs.Spelling.{Parsed, opened_records}
 use Rattle.mr_query.specs.Scan.{scan}
 use Rattle.mr_proof.specs.declared.way.Way.{Way}
 use Rattle.mr_proof.specs.declared.way.Way.TheVariants as ways
-use Rattle.mr_proof.specs.Tight.{Seen, Question, question}
+use Rattle.mr_proof.specs.Tight.{Key, Question, question}
 use Rattle.mr_proof.specs.Accepted.{root_found}
 use Rattle.mr_proof.specs.Grammar.{Note, must, opens, Grammar, done, reads, notes, whole}
-use Rattle.mr_proof.specs.Layout.{fault, Stand, start, field_at}
+use Rattle.mr_proof.specs.Layout.{fault, Cursor, start, field_at}
 use Rattle.mr_proof.specs.Refused.{has_other_radius}
 
 -- the second step, if the first met no fault
@@ -32,7 +32,7 @@ past heeds (opens r met) at rest = rest
 
 -- What the ending gives after the last field, or the first fault before it: a field's, or, where
 -- notes are heeded, a note's.
-abbrev pub walk : {A B : Type 0} → Bool → (A → Stand → Result B Fault) → Grammar A → Stand
+abbrev pub walk : {A B : Type 0} → Bool → (A → Cursor → Result B Fault) → Grammar A → Cursor
     → Result B Fault
 walk heeds ending (done x) s = ending x s
 walk heeds ending (reads w next) s = field_at w s >>= λ x. walk heeds ending (next x.0) x.1
@@ -41,7 +41,8 @@ walk heeds ending (notes n next) s = past heeds n s.last (walk heeds ending next
 -- ---- a proof that is checked
 
 -- the head and the cut after a layout that reached its last field, or the first fault behind it
-unfoldable pub ending : (List ℕ → List ℕ) → List ℕ → Question → Said → Stand → Result Said Fault
+unfoldable pub ending : (List ℕ → List ℕ) → List ℕ → Question → Parsed → Cursor → Result
+    Parsed Fault
 ending hash root a x s =
     if nat_lt 0 (length s.rest) then Err (fault rule.Trailing s.at)
     else if not (bytes_eq (root_found hash x.head x.part) root) then
@@ -51,7 +52,7 @@ ending hash root a x s =
     else Ok x
 
 -- the head and the cut of an accepted proof, or the fault of the bytes
-unfoldable pub checked : (List ℕ → List ℕ) → List ℕ → Question → List ℕ → Result Said Fault
+unfoldable pub checked : (List ℕ → List ℕ) → List ℕ → Question → List ℕ → Result Parsed Fault
 checked hash root a bytes =
     walk true (ending hash root a) (whole a.kind a.way) (start bytes)
 
@@ -67,21 +68,21 @@ abbrev pub kind_in : List ℕ → Kind
 kind_in bytes = if slice_index bytes 5 == kind_byte kind.K then kind.K else kind.W
 
 -- nothing is left behind the last field
-abbrev pub at_end : Said → Stand → Result Said Fault
+abbrev pub at_end : Parsed → Cursor → Result Parsed Fault
 at_end x s = if nat_lt 0 (length s.rest) then Err (fault rule.Trailing s.at) else Ok x
 
-abbrev pub if_spelled : Result Said Fault → Option Said
+abbrev pub if_spelled : Result Parsed Fault → Option Parsed
 if_spelled (Ok x) = Some x
 if_spelled (Err f) = None
 
 -- any ways: where notes are not heeded, none counts
-abbrev pub anywhere : Option ℕ → Seen → Way
+abbrev pub anywhere : Option ℕ → Key → Way
 anywhere radius s = ways.Open
 
 -- the head and the cut that the whole of the bytes spells, in a proof of this kind, tight or not
-unfoldable pub pair_of : Kind → List ℕ → Option Said
+unfoldable pub pair_of : Kind → List ℕ → Option Parsed
 pair_of k bytes = if_spelled (walk false at_end (whole k anywhere) (start bytes))
 
 -- for a query of whatever kind
-abbrev pub pair_in : List ℕ → Option Said
+abbrev pub pair_in : List ℕ → Option Parsed
 pair_in bytes = pair_of (kind_in bytes) bytes

@@ -8,12 +8,12 @@ use Rattle.mr_proof.specs.declared.rule.Rule.{Rule}
 use Rattle.mr_proof.specs.declared.rule.Rule.TheVariants as rule
 use Rattle.mr_proof.specs.declared.rule.Fault.{Fault}
 use Rattle.mr_proof.specs.declared.field.Field.{Field}
-use Rattle.mr_proof.specs.Spelling.{Said, opened_records}
+use Rattle.mr_proof.specs.Spelling.{Parsed, opened_records}
 use Rattle.mr_proof.specs.declared.question.Around.{Around}
 use Rattle.mr_proof.specs.Tight.{Question}
 use Rattle.mr_proof.specs.Accepted.{root_found}
 use Rattle.mr_proof.specs.Grammar.{Note, must, opens, Grammar, done, reads, notes, whole}
-use Rattle.mr_proof.specs.Layout.{fault, Stand, start, field_at}
+use Rattle.mr_proof.specs.Layout.{fault, Cursor, start, field_at}
 
 -- ---- the first of some faults
 
@@ -53,7 +53,7 @@ abbrev pub if_fault : Bool → Fault → List Fault
 if_fault broken f = if broken then f ∷ [] else []
 
 -- the faults behind a field that is read, or its own fault, with which the layout ends
-abbrev pub with_field : Result (Field × Stand) Fault → (Field → Stand → List Fault) → List Fault
+abbrev pub with_field : Result (Field × Cursor) Fault → (Field → Cursor → List Fault) → List Fault
 with_field (Ok x) behind = behind x.0 x.1
 with_field (Err f) behind = f ∷ []
 
@@ -64,7 +64,7 @@ note_faults (opens r met) at = []
 
 -- All faults of the layout: that of the field with which it ends, those of the notes on the way,
 -- and after a layout that reached its last field those that then are found.
-abbrev pub faults : {A : Type 0} → (A → Stand → List Fault) → Grammar A → Stand → List Fault
+abbrev pub faults : {A : Type 0} → (A → Cursor → List Fault) → Grammar A → Cursor → List Fault
 faults ending (done x) s = ending x s
 faults ending (reads w next) s = with_field (field_at w s) (λ value t. faults ending (next value) t)
 faults ending (notes n next) s = note_faults n s.last ++ faults ending next s
@@ -79,7 +79,7 @@ has_other_radius (Some x) (Some n) records =
     nat_le x.k (nearer_than x.center n records) || nat_lt (not_farther_than x.center n records) x.k
 
 -- what is found after a layout that reached its last field
-abbrev pub last_faults : (List ℕ → List ℕ) → List ℕ → Question → Said → Stand → List Fault
+abbrev pub last_faults : (List ℕ → List ℕ) → List ℕ → Question → Parsed → Cursor → List Fault
 last_faults hash root a x s =
     let found = root_found hash x.head x.part in
     let end = s.at + length s.rest in

@@ -3,7 +3,7 @@ use Rattle.std.specs.Prelude.{◌≡◌, ℕ, ◌-◌, ◌^◌, ◌<◌, ◌≤�
 use Rattle.std.specs.List.{flat_map}
 use Rattle.std.specs.Int.{w64, w128, to_be_bytes}
 use Rattle.mr_geom.specs.Rectangle.{IsOrdered, FitsMap}
-use Rattle.mr_record.specs.Bytes.{AreBytes}
+use Rattle.mr_record.specs.private.Bytes.{AreBytes}
 use Rattle.mr_record.specs.Record.{IsRecord, HasLayer, record_bytes}
 use Rattle.mr_record.specs.Version.{version_byte}
 use Rattle.mr_record.specs.declared.version.Version.{Version}
@@ -12,28 +12,28 @@ use Rattle.mr_record.specs.declared.record.Record.{Record}
 use Rattle.mr_proof.specs.declared.head.Kind.{Kind}
 use Rattle.mr_proof.specs.declared.head.Kind.TheVariants as kind
 use Rattle.mr_proof.specs.declared.head.Head.{Head}
-use Rattle.mr_proof.specs.declared.shown.Shown.{Shown}
+use Rattle.mr_proof.specs.declared.pruned_entry.PrunedEntry.{PrunedEntry}
 use Rattle.mr_proof.specs.Limits.{count_limit, radius_limit, level_limit, leaf_limit, inner_limit, place_limit}
 use Rattle.mr_proof.specs.Fields.{magic, version, kind_byte, pruned_tag, leaf_tag, inner_tag}
-use Rattle.mr_proof.specs.Cut.{Cut, Cuts, Pruned, Leaf, Inner, no_more, first, entry_shown, count_of, records}
+use Rattle.mr_proof.specs.Cut.{Cut, Cuts, Pruned, Leaf, Inner, no_more, first, entry_shown, number_of_cuts, records}
 
 -- ---- items
 
 -- those of the part's entry, which do not tell its level
-abbrev pub shown_bytes : Shown → List ℕ
+abbrev pub shown_bytes : PrunedEntry → List ℕ
 shown_bytes part = entry_bytes version (entry_shown 0 part)
 
 abbrev mutual
   pub cut_bytes : Cut → List ℕ
   cut_bytes (Pruned part) = pruned_tag ∷ shown_bytes part
   cut_bytes (Leaf records) = leaf_tag ∷ length records ∷ flat_map (record_bytes version) records
-  cut_bytes (Inner cuts) = inner_tag ∷ count_of cuts ∷ cuts_bytes cuts
+  cut_bytes (Inner cuts) = inner_tag ∷ number_of_cuts cuts ∷ cuts_bytes cuts
 
   pub cuts_bytes : Cuts → List ℕ
   cuts_bytes no_more = []
   cuts_bytes (first P Ps) = cut_bytes P ++ cuts_bytes Ps
 
-pub record FitsShown (part : Shown) : Type 0 where
+pub record FitsShown (part : PrunedEntry) : Type 0 where
   pub ordered : IsOrdered part.rect
   pub coordinates : FitsMap part.rect
   pub digest : length part.digest ≡ 32
@@ -56,7 +56,7 @@ abbrev mutual
   pub FitsCut : ℕ → Cut → Type 0
   FitsCut level (Pruned part) = FitsShown part
   FitsCut level (Leaf records) = FitsLeaf level records
-  FitsCut level (Inner cuts) = FitsInner level (count_of cuts) × FitCuts (level - 1) cuts
+  FitsCut level (Inner cuts) = FitsInner level (number_of_cuts cuts) × FitCuts (level - 1) cuts
 
   pub FitCuts : ℕ → Cuts → Type 0
   FitCuts level no_more = ⊤
@@ -91,7 +91,7 @@ FitsRadius (kind.Choice letter) r = r ≡ None
 FitsRadius kind.K r = IfSome r (λ n. n ≤ radius_limit)
 
 -- each value in its range
-pub record FitsHead (h : Head) : Type 0 where
+pub record FitsProofHead (h : Head) : Type 0 where
   pub batch : h.batch < 2 ^ 64
   pub count : h.count ≤ count_limit
   pub radius : FitsRadius h.kind h.radius
@@ -101,11 +101,11 @@ pub record FitsHead (h : Head) : Type 0 where
 -- ---- both
 
 -- a head and, where there are records, a cut
-pub record Said : Type 0 where
+pub record Parsed : Type 0 where
   pub head : Head
   pub part : Option Cut
 
-abbrev pub said : Head → Option Cut → Said
+abbrev pub said : Head → Option Cut → Parsed
 said h P = record { head = h; part = P }
 
 abbrev pub opened_records : Option Cut → List Record
@@ -124,7 +124,7 @@ FitsPart h (Some P) = (0 < h.count) × FitsCut h.level P
 -- The whole of the bytes is the spelling of the head and the cut. All fields end by the place
 -- limit, since the last one does.
 pub record IsSpelled (h : Head) (P : Option Cut) (bytes : List ℕ) : Type 0 where
-  pub head : FitsHead h
+  pub head : FitsProofHead h
   pub part : FitsPart h P
   pub whole : bytes ≡ head_bytes h ++ part_bytes P
   pub short : length bytes ≤ place_limit

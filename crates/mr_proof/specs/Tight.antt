@@ -20,15 +20,15 @@ use Rattle.mr_proof.specs.Spelling.{opened_records}
 -- ---- ways
 
 -- what is seen of a part when its way is chosen
-pub record Seen : Type 0 where
+pub record Key : Type 0 where
   pub rect : Rectangle
 
-abbrev pub seen_at : Rectangle → Seen
-seen_at r = record { rect = r }
+abbrev pub key_at : Rectangle → Key
+key_at r = record { rect = r }
 
 -- what is seen of a node by a cut of it
-abbrev pub seen : Cut → Option Seen
-seen P = option_map seen_at (rect P)
+abbrev pub key_of : Cut → Option Key
+key_of P = option_map key_at (rect P)
 
 abbrev pub is_open : Way → Bool
 is_open ways.Skip = false
@@ -46,14 +46,14 @@ abbrev pub way_if : Bool → Way
 way_if met = if met then ways.Open else ways.Skip
 
 -- whether a part with this rectangle is opened, and whether it is not left out
-abbrev pub opens_at : (Seen → Way) → Rectangle → Bool
-opens_at way r = is_open (way (seen_at r))
+abbrev pub opens_at : (Key → Way) → Rectangle → Bool
+opens_at way r = is_open (way (key_at r))
 
-abbrev pub keeps_at : (Seen → Way) → Rectangle → Bool
-keeps_at way r = is_kept (way (seen_at r))
+abbrev pub keeps_at : (Key → Way) → Rectangle → Bool
+keeps_at way r = is_kept (way (key_at r))
 
 -- whether a node of which something is seen is opened
-abbrev pub opens_seen : (Seen → Way) → Option Seen → Bool
+abbrev pub opens_seen : (Key → Way) → Option Key → Bool
 opens_seen way None = false
 opens_seen way (Some s) = is_open (way s)
 
@@ -64,7 +64,7 @@ opens_seen way (Some s) = is_open (way s)
 pub record Question : Type 0 where
   pub kind : Kind
   pub around : Option Around
-  pub way : Option ℕ → Seen → Way
+  pub way : Option ℕ → Key → Way
 
 -- the kth least squared distance of the records of a map or of a cut, where there are as many
 abbrev pub radius_by : Option Around → List Record → Option ℕ
@@ -84,14 +84,14 @@ FitsLetter (kind.Choice c) = c < 2 ^ 8
 FitsLetter _ = ⊤
 
 -- what lies in a part that is pruned has the same way
-abbrev pub IsNarrow : (Seen → Way) → Type 0
+abbrev pub IsNarrow : (Key → Way) → Type 0
 IsNarrow way = (a b : Rectangle) → IsOrdered a → IsOrdered b → FitsMap a → FitsMap b → Inside a b
-    → way (seen_at b) ≢ ways.Open → way (seen_at a) ≡ way (seen_at b)
+    → way (key_at b) ≢ ways.Open → way (key_at a) ≡ way (key_at b)
 
 -- where heads have a radius, a part is opened just where it lies within it, and else left out
-abbrev pub IsCircle : Option Around → (Option ℕ → Seen → Way) → Type 0
+abbrev pub IsCircle : Option Around → (Option ℕ → Key → Way) → Type 0
 IsCircle None way = ⊤
-IsCircle (Some x) way = (radius : Option ℕ) (s : Seen)
+IsCircle (Some x) way = (radius : Option ℕ) (s : Key)
     → way radius s ≡ way_if (is_within x.center radius s.rect)
 
 -- what the proof system rests on
@@ -123,12 +123,13 @@ question q = record {
 
 abbrev mutual
   -- each pruned part is to be pruned, and each opened node opened
-  pub IsTightCut : (Seen → Way) → Cut → Type 0
-  IsTightCut way (Pruned part) = opens_seen way (seen (Pruned part)) ≡ false
-  IsTightCut way (Leaf records) = opens_seen way (seen (Leaf records)) ≡ true
-  IsTightCut way (Inner cuts) = (opens_seen way (seen (Inner cuts)) ≡ true) × AreTightCuts way cuts
+  pub IsTightCut : (Key → Way) → Cut → Type 0
+  IsTightCut way (Pruned part) = opens_seen way (key_of (Pruned part)) ≡ false
+  IsTightCut way (Leaf records) = opens_seen way (key_of (Leaf records)) ≡ true
+  IsTightCut way (Inner cuts) = (opens_seen way (key_of (Inner cuts)) ≡ true) × AreTightCuts
+      way cuts
 
-  pub AreTightCuts : (Seen → Way) → Cuts → Type 0
+  pub AreTightCuts : (Key → Way) → Cuts → Type 0
   AreTightCuts way no_more = ⊤
   AreTightCuts way (first P Ps) = IsTightCut way P × AreTightCuts way Ps
 

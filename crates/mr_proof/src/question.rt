@@ -1,7 +1,7 @@
 //! What a proof is for.
 
 ghost use Rattle.std.specs.Prelude.{◌≡◌};
-ghost use Rattle.mr_proof.specs.Tight.{Question, around_of, question, seen_at};
+ghost use Rattle.mr_proof.specs.Tight.{Question, around_of, question, key_at};
 
 use crate::head::kind_of;
 use crate::{Kind, Way};
@@ -35,7 +35,7 @@ pub trait AsQuestion {
 
     /// What a part with this rectangle is to be, under a head with this squared radius.
     fn way(&self, radius: Option<u128>, rect: &Rect) -> Way
-        ensures { result ≡ (question self.now).way radius (seen_at rect.now) };
+        ensures { result ≡ (question self.now).way radius (key_at rect.now) };
 }
 
 fn around_of(q: &Query) -> Option<Around>

@@ -3,10 +3,10 @@
 ghost use Rattle.std.specs.Prelude.{◌≡◌, ◌+◌, ◌*◌, ◌<◌, ◌≤◌, ◌++◌, length, All, OnOk};
 ghost use Rattle.std.specs.List.{flat_map};
 ghost use Rattle.mr_outside.specs.Causes.{SinkCauses};
-ghost use Rattle.mr_outside.specs.Told.{Takes, TakesFront};
+ghost use Rattle.mr_outside.specs.Told.{TakesBytes, TakesFront};
 ghost use Rattle.mr_record.specs.Record.{HasLayer, record_bytes};
 ghost use Rattle.mr_record.specs.declared.version.Version.TheVariants.{Two};
-ghost use Rattle.mr_tree.specs.View.{entry_of};
+ghost use Rattle.mr_tree.specs.View.{child_entry};
 ghost use Rattle.mr_proof.specs.Limits.{count_limit, level_limit};
 ghost use Rattle.mr_proof.specs.Fields.{version};
 ghost use Rattle.mr_proof.specs.Cut.{Leaf, pruned_cut};
@@ -72,7 +72,8 @@ pub fn write_head<W: Sink>(out: &mut W, head: &Head) -> Result<(), SinkErr>
     requires radius { FitsRadius head.now.kind head.now.radius }
     requires count { head.now.count ≤ count_limit }
     requires level { head.now.level ≤ level_limit }
-    ensures whole { OnOk result (Takes (W.state out.old) (W.state out.new) (head_bytes head.now)) }
+    ensures whole { OnOk result (TakesBytes (W.state out.old) (W.state out.new)
+        (head_bytes head.now)) }
     ensures front { TakesFront (W.state out.old) (W.state out.new) (head_bytes head.now) }
     ensures causes { SinkCauses (W.state out.old) (W.state out.new) result }
 {
@@ -89,7 +90,7 @@ const PRUNED_LIMIT: usize = 1 + ENTRY_LIMIT;
 const LEAF_BYTES: usize = 2 + 16 * RECORD_LIMIT;
 
 fn pruned(child: &Child) -> Buffer<PRUNED_LIMIT>
-    ensures { result ≡ cut_bytes (pruned_cut (entry_of child.now)) }
+    ensures { result ≡ cut_bytes (pruned_cut (child_entry child.now)) }
 {
     let mut bytes = Buffer::new();
     bytes.put(b"P");
@@ -125,7 +126,8 @@ fn leaf(records: &[Record]) -> Buffer<LEAF_BYTES>
 /// After a refusal some front of the bytes was taken.
 pub fn write_item<W: Sink>(out: &mut W, item: &Item) -> Result<(), SinkErr>
     requires { FitsItem item.now }
-    ensures whole { OnOk result (Takes (W.state out.old) (W.state out.new) (item_bytes item.now)) }
+    ensures whole { OnOk result (TakesBytes (W.state out.old) (W.state out.new)
+        (item_bytes item.now)) }
     ensures front { TakesFront (W.state out.old) (W.state out.new) (item_bytes item.now) }
     ensures causes { SinkCauses (W.state out.old) (W.state out.new) result }
 {

@@ -11,9 +11,9 @@ use Rattle.std.proofs.lemmas.List.Sums.{sum_by_more}
 use Rattle.mr_geom.specs.declared.point.Point.{Point}
 use Rattle.mr_record.specs.declared.record.Record.{Record}
 use Rattle.mr_query.specs.Nearest.{distance, distances}
-use Rattle.mr_query.specs.Radius.{below, IsRadius}
+use Rattle.mr_query.specs.private.Radius.{below, IsRadius}
 use Rattle.mr_query.proofs.Counts.{one_below, below-cons, greatest_gone, greatest_is_radius}
-use Rattle.mr_prove.specs.Search.{farthest, Best}
+use Rattle.mr_prove.specs.private.Search.{farthest, Best}
 use Rattle.mr_prove.proofs.Pieces.{sum_by_map}
 
 abbrev Low : ℕ → Type 0

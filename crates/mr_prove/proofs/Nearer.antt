@@ -15,8 +15,8 @@ use Rattle.mr_record.specs.Record.{IsRecord}
 use Rattle.mr_record.specs.declared.record.Record.{Record}
 use Rattle.mr_tree.specs.Tree.{records, join, union_of, rect}
 use Rattle.mr_tree.specs.Digest.{Scheme, by, entry}
-use Rattle.mr_tree.specs.View.{entry_of}
-use Rattle.mr_tree.specs.Nodes.{Standing, HasIds, MayFetch, subtrees}
+use Rattle.mr_tree.specs.View.{child_entry}
+use Rattle.mr_tree.specs.Nodes.{MapModel, HasIds, MayFetch, subtrees}
 use Rattle.mr_tree.specs.WellFormed.{WellFormed}
 use Rattle.mr_tree.specs.declared.child.Child.{Child}
 use Rattle.mr_tree.specs.declared.entry.Entry.{Entry}
@@ -27,9 +27,9 @@ use Rattle.mr_tree.proofs.Induction.{tree_induction}
 use Rattle.mr_tree.proofs.Joins.{rects_of, rect_round}
 use Rattle.mr_tree.proofs.Subtrees.{subtrees-Empty, subtrees-Leaf, subtrees-Inner}
 use Rattle.mr_query.specs.Nearest.{distances}
-use Rattle.mr_query.specs.Radius.{below}
+use Rattle.mr_query.specs.private.Radius.{below}
 use Rattle.mr_query.proofs.Counts.{below-none}
-use Rattle.mr_prove.specs.Search.{distances_at}
+use Rattle.mr_prove.specs.private.Search.{distances_at}
 
 -- ---- records within the rectangle round them
 
@@ -58,7 +58,7 @@ no_nearer p x whole (r ∷ rs) h inside ordered =
     let here = least_squared_distance-Inside r.rect whole p ordered.0 inside.0 in
     (omega (arith, h, here), no_nearer p x whole rs h inside.1 ordered.1)
 
-none_in : (scheme : Scheme) (p : Point) (t : Tree) (c : Child) (x : ℕ) → entry_of c ≡ entry scheme t
+none_in : (scheme : Scheme) (p : Point) (t : Tree) (c : Child) (x : ℕ) → child_entry c ≡ entry scheme t
     → AreOrdered (records t) → x ≤ least_squared_distance c.rect p → below x (distances p (records t)) ≡ 0
 none_in scheme p t c x e ordered h =
     let around : rect t ≡ Some c.rect = sym (entry_rect scheme t) ∙ ap (λ (x : Entry). x.rect) (sym e) in
@@ -104,7 +104,7 @@ ordered_records : (rs : List Record) → AllByRecursion IsRecord rs → AreOrder
 ordered_records [] all = tt
 ordered_records (r ∷ rs) all = (all.0.ordered, ordered_records rs all.1)
 
-ordered_node : (s : Standing) (t : Tree) (i : ℕ) → HasIds s t → WellFormed t → IsSome (s.node i)
+ordered_node : (s : MapModel) (t : Tree) (i : ℕ) → HasIds s t → WellFormed t → IsSome (s.node i)
     → IfSome (s.node i) (λ u. AreOrdered (records u))
 ordered_node s t i ids well some =
     let found = ids.others i some in
@@ -116,22 +116,22 @@ ordered_node s t i ids well some =
 -- ---- below the distance of a node's rectangle there is none of its records
 
 none_at : (scheme : Scheme) (p : Point) (o : Option Tree) (c : Child) (x : ℕ)
-    → IsSomeAnd o (λ t. entry_of c ≡ entry scheme t) → (IsSome o → IfSome o (λ t. AreOrdered (records t)))
+    → IsSomeAnd o (λ t. child_entry c ≡ entry scheme t) → (IsSome o → IfSome o (λ t. AreOrdered (records t)))
     → x ≤ least_squared_distance c.rect p → below x (distances_at p o) ≡ 0
 unfolding distances_at
 none_at scheme p None c x known ordered h = absurd known
 none_at scheme p (Some t) c x known ordered h = none_in scheme p t c x known (ordered refl) h
 
-none_told : (scheme : Scheme) (p : Point) (s : Standing) (o : Option Tree) (c : Child) (x : ℕ)
+none_told : (scheme : Scheme) (p : Point) (s : MapModel) (o : Option Tree) (c : Child) (x : ℕ)
     → IfSome o (λ t. ∥ WellFormed t ∥₁) → IfSome o (HasIds s) → IsSome o
-    → IsSomeAnd (s.node c.id) (λ t. entry_of c ≡ entry scheme t) → x ≤ least_squared_distance c.rect p
+    → IsSomeAnd (s.node c.id) (λ t. child_entry c ≡ entry scheme t) → x ≤ least_squared_distance c.rect p
     → below x (distances_at p (s.node c.id)) ≡ 0
 none_told scheme p s None c x wells ids told known h = cc
 none_told scheme p s (Some t) c x wells ids told known h =
     ∥∥₁_elim wells (ℕ_set (below x (distances_at p (s.node c.id))) 0)
     (λ well. none_at scheme p (s.node c.id) c x known (λ some. ordered_node s t c.id ids well some) h)
 
-pub none_below : (hash : List ℕ → List ℕ) (p : Point) (s : Standing) (c : Child) (x : ℕ)
+pub none_below : (hash : List ℕ → List ℕ) (p : Point) (s : MapModel) (c : Child) (x : ℕ)
     → IfSome s.tree (λ t. ∥ WellFormed t ∥₁) → IfSome s.tree (HasIds s) → IsSome s.tree → MayFetch hash s c
     → x ≤ least_squared_distance c.rect p → below x (distances_at p (s.node c.id)) ≡ 0
 none_below hash p s c x wells ids told may h =

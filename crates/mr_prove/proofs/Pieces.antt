@@ -8,8 +8,8 @@ use Rattle.mr_geom.specs.Rectangle.{Rectangle}
 use Rattle.mr_record.specs.declared.record.Record.{Record}
 use Rattle.mr_tree.specs.Tree.{rect}
 use Rattle.mr_tree.specs.Digest.{Scheme, entry}
-use Rattle.mr_tree.specs.View.{Node, children_in, entry_of}
-use Rattle.mr_tree.specs.Nodes.{Standing, IsNodeOf}
+use Rattle.mr_tree.specs.View.{Node, children_in, child_entry}
+use Rattle.mr_tree.specs.Nodes.{MapModel, IsNodeOf}
 use Rattle.mr_tree.specs.declared.child.Child.{Child}
 use Rattle.mr_tree.specs.declared.entry.Entry.{Entry}
 use Rattle.mr_tree.specs.declared.tree.Tree.{Tree}
@@ -19,13 +19,13 @@ use Rattle.mr_tree.specs.declared.tree.Tree.TheViews.{out-Tree}
 use Rattle.mr_tree.proofs.Equations.{entry_rect, rect-Empty}
 use Rattle.mr_tree.proofs.Induction.{tree_induction}
 use Rattle.mr_proof.specs.Fields.{inner_tag}
-use Rattle.mr_proof.specs.Cut.{Leaf, Inner, pruned_cut, count_of, opened_nodes, all_opened}
+use Rattle.mr_proof.specs.Cut.{Leaf, Inner, pruned_cut, number_of_cuts, opened_nodes, all_opened}
 use Rattle.mr_proof.specs.Spelling.{cut_bytes, cuts_bytes}
 use Rattle.mr_proof.specs.declared.way.Way.{Way}
-use Rattle.mr_proof.specs.Tight.{Seen, seen_at, opens_seen, opens_at}
+use Rattle.mr_proof.specs.Tight.{Key, key_at, opens_seen, opens_at}
 use Rattle.mr_proof.specs.Honest.{honest_cut}
 use Rattle.mr_proof.proofs.HonestCut.{meets, honest_cuts, honest_missed, honest_met}
-use Rattle.mr_prove.specs.Parts.{node_bytes, part_at, opened_at, parts_of, opened_in}
+use Rattle.mr_prove.specs.private.Parts.{node_bytes, part_at, opened_at, child_parts, opened_in}
 
 -- ---- lists that are made of others
 
@@ -48,10 +48,10 @@ pub sum_by_along : {X Y Z : Type 0} (f : Z → ℕ) (g : X → Z) (h : Y → Z) 
     → map g xs ≡ map h ys → sum_by (λ x. f (g x)) xs ≡ sum_by (λ y. f (h y)) ys
 sum_by_along f g h xs ys e = sym (sum_by_map f g xs) ∙ ap (sum_by f) e ∙ sum_by_map f h ys
 
-module _ (scheme : Scheme) (way : Seen → Way) where
+module _ (scheme : Scheme) (way : Key → Way) where
   -- ---- the honest cuts of some trees
 
-  count_cuts : (ts : List Tree) → count_of (honest_cuts scheme way ts) ≡ length ts
+  count_cuts : (ts : List Tree) → number_of_cuts (honest_cuts scheme way ts) ≡ length ts
   count_cuts [] = refl
   count_cuts (t ∷ ts) = let rest = count_cuts ts in omega arith
 
@@ -69,21 +69,21 @@ module _ (scheme : Scheme) (way : Seen → Way) where
 
   -- ---- a tree of which the child is the entry
 
-  rect_is : (t : Tree) (c : Child) → entry_of c ≡ entry scheme t → rect t ≡ Some c.rect
+  rect_is : (t : Tree) (c : Child) → child_entry c ≡ entry scheme t → rect t ≡ Some c.rect
   rect_is t c e = sym (entry_rect scheme t) ∙ ap (λ (x : Entry). x.rect) (sym e)
 
-  meets_is : (t : Tree) (c : Child) (b : Bool) → entry_of c ≡ entry scheme t → opens_at way c.rect ≡ b
+  meets_is : (t : Tree) (c : Child) (b : Bool) → child_entry c ≡ entry scheme t → opens_at way c.rect ≡ b
       → meets way t ≡ b
-  meets_is t c b e f = ap (λ (o : Option Rectangle). opens_seen way (option_map seen_at o)) (rect_is t c e) ∙ f
+  meets_is t c b e f = ap (λ (o : Option Rectangle). opens_seen way (option_map key_at o)) (rect_is t c e) ∙ f
 
-  cut_missed : (t : Tree) (c : Child) → entry_of c ≡ entry scheme t → opens_at way c.rect ≡ false
-      → honest_cut scheme way t ≡ pruned_cut (entry_of c)
+  cut_missed : (t : Tree) (c : Child) → child_entry c ≡ entry scheme t → opens_at way c.rect ≡ false
+      → honest_cut scheme way t ≡ pruned_cut (child_entry c)
   cut_missed t c e f =
       honest_missed scheme way t (meets_is t c false e f) ∙ ap pruned_cut (sym e)
 
-  pub missed_at : (o : Option Tree) (c : Child) → IsSomeAnd o (λ t. entry_of c ≡ entry scheme t)
+  pub missed_at : (o : Option Tree) (c : Child) → IsSomeAnd o (λ t. child_entry c ≡ entry scheme t)
       → opens_at way c.rect ≡ false
-      → part_at scheme way o ≡ cut_bytes (pruned_cut (entry_of c))
+      → part_at scheme way o ≡ cut_bytes (pruned_cut (child_entry c))
   unfolding part_at
   missed_at None c e f = absurd e
   missed_at (Some t) c e f = ap cut_bytes (cut_missed t c e f)
@@ -96,14 +96,14 @@ module _ (scheme : Scheme) (way : Seen → Way) where
       → honest_cut scheme way t ≡ Inner (honest_cuts scheme way ts)
   cut_inner t ts e m = honest_met scheme way t (node.Inner ts) (ap out-Tree e ∙ tree.outs-Inner ts) m
 
-  same_length : (s : Standing) (cs : List Child) (ts : List Tree)
+  same_length : (s : MapModel) (cs : List Child) (ts : List Tree)
       → map (λ (d : Child). s.node d.id) cs ≡ map Some ts → length ts ≡ length cs
   same_length s cs ts e =
       sym (length-map ts Some) ∙ sym (ap length e) ∙ length-map cs (λ (d : Child). s.node d.id)
 
-  bytes_met : (s : Standing) (t : Tree) (n : Node) → IsNodeOf s t n → meets way t ≡ true
+  bytes_met : (s : MapModel) (t : Tree) (n : Node) → IsNodeOf s t n → meets way t ≡ true
       → cut_bytes (honest_cut scheme way t)
-      ≡ node_bytes n ++ parts_of scheme way s (children_in n)
+      ≡ node_bytes n ++ child_parts scheme way s (children_in n)
   unfolding part_at
   bytes_met s t node.Empty is m = absurd is
   bytes_met s t (node.Leaf rs) is m =
@@ -113,18 +113,18 @@ module _ (scheme : Scheme) (way : Seen → Way) where
       ∙ (λ i. inner_tag ∷ (count_cuts is.0 ∙ same_length s cs is.0 is.2) i ∷ (bytes_of_cuts is.0
       ∙ sym (flat_map_along (part_at scheme way) (λ (d : Child). s.node d.id) Some cs is.0 is.2)) i)
 
-  pub met_at : (s : Standing) (o : Option Tree) (c : Child) (n : Node)
-      → IsSomeAnd o (λ t. entry_of c ≡ entry scheme t) → IfSome o (λ t. IsNodeOf s t n)
+  pub met_at : (s : MapModel) (o : Option Tree) (c : Child) (n : Node)
+      → IsSomeAnd o (λ t. child_entry c ≡ entry scheme t) → IfSome o (λ t. IsNodeOf s t n)
       → opens_at way c.rect ≡ true
       → part_at scheme way o
-      ≡ node_bytes n ++ parts_of scheme way s (children_in n)
+      ≡ node_bytes n ++ child_parts scheme way s (children_in n)
   unfolding part_at
   met_at s None c n e is m = absurd e
   met_at s (Some t) c n e is m = bytes_met s t n is (meets_is t c true e m)
 
   -- ---- the number of opened nodes
 
-  opened_met : (s : Standing) (t : Tree) (n : Node) → IsNodeOf s t n → meets way t ≡ true
+  opened_met : (s : MapModel) (t : Tree) (n : Node) → IsNodeOf s t n → meets way t ≡ true
       → opened_nodes (honest_cut scheme way t)
       ≡ 1 + opened_in scheme way s (children_in n)
   unfolding opened_at
@@ -136,8 +136,8 @@ module _ (scheme : Scheme) (way : Seen → Way) where
       ∙ sym (sum_by_along (opened_at scheme way) (λ (d : Child). s.node d.id) Some cs is.0 is.2) in
       omega (arith, all, same)
 
-  pub opened_met_at : (s : Standing) (o : Option Tree) (c : Child) (n : Node)
-      → IsSomeAnd o (λ t. entry_of c ≡ entry scheme t) → IfSome o (λ t. IsNodeOf s t n)
+  pub opened_met_at : (s : MapModel) (o : Option Tree) (c : Child) (n : Node)
+      → IsSomeAnd o (λ t. child_entry c ≡ entry scheme t) → IfSome o (λ t. IsNodeOf s t n)
       → opens_at way c.rect ≡ true
       → opened_at scheme way o
       ≡ 1 + opened_in scheme way s (children_in n)
@@ -154,7 +154,7 @@ module _ (scheme : Scheme) (way : Seen → Way) where
       (λ rs r e m. let one = ap opened_nodes (cut_leaf (tree.Leaf rs) rs refl m) in omega (arith, one))
       (λ ts below r e m. let more = ap opened_nodes (cut_inner (tree.Inner ts) ts refl m) in omega (arith, more))
 
-  pub opened_one_at : (o : Option Tree) (c : Child) → IsSomeAnd o (λ t. entry_of c ≡ entry scheme t)
+  pub opened_one_at : (o : Option Tree) (c : Child) → IsSomeAnd o (λ t. child_entry c ≡ entry scheme t)
       → opens_at way c.rect ≡ true → 1 ≤ opened_at scheme way o
   unfolding opened_at
   opened_one_at None c e m = absurd e

@@ -15,7 +15,7 @@ use Rattle.std.proofs.lemmas.List.Sums.{sum_by-cons, sum_by-append, sum_by-le}
 use Rattle.mr_geom.specs.declared.point.Point.{Point}
 use Rattle.mr_tree.specs.declared.child.Child.{Child}
 use Rattle.mr_prove.specs.declared.waiting.Waiting.{Waiting}
-use Rattle.mr_prove.specs.Search.{nearest_first, waiting, weight}
+use Rattle.mr_prove.specs.private.Search.{nearest_first, waiting, weight}
 
 -- ---- its order
 

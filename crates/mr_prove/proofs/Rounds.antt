@@ -15,8 +15,8 @@ use Rattle.mr_outside.specs.Faults.{next_count}
 use Rattle.mr_record.specs.declared.record.Record.{Record}
 use Rattle.mr_tree.specs.Tree.{records}
 use Rattle.mr_tree.specs.Digest.{Scheme, by, entry}
-use Rattle.mr_tree.specs.View.{Node, records_in, children_in, entry_of}
-use Rattle.mr_tree.specs.Nodes.{Standing, HasIds, IsNodeOf, IsTop, MayFetch, Shows, tree_under}
+use Rattle.mr_tree.specs.View.{Node, records_in, children_in, child_entry}
+use Rattle.mr_tree.specs.Nodes.{MapModel, HasIds, IsNodeOf, IsTop, MayFetch, ShowsNode, tree_under}
 use Rattle.mr_tree.specs.WellFormed.{WellFormed}
 use Rattle.mr_tree.specs.declared.child.Child.{Child}
 use Rattle.mr_tree.specs.declared.nodes.Top.{Top}
@@ -24,7 +24,7 @@ use Rattle.mr_tree.specs.declared.tree.Tree.{Tree}
 use Rattle.mr_tree.specs.declared.tree.Tree.TheOpen as node
 use Rattle.mr_tree.proofs.Equations.{records-Leaf, records-Inner}
 use Rattle.mr_query.specs.Nearest.{distance, distances, kth_least, is_within}
-use Rattle.mr_query.specs.Radius.{below, IsRadius}
+use Rattle.mr_query.specs.private.Radius.{below, IsRadius}
 use Rattle.mr_query.proofs.Counts.{below-append, below-length, below-sum, below-rises}
 use Rattle.mr_query.proofs.Kth.{kth_is_radius, radius_is_kth}
 use Rattle.mr_proof.specs.Cut.{opened_nodes}
@@ -32,8 +32,8 @@ use Rattle.mr_query.specs.Nearest.{is_within}
 use Rattle.mr_proof.proofs.Laws.{open_if}
 use Rattle.mr_proof.specs.Honest.{honest_cut}
 use Rattle.mr_prove.specs.declared.waiting.Waiting.{Waiting}
-use Rattle.mr_prove.specs.Parts.{opened_at}
-use Rattle.mr_prove.specs.Search.{near_way, near_opened, waiting, distances_at, unseen, Waits, Searching, Bounded, IsStart, IsReached}
+use Rattle.mr_prove.specs.private.Parts.{opened_at}
+use Rattle.mr_prove.specs.private.Search.{near_way, near_opened, waiting, distances_at, unseen, IsWaitingChild, Searching, Bounded, IsStart, IsReached}
 use Rattle.mr_prove.proofs.Pieces.{sum_by_map, sum_by_along, opened_met_at, opened_one_at}
 use Rattle.mr_prove.proofs.Nearer.{none_below}
 use Rattle.mr_prove.proofs.Queue.{NoNearer}
@@ -50,7 +50,7 @@ below_children p x (t ∷ ts) =
     ∙ ap (λ n. below x (distances p (records t)) + n) (below_children p x ts)
     ∙ sym (sum_by-cons (λ t. below x (distances p (records t))) t ts)
 
-below_node : (p : Point) (s : Standing) (x : ℕ) (t : Tree) (n : Node) → IsNodeOf s t n
+below_node : (p : Point) (s : MapModel) (x : ℕ) (t : Tree) (n : Node) → IsNodeOf s t n
     → below x (distances p (records t)) ≡ below x (distances p (records_in n))
     + sum_by (λ (d : Child). below x (distances_at p (s.node d.id))) (children_in n)
 unfolding distances_at
@@ -67,8 +67,8 @@ below_node p s x t (node.Inner cs) is =
     ∙ sym (sum_by_along (λ o. below x (distances_at p o)) (λ (d : Child). s.node d.id) Some cs is.0 is.2) in
     omega arith
 
-below_at : (scheme : Scheme) (p : Point) (s : Standing) (x : ℕ) (o : Option Tree) (c : Child) (n : Node)
-    → IsSomeAnd o (λ t. entry_of c ≡ entry scheme t) → IfSome o (λ t. IsNodeOf s t n)
+below_at : (scheme : Scheme) (p : Point) (s : MapModel) (x : ℕ) (o : Option Tree) (c : Child) (n : Node)
+    → IsSomeAnd o (λ t. child_entry c ≡ entry scheme t) → IfSome o (λ t. IsNodeOf s t n)
     → below x (distances_at p o) ≡ below x (distances p (records_in n))
     + sum_by (λ (d : Child). below x (distances_at p (s.node d.id))) (children_in n)
 unfolding distances_at
@@ -127,9 +127,9 @@ by_told : (o : Option Tree) (P : Tree → Type 0) → ((t : Tree) → o ≡ Some
 by_told None P h = tt
 by_told (Some t) P h = h t refl
 
-module _ (hash : List ℕ → List ℕ) (k : ℕ) (p : Point) (s : Standing) where
+module _ (hash : List ℕ → List ℕ) (k : ℕ) (p : Point) (s : MapModel) where
   unseen_far : (far x : ℕ) (pending : List Waiting) → IfSome s.tree (λ t. ∥ WellFormed t ∥₁)
-      → IfSome s.tree (HasIds s) → IsSome s.tree → AllByRecursion (Waits hash p s) pending
+      → IfSome s.tree (HasIds s) → IsSome s.tree → AllByRecursion (IsWaitingChild hash p s) pending
       → AllByRecursion (λ (w : Waiting). far ≤ w.far) pending → x ≤ far → unseen p s x pending ≡ 0
   unseen_far far x [] wells ids told waits above h = refl
   unseen_far far x (w ∷ ws) wells ids told waits above h =
@@ -144,7 +144,7 @@ module _ (hash : List ℕ → List ℕ) (k : ℕ) (p : Point) (s : Standing) whe
   pub searching_moved : (pending moved : List Waiting) (best : List ℕ) → IsPermutation pending moved
       → Searching hash k p s pending best → Searching hash k p s moved best
   searching_moved pending moved best perm old = record {
-    waits = All-permutation (Waits hash p s) pending moved perm old.waits;
+    waits = All-permutation (IsWaitingChild hash p s) pending moved perm old.waits;
     found = λ t e x.
         let all = old.found t e x in
         let same = sum_by-IsPermutation (λ (w : Waiting). below x (distances_at p (s.node w.child.id)))
@@ -167,16 +167,16 @@ module _ (hash : List ℕ → List ℕ) (k : ℕ) (p : Point) (s : Standing) whe
   -- ---- one round
 
   pub visited : (next : Waiting) (rest pending : List Waiting) (n : Node) (best best_now : List ℕ)
-      → Searching hash k p s (next ∷ rest) best → Shows hash s next.child n
+      → Searching hash k p s (next ∷ rest) best → ShowsNode hash s next.child n
       → ((x : ℕ) → min k (below x best_now) ≡ min k (below x best + below x (distances p (records_in n))))
       → IsPermutation (rest ++ map (waiting p) (children_in n)) pending
       → Searching hash k p s pending best_now
   visited next rest pending n best best_now old shows least moved =
-      let first = All-head (Waits hash p s) next rest old.waits in
+      let first = All-head (IsWaitingChild hash p s) next rest old.waits in
       record {
-        waits = All-permutation (Waits hash p s) _ pending moved
-            (All-append (Waits hash p s) rest _ (All-tail (Waits hash p s) next rest old.waits)
-            (All-map (Waits hash p s) (waiting p) (children_in n)
+        waits = All-permutation (IsWaitingChild hash p s) _ pending moved
+            (All-append (IsWaitingChild hash p s) rest _ (All-tail (IsWaitingChild hash p s) next rest old.waits)
+            (All-map (IsWaitingChild hash p s) (waiting p) (children_in n)
             (λ i d inside. record { far = refl; may = shows.children i d inside })));
         found = λ t e x.
             let F : Waiting → ℕ = λ w. below x (distances_at p (s.node w.child.id)) in
@@ -199,7 +199,7 @@ module _ (hash : List ℕ → List ℕ) (k : ℕ) (p : Point) (s : Standing) whe
     none_unseen told x h =
         let le : next.far ≤ next.far = omega arith in
         unseen_far next.far x (next ∷ rest) wells ids told
-        (recursion_from_All (Waits hash p s) (next ∷ rest) known.waits) (le, near) h
+        (recursion_from_All (IsWaitingChild hash p s) (next ∷ rest) known.waits) (le, near) h
 
     -- once the radius is reached, it is that of all
     pub radius_reached : IsReached radius next.far → (t : Tree) → s.tree ≡ Some t
@@ -221,7 +221,7 @@ module _ (hash : List ℕ → List ℕ) (k : ℕ) (p : Point) (s : Standing) whe
     lies_within not_yet t e (Some r) whole =
         let far = not_reached k next.far r (distances p (records t)) best (λ x. unseen p s x (next ∷ rest)) radius kept
         whole (known.found t e) (none_unseen (ap is_some e)) not_yet in
-        let same = (All-head (Waits hash p s) next rest known.waits).far in
+        let same = (All-head (IsWaitingChild hash p s) next rest known.waits).far in
         le-leb (least_squared_distance next.child.rect p) r (omega arith)
 
     within_kth : (IsReached radius next.far → ⊥) → 1 ≤ k → (t : Tree) → s.tree ≡ Some t
@@ -236,7 +236,7 @@ module _ (hash : List ℕ → List ℕ) (k : ℕ) (p : Point) (s : Standing) whe
         (within_kth not_yet some)
 
     pub bounded_visited : (IsReached radius next.far → ⊥) → 1 ≤ k → (n : Node) (pending : List Waiting)
-        (before now after : ℕ) → Shows hash s next.child n
+        (before now after : ℕ) → ShowsNode hash s next.child n
         → IsPermutation (rest ++ map (waiting p) (children_in n)) pending → after ≡ next_count now
         → Bounded hash k p s (next ∷ rest) before now → Bounded hash k p s pending before after
     bounded_visited not_yet some n pending before now after shows moved one bounded = record {
@@ -244,7 +244,7 @@ module _ (hash : List ℕ → List ℕ) (k : ℕ) (p : Point) (s : Standing) whe
           let r = kth_least k (distances p (records t)) in
           let F : Waiting → ℕ = λ w. opened_at (by s.version hash) (near_way p r) (s.node w.child.id) in
           let few = bounded.few t e in
-          let may = (All-head (Waits hash p s) next rest known.waits).may in
+          let may = (All-head (IsWaitingChild hash p s) next rest known.waits).may in
           let here = opened_met_at (by s.version hash) (near_way p r) s (s.node next.child.id) next.child n
           (may.known (ap is_some e)) shows.node (open_if (is_within p r next.child.rect) ∙ within_kth not_yet some t e)
           in
@@ -265,7 +265,7 @@ module _ (hash : List ℕ → List ℕ) (k : ℕ) (p : Point) (s : Standing) whe
           let r = kth_least k (distances p (records t)) in
           let F : Waiting → ℕ = λ w. opened_at (by s.version hash) (near_way p r) (s.node w.child.id) in
           let few = bounded.few t e in
-          let may = (All-head (Waits hash p s) next rest known.waits).may in
+          let may = (All-head (IsWaitingChild hash p s) next rest known.waits).may in
           let here = opened_one_at (by s.version hash) (near_way p r) (s.node next.child.id) next.child
           (may.known (ap is_some e)) (open_if (is_within p r next.child.rect) ∙ within_kth not_yet some t e) in
           let more = next_count-≤ now in
@@ -316,7 +316,7 @@ module _ (hash : List ℕ → List ℕ) (k : ℕ) (p : Point) (s : Standing) whe
   -- the map has no root
   pub start_none : (top : Top) → IsTop hash s top → top.root ≡ None → IsStart hash k p s []
   start_none top is none = record {
-    waits = All-nil (Waits hash p s);
+    waits = All-nil (IsWaitingChild hash p s);
     all = λ t e x. sym (ap (λ rs. below x (distances p rs)) (bare t e));
     few = λ t e. sym (nothing (records t) (kth_least k (distances p (records t))) t (ap length (bare t e)));
   }
@@ -341,8 +341,9 @@ module _ (hash : List ℕ → List ℕ) (k : ℕ) (p : Point) (s : Standing) whe
       → IsPermutation (waiting p c ∷ []) queue → IsStart hash k p s queue
   unfolding distances_at opened_at
   start_some top c queue is root moved = record {
-    waits = All-permutation (Waits hash p s) (waiting p c ∷ []) queue moved
-        (All-cons (Waits hash p s) (waiting p c) [] (record { far = refl; may = may }) (All-nil (Waits hash p s)));
+    waits = All-permutation (IsWaitingChild hash p s) (waiting p c ∷ []) queue moved
+        (All-cons (IsWaitingChild hash p s) (waiting p c) [] (record { far = refl; may = may })
+        (All-nil (IsWaitingChild hash p s)));
     all = λ t e x.
         let F : Waiting → ℕ = λ w. below x (distances_at p (s.node w.child.id)) in
         let perm = sum_by-IsPermutation F (waiting p c ∷ []) queue moved in

@@ -7,18 +7,18 @@ use Rattle.std.proofs.lemmas.List.{take_more, drop_more, flat_map_more}
 use Rattle.std.proofs.lemmas.List.Concat.{flat_map-append}
 use Rattle.std.proofs.lemmas.List.Sums.{sum_by_more, sum_by-take-le}
 use Rattle.mr_outside.specs.State.{Sunk}
-use Rattle.mr_outside.specs.Told.{Takes, TakesFront}
+use Rattle.mr_outside.specs.Told.{TakesBytes, TakesFront}
 use Rattle.mr_outside.specs.Faults.{next_count}
-use Rattle.mr_outside.proofs.Taking.{Takes-append}
+use Rattle.mr_outside.proofs.Taking.{TakesBytes-append}
 use Rattle.mr_tree.specs.Digest.{by}
-use Rattle.mr_tree.specs.View.{Node, children_in, entry_of}
-use Rattle.mr_tree.specs.Nodes.{Standing, MayFetch, Shows}
+use Rattle.mr_tree.specs.View.{Node, children_in, child_entry}
+use Rattle.mr_tree.specs.Nodes.{MapModel, MayFetch, ShowsNode}
 use Rattle.mr_tree.specs.declared.child.Child.{Child}
 use Rattle.mr_proof.specs.Cut.{pruned_cut}
 use Rattle.mr_proof.specs.Spelling.{cut_bytes}
 use Rattle.mr_proof.specs.declared.way.Way.{Way}
-use Rattle.mr_proof.specs.Tight.{Seen, opens_at}
-use Rattle.mr_prove.specs.Parts.{node_bytes, part_at, opened_at, parts_of, opened_in}
+use Rattle.mr_proof.specs.Tight.{Key, opens_at}
+use Rattle.mr_prove.specs.private.Parts.{node_bytes, part_at, opened_at, child_parts, opened_in}
 use Rattle.mr_prove.proofs.Pieces.{missed_at, met_at, opened_met_at, opened_one_at}
 
 pub on_err : {T E : Type 0} (r : Result T E) (P : Type 0) → P → OnErr r P
@@ -35,13 +35,13 @@ front_first old new a b h = record {
   takes = h.takes;
 }
 
-pub front_second : (old mid new : Sunk) (a b : List ℕ) → Takes old mid a → TakesFront mid new b
+pub front_second : (old mid new : Sunk) (a b : List ℕ) → TakesBytes old mid a → TakesFront mid new b
     → TakesFront old new (a ++ b)
 front_second old mid new a b taken h = record {
   front = a ++ h.front;
   rest = h.rest;
   whole = ap (λ x. a ++ x) h.whole ∙ sym (append_assoc a h.front h.rest);
-  takes = Takes-append old mid new a h.front taken h.takes;
+  takes = TakesBytes-append old mid new a h.front taken h.takes;
 }
 
 -- ---- one more of a list of pieces
@@ -53,11 +53,11 @@ flat_more f xs i x is within =
     ∙ ap (flat_map f) (ap (λ y. take i xs ++ y ∷ []) is ∙ sym (take_more xs i x within))
 
 pub written_more : {X : Type 0} (f : X → List ℕ) (xs : List X) (i : ℕ) (x : X) (old between new : Sunk)
-    → x ≡ get_or xs i x → i < length xs → Takes old between (flat_map f (take i xs)) → Takes between new (f x)
-    → Takes old new (flat_map f (take (i + 1) xs))
+    → x ≡ get_or xs i x → i < length xs → TakesBytes old between (flat_map f (take i xs)) → TakesBytes between new (f x)
+    → TakesBytes old new (flat_map f (take (i + 1) xs))
 written_more f xs i x old between new is within a b =
-    subst (Takes old new) (flat_more f xs i x is within)
-    (Takes-append old between new (flat_map f (take i xs)) (f x) a b)
+    subst (TakesBytes old new) (flat_more f xs i x is within)
+    (TakesBytes-append old between new (flat_map f (take i xs)) (f x) a b)
 
 pub fetched_more : {X : Type 0} (f : X → ℕ) (xs : List X) (i : ℕ) (x : X) (old between new : ℕ) → x ≡ get_or xs i x
     → i < length xs → between ≤ old + sum_by f (take i xs) → new ≤ between + f x
@@ -75,7 +75,7 @@ split_flat f xs i x is within =
     ∙ take-append-drop i xs)
 
 pub front_more : {X : Type 0} (f : X → List ℕ) (xs : List X) (i : ℕ) (x : X) (old between new : Sunk)
-    → x ≡ get_or xs i x → i < length xs → Takes old between (flat_map f (take i xs)) → TakesFront between new (f x)
+    → x ≡ get_or xs i x → i < length xs → TakesBytes old between (flat_map f (take i xs)) → TakesFront between new (f x)
     → TakesFront old new (flat_map f xs)
 front_more f xs i x old between new is within a h =
     subst (TakesFront old new) (split_flat f xs i x is within)
@@ -87,48 +87,49 @@ next_count-≤ n = omega arith
 
 -- ---- one node
 
-module _ (hash : List ℕ → List ℕ) (way : Seen → Way) (s : Standing) (c : Child) (may : MayFetch hash s c)
+module _ (hash : List ℕ → List ℕ) (way : Key → Way) (s : MapModel) (c : Child) (may : MayFetch hash s c)
     (told : IsSome s.tree) where
   abbrev here : List ℕ
   here = part_at (by s.version hash) way (s.node c.id)
 
   pub pruned_whole : (old new : Sunk) → opens_at way c.rect ≡ false
-      → Takes old new (cut_bytes (pruned_cut (entry_of c))) → Takes old new here
+      → TakesBytes old new (cut_bytes (pruned_cut (child_entry c))) → TakesBytes old new here
   pruned_whole old new f taken =
-      subst (Takes old new) (sym (missed_at (by s.version hash) way (s.node c.id) c (may.known told) f)) taken
+      subst (TakesBytes old new) (sym (missed_at (by s.version hash) way (s.node c.id) c (may.known told) f)) taken
 
   pub pruned_front : (old new : Sunk) → opens_at way c.rect ≡ false
-      → TakesFront old new (cut_bytes (pruned_cut (entry_of c))) → TakesFront old new here
+      → TakesFront old new (cut_bytes (pruned_cut (child_entry c))) → TakesFront old new here
   pruned_front old new f taken =
       subst (TakesFront old new) (sym (missed_at (by s.version hash) way (s.node c.id) c (may.known told) f)) taken
 
-  whole_is : (n : Node) → Shows hash s c n → opens_at way c.rect ≡ true
-      → here ≡ node_bytes n ++ parts_of (by s.version hash) way s (children_in n)
+  whole_is : (n : Node) → ShowsNode hash s c n → opens_at way c.rect ≡ true
+      → here ≡ node_bytes n ++ child_parts (by s.version hash) way s (children_in n)
   whole_is n shows m = met_at (by s.version hash) way s (s.node c.id) c n (may.known told) shows.node m
 
-  pub node_front : (n : Node) (old new : Sunk) → Shows hash s c n → opens_at way c.rect ≡ true
+  pub node_front : (n : Node) (old new : Sunk) → ShowsNode hash s c n → opens_at way c.rect ≡ true
       → TakesFront old new (node_bytes n) → TakesFront old new here
   node_front n old new shows m taken =
       subst (TakesFront old new) (sym (whole_is n shows m))
-      (front_first old new (node_bytes n) (parts_of (by s.version hash) way s (children_in n)) taken)
+      (front_first old new (node_bytes n) (child_parts (by s.version hash) way s (children_in n)) taken)
 
-  pub met_whole : (n : Node) (cs : List Child) (i : ℕ) (old mid new : Sunk) → cs ≡ children_in n → Shows hash s c n
-      → opens_at way c.rect ≡ true → i ≡ length cs → Takes old mid (node_bytes n)
-      → Takes mid new (parts_of (by s.version hash) way s (take i cs)) → Takes old new here
+  pub met_whole : (n : Node) (cs : List Child) (i : ℕ) (old mid new : Sunk) → cs ≡ children_in n → ShowsNode hash s c n
+      → opens_at way c.rect ≡ true → i ≡ length cs → TakesBytes old mid (node_bytes n)
+      → TakesBytes mid new (child_parts (by s.version hash) way s (take i cs)) → TakesBytes old new here
   met_whole n cs i old mid new are shows m end first rest =
       let all : take i cs ≡ children_in n = ap (λ k. take k cs) end ∙ take-length cs ∙ are in
-      subst (Takes old new) (ap (λ ds. node_bytes n ++ parts_of (by s.version hash) way s ds) all ∙ sym (whole_is n
+      subst (TakesBytes old new) (ap (λ ds. node_bytes n ++ child_parts (by s.version hash) way s ds) all ∙ sym
+      (whole_is n
       shows m))
-      (Takes-append old mid new (node_bytes n) (parts_of (by s.version hash) way s (take i cs)) first rest)
+      (TakesBytes-append old mid new (node_bytes n) (child_parts (by s.version hash) way s (take i cs)) first rest)
 
   pub met_front : (n : Node) (cs : List Child) (i : ℕ) (d : Child) (old mid between new : Sunk) → cs ≡ children_in n
-      → Shows hash s c n → opens_at way c.rect ≡ true → d ≡ get_or cs i d → i < length cs
-      → Takes old mid (node_bytes n) → Takes mid between (parts_of (by s.version hash) way s (take i cs))
+      → ShowsNode hash s c n → opens_at way c.rect ≡ true → d ≡ get_or cs i d → i < length cs
+      → TakesBytes old mid (node_bytes n) → TakesBytes mid between (child_parts (by s.version hash) way s (take i cs))
       → TakesFront between new (part_at (by s.version hash) way (s.node d.id)) → TakesFront old new here
   met_front n cs i d old mid between new are shows m is within first so_far next =
-      subst (TakesFront old new) (ap (λ ds. node_bytes n ++ parts_of (by s.version hash) way s ds) are ∙ sym
+      subst (TakesFront old new) (ap (λ ds. node_bytes n ++ child_parts (by s.version hash) way s ds) are ∙ sym
       (whole_is n shows m))
-      (front_second old mid new (node_bytes n) (parts_of (by s.version hash) way s cs) first
+      (front_second old mid new (node_bytes n) (child_parts (by s.version hash) way s cs) first
       (front_more (λ (d : Child). part_at (by s.version hash) way (s.node d.id)) cs i d mid between new is within
       so_far next))
 
@@ -141,7 +142,7 @@ module _ (hash : List ℕ → List ℕ) (way : Seen → Way) (s : Standing) (c :
       omega arith
 
   -- and some of its children
-  pub some_fetches : (n : Node) (cs : List Child) (i before mid now : ℕ) → cs ≡ children_in n → Shows hash s c n
+  pub some_fetches : (n : Node) (cs : List Child) (i before mid now : ℕ) → cs ≡ children_in n → ShowsNode hash s c n
       → opens_at way c.rect ≡ true → mid ≡ next_count before
       → now ≤ mid + opened_in (by s.version hash) way s (take i cs)
       → now ≤ before + opened_at (by s.version hash) way (s.node c.id)

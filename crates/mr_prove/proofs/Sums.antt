@@ -9,7 +9,7 @@ use Rattle.mr_tree.specs.declared.tree.Tree.{Tree}
 use Rattle.mr_query.specs.Region.{reaches}
 use Rattle.mr_query.specs.declared.query.Query.TheVariants.{Nearest}
 use Rattle.mr_proof.specs.Honest.{opened}
-use Rattle.mr_prove.specs.Search.{near_opened}
+use Rattle.mr_prove.specs.private.Search.{near_opened}
 
 near_is : (scheme : Scheme) (p : Point) (k : ℕ) (t : Tree) → near_opened scheme p k t ≡ opened scheme t (Nearest p k)
 unfolding reaches

@@ -2,12 +2,12 @@
 use Rattle.std.proofs.Common.{◌≡◌, ◌≢◌, ℕ, ◌+◌, ◌≤◌, List, [], ◌++◌, length, append-nil, refl, sym, ap, subst, ◌∙◌, arith}
 use Rattle.std.specs.Prelude.{Option, Some, None, IsSome, IsNone, IfSome, IsSomeAnd, Result, Ok, Err, OnOk, OnErr}
 use Rattle.mr_outside.specs.State.{Sunk}
-use Rattle.mr_outside.specs.Told.{Takes, TakesFront}
-use Rattle.mr_outside.proofs.Taking.{Takes-none, Takes-append}
+use Rattle.mr_outside.specs.Told.{TakesBytes, TakesFront}
+use Rattle.mr_outside.proofs.Taking.{TakesBytes-none, TakesBytes-append}
 use Rattle.mr_tree.specs.Tree.{level, records}
 use Rattle.mr_tree.specs.Digest.{Scheme, by, entry}
-use Rattle.mr_tree.specs.View.{entry_of}
-use Rattle.mr_tree.specs.Nodes.{Standing, MayFetch, IsTop, tree_under, root_entry}
+use Rattle.mr_tree.specs.View.{child_entry}
+use Rattle.mr_tree.specs.Nodes.{MapModel, MayFetch, IsTop, tree_under, root_entry}
 use Rattle.mr_tree.specs.declared.child.Child.{Child}
 use Rattle.mr_tree.specs.declared.entry.Entry.{Entry}
 use Rattle.mr_tree.specs.declared.nodes.Top.{Top}
@@ -26,20 +26,20 @@ use Rattle.mr_proof.specs.Spelling.{FitsRadius}
 use Rattle.mr_proof.specs.Honest.{honest_cut, honest_head, honest_part, proof_for, proof, opened_of, opened_for}
 use Rattle.mr_proof.proofs.HonestCut.{some_part as some_there, no_part as none_there}
 use Rattle.mr_prove.specs.declared.error.ProveErr.{ProveErr}
-use Rattle.mr_prove.specs.Parts.{part_at, opened_at, head_by, proof_at, all_opened_at, IsRight}
+use Rattle.mr_prove.specs.private.Parts.{part_at, opened_at, head_by, proof_at, all_opened_at, IsRight}
 use Rattle.mr_prove.proofs.Steps.{front_first, front_second}
 
 -- ---- a map whose tree is told
 
 -- what is known of the root by its entry
 level_of_root : (scheme : Scheme) (o : Option Tree) (t : Tree) (c : Child)
-    → IsSomeAnd o (λ t. entry_of c ≡ entry scheme t) → o ≡ Some t → c.level ≡ level t
+    → IsSomeAnd o (λ t. child_entry c ≡ entry scheme t) → o ≡ Some t → c.level ≡ level t
 level_of_root scheme None t c k e = cc
 level_of_root scheme (Some u) t c k e =
     let same : u ≡ t = cc in
     ap (λ (x : Entry). x.level) k ∙ entry_level scheme u ∙ ap level same
 
-head_with : (s : Standing) (t : Tree) (top : Top) (q : Question) (r : Option ℕ) → top.batch ≡ s.batch
+head_with : (s : MapModel) (t : Tree) (top : Top) (q : Question) (r : Option ℕ) → top.batch ≡ s.batch
     → top.count ≡ length (records t) → r ≡ radius_by q.around (records t) → (root_entry top.root).level ≡ level t
     → honest_head q t s.batch ≡ head_by top q r
 head_with s t top q r b n e l = λ i. record {
@@ -51,7 +51,7 @@ head_with s t top q r b n e l = λ i. record {
 }
 
 -- the proof by its cut
-proof_by : (scheme : Scheme) (s : Standing) (t : Tree) (top : Top) (q : Question) (r : Option ℕ) (P : Option Cut)
+proof_by : (scheme : Scheme) (s : MapModel) (t : Tree) (top : Top) (q : Question) (r : Option ℕ) (P : Option Cut)
     → honest_head q t s.batch ≡ head_by top q r → honest_part scheme q t ≡ P
     → proof_for scheme q t s.batch ≡ head_bytes (head_by top q r) ++ part_bytes P
 proof_by scheme s t top q r P h p = λ i. head_bytes (h i) ++ part_bytes (p i)
@@ -78,7 +78,7 @@ not_none : (c : Child) → IsNone (Some c) → ⊥
 not_none c n = cc
 
 -- what is said of a map with a root node
-record Rooted (hash : List ℕ → List ℕ) (s : Standing) (top : Top) (c : Child) (q : Question)
+record Rooted (hash : List ℕ → List ℕ) (s : MapModel) (top : Top) (c : Child) (q : Question)
     (r : Option ℕ) : Type 0 where
   tree : Tree
   is : s.tree ≡ Some tree
@@ -86,7 +86,7 @@ record Rooted (hash : List ℕ → List ℕ) (s : Standing) (top : Top) (c : Chi
   head : honest_head q tree s.batch ≡ head_by top q r
   part : honest_part (by s.version hash) q tree ≡ Some (honest_cut (by s.version hash) (q.way r) tree)
 
-rooted : (hash : List ℕ → List ℕ) (s : Standing) (top : Top) (c : Child) (q : Question) (r : Option ℕ)
+rooted : (hash : List ℕ → List ℕ) (s : MapModel) (top : Top) (c : Child) (q : Question) (r : Option ℕ)
     → IsTop hash s top → IsRight q s r → top.root ≡ Some c → IsSome s.tree → Rooted hash s top c q r
 rooted hash s top c q r is right root told =
     let x = told_tree s.tree told in
@@ -110,7 +110,7 @@ rooted hash s top c q r is right root told =
       part = some_part (by s.version hash) q r x.0 own some;
     }
 
-pub proof_of_root : (hash : List ℕ → List ℕ) (s : Standing) (top : Top) (c : Child) (q : Question) (r : Option ℕ)
+pub proof_of_root : (hash : List ℕ → List ℕ) (s : MapModel) (top : Top) (c : Child) (q : Question) (r : Option ℕ)
     → IsTop hash s top → IsRight q s r → top.root ≡ Some c → IsSome s.tree
     → proof_at (by s.version hash) s.batch q s.tree
     ≡ head_bytes (head_by top q r) ++ part_at (by s.version hash) (q.way r) (s.node c.id)
@@ -123,7 +123,7 @@ proof_of_root hash s top c q r is right root told =
     ∙ sym (ap (λ (o : Option Tree). head_bytes (head_by top q r) ++ part_at (by s.version hash) (q.way r) o)
     x.node)
 
-pub opened_of_root : (hash : List ℕ → List ℕ) (s : Standing) (top : Top) (c : Child) (q : Question) (r : Option ℕ)
+pub opened_of_root : (hash : List ℕ → List ℕ) (s : MapModel) (top : Top) (c : Child) (q : Question) (r : Option ℕ)
     → IsTop hash s top → IsRight q s r → top.root ≡ Some c → IsSome s.tree
     → all_opened_at (by s.version hash) q s.tree ≡ opened_at (by s.version hash) (q.way r) (s.node c.id)
 unfolding all_opened_at opened_at
@@ -132,7 +132,7 @@ opened_of_root hash s top c q r is right root told =
     ap (all_opened_at (by s.version hash) q) x.is ∙ ap opened_of x.part
     ∙ sym (ap (opened_at (by s.version hash) (q.way r)) x.node)
 
-pub proof_of_empty : (hash : List ℕ → List ℕ) (s : Standing) (top : Top) (q : Question) (r : Option ℕ)
+pub proof_of_empty : (hash : List ℕ → List ℕ) (s : MapModel) (top : Top) (q : Question) (r : Option ℕ)
     → IsTop hash s top → IsRight q s r → top.root ≡ None → IsSome s.tree
     → proof_at (by s.version hash) s.batch q s.tree ≡ head_bytes (head_by top q r)
 unfolding proof_at
@@ -155,39 +155,39 @@ proof_of_empty hash s top q r is right root told =
 
 -- ---- what was written
 
-pub whole_with_root : (hash : List ℕ → List ℕ) (s : Standing) (top : Top) (c : Child) (q : Question) (r : Option ℕ) (h :
+pub whole_with_root : (hash : List ℕ → List ℕ) (s : MapModel) (top : Top) (c : Child) (q : Question) (r : Option ℕ) (h :
     Head)
     (from mid to : Sunk) → IsTop hash s top → IsRight q s r → top.root ≡ Some c → h ≡ head_by top q r
-    → Takes from mid (head_bytes h)
-    → (IsSome s.tree → Takes mid to (part_at (by s.version hash) (q.way r) (s.node c.id)))
-    → IsSome s.tree → Takes from to (proof_at (by s.version hash) s.batch q s.tree)
+    → TakesBytes from mid (head_bytes h)
+    → (IsSome s.tree → TakesBytes mid to (part_at (by s.version hash) (q.way r) (s.node c.id)))
+    → IsSome s.tree → TakesBytes from to (proof_at (by s.version hash) s.batch q s.tree)
 whole_with_root hash s top c q r h from mid to is right root e first rest told =
-    subst (Takes from to) (sym (proof_of_root hash s top c q r is right root told))
-    (Takes-append from mid to (head_bytes (head_by top q r)) (part_at (by s.version hash) (q.way r) (s.node
+    subst (TakesBytes from to) (sym (proof_of_root hash s top c q r is right root told))
+    (TakesBytes-append from mid to (head_bytes (head_by top q r)) (part_at (by s.version hash) (q.way r) (s.node
     c.id))
-    (subst (λ (h : Head). Takes from mid (head_bytes h)) e first) (rest told))
+    (subst (λ (h : Head). TakesBytes from mid (head_bytes h)) e first) (rest told))
 
-pub front_with_root : (hash : List ℕ → List ℕ) (s : Standing) (top : Top) (c : Child) (q : Question) (r : Option ℕ) (h :
+pub front_with_root : (hash : List ℕ → List ℕ) (s : MapModel) (top : Top) (c : Child) (q : Question) (r : Option ℕ) (h :
     Head)
     (from mid to : Sunk) → IsTop hash s top → IsRight q s r → top.root ≡ Some c → h ≡ head_by top q r
-    → Takes from mid (head_bytes h)
+    → TakesBytes from mid (head_bytes h)
     → (IsSome s.tree → TakesFront mid to (part_at (by s.version hash) (q.way r) (s.node c.id)))
     → IsSome s.tree → TakesFront from to (proof_at (by s.version hash) s.batch q s.tree)
 front_with_root hash s top c q r h from mid to is right root e first rest told =
     subst (TakesFront from to) (sym (proof_of_root hash s top c q r is right root told))
     (front_second from mid to (head_bytes (head_by top q r)) (part_at (by s.version hash) (q.way r) (s.node
     c.id))
-    (subst (λ (h : Head). Takes from mid (head_bytes h)) e first) (rest told))
+    (subst (λ (h : Head). TakesBytes from mid (head_bytes h)) e first) (rest told))
 
-pub whole_of_empty : (hash : List ℕ → List ℕ) (s : Standing) (top : Top) (q : Question) (r : Option ℕ) (h : Head) (from
+pub whole_of_empty : (hash : List ℕ → List ℕ) (s : MapModel) (top : Top) (q : Question) (r : Option ℕ) (h : Head) (from
     to : Sunk)
-    → IsTop hash s top → IsRight q s r → top.root ≡ None → h ≡ head_by top q r → Takes from to (head_bytes h)
-    → IsSome s.tree → Takes from to (proof_at (by s.version hash) s.batch q s.tree)
+    → IsTop hash s top → IsRight q s r → top.root ≡ None → h ≡ head_by top q r → TakesBytes from to (head_bytes h)
+    → IsSome s.tree → TakesBytes from to (proof_at (by s.version hash) s.batch q s.tree)
 whole_of_empty hash s top q r h from to is right root e all told =
-    subst (Takes from to) (sym (proof_of_empty hash s top q r is right root told))
-    (subst (λ (h : Head). Takes from to (head_bytes h)) e all)
+    subst (TakesBytes from to) (sym (proof_of_empty hash s top q r is right root told))
+    (subst (λ (h : Head). TakesBytes from to (head_bytes h)) e all)
 
-front_by : (hash : List ℕ → List ℕ) (s : Standing) (top : Top) (q : Question) (r : Option ℕ) (from to : Sunk)
+front_by : (hash : List ℕ → List ℕ) (s : MapModel) (top : Top) (q : Question) (r : Option ℕ) (from to : Sunk)
     (o : Option Child) → top.root ≡ o → IsTop hash s top → IsRight q s r → IsSome s.tree
     → TakesFront from to (head_bytes (head_by top q r))
     → TakesFront from to (proof_at (by s.version hash) s.batch q s.tree)
@@ -198,7 +198,7 @@ front_by hash s top q r from to (Some c) root is right told front =
     (front_first from to (head_bytes (head_by top q r)) (part_at (by s.version hash) (q.way r) (s.node
     c.id)) front)
 
-pub front_of_head : (hash : List ℕ → List ℕ) (s : Standing) (top : Top) (q : Question) (r : Option ℕ) (h : Head)
+pub front_of_head : (hash : List ℕ → List ℕ) (s : MapModel) (top : Top) (q : Question) (r : Option ℕ) (h : Head)
     (from to
     : Sunk)
     → IsTop hash s top → IsRight q s r → h ≡ head_by top q r → TakesFront from to (head_bytes h)
@@ -210,8 +210,8 @@ front_of_head hash s top q r h from to is right e front told =
 -- ---- of the tree that is told
 
 pub whole_told : {A : Type 0} (scheme : Scheme) (batch : ℕ) (q : Question) (o : Option Tree) (from to : Sunk)
-    (r : Result A ProveErr) → OnOk r (IsSome o → Takes from to (proof_at scheme batch q o))
-    → IfSome o (λ t. OnOk r (Takes from to (proof_for scheme q t batch)))
+    (r : Result A ProveErr) → OnOk r (IsSome o → TakesBytes from to (proof_at scheme batch q o))
+    → IfSome o (λ t. OnOk r (TakesBytes from to (proof_for scheme q t batch)))
 unfolding proof_at
 whole_told scheme batch q None from to r h = tt
 whole_told scheme batch q (Some t) from to (Ok x) h = h refl
@@ -237,11 +237,11 @@ pub front_none : {A : Type 0} (scheme : Scheme) (batch : ℕ) (q : Question) (o 
 front_none scheme batch q None state r = tt
 front_none scheme batch q (Some t) state (Ok x) = tt
 front_none scheme batch q (Some t) state (Err e) = record
-    { front = []; rest = proof_for scheme q t batch; whole = refl; takes = Takes-none state }
+    { front = []; rest = proof_for scheme q t batch; whole = refl; takes = TakesBytes-none state }
 
 -- ---- where heads have no radius, none is right
 
-pub right_none : (q : Question) (s : Standing) → q.around ≡ None → IsRight q s None
+pub right_none : (q : Question) (s : MapModel) → q.around ≡ None → IsRight q s None
 right_none q s e = right_in q.around s.tree e
   where
     right_in : (x : Option Around) (o : Option Tree) → x ≡ None → IfSome o (λ t. None ≡ radius_by x (records t))
@@ -252,10 +252,10 @@ right_none q s e = right_in q.around s.tree e
 -- ---- what was written for this query
 
 pub written_for : {A : Type 0} (scheme : Scheme) (batch : ℕ) (o : Option Tree) (q p : Query) (from to : Sunk)
-    (r : Result A ProveErr) → q ≡ p → IfSome o (λ t. OnOk r (Takes from to (proof scheme t batch p)))
-    → IfSome o (λ t. OnOk r (Takes from to (proof scheme t batch q)))
+    (r : Result A ProveErr) → q ≡ p → IfSome o (λ t. OnOk r (TakesBytes from to (proof scheme t batch p)))
+    → IfSome o (λ t. OnOk r (TakesBytes from to (proof scheme t batch q)))
 written_for scheme batch o q p from to r e h =
-    subst (λ q. IfSome o (λ t. OnOk r (Takes from to (proof scheme t batch q)))) (sym e) h
+    subst (λ q. IfSome o (λ t. OnOk r (TakesBytes from to (proof scheme t batch q)))) (sym e) h
 
 pub front_for : {A : Type 0} (scheme : Scheme) (batch : ℕ) (o : Option Tree) (q p : Query) (from to : Sunk)
     (r : Result A ProveErr) → q ≡ p → IfSome o (λ t. OnErr r (TakesFront from to (proof scheme t batch p)))

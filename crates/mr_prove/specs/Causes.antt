@@ -6,7 +6,7 @@ use Rattle.mr_outside.specs.declared.sink.SinkErr.{SinkErr}
 use Rattle.mr_outside.specs.declared.sink.SinkErr.TheVariants as sink
 use Rattle.mr_query.specs.declared.query.Query.{Query}
 use Rattle.mr_query.specs.declared.query.Query.TheVariants.{Window, Nearest}
-use Rattle.mr_tree.specs.Nodes.{Standing, HasSomeCause}
+use Rattle.mr_tree.specs.Nodes.{MapModel, HasSomeCause}
 use Rattle.mr_tree.specs.declared.nodes.NodesErr.{NodesErr}
 use Rattle.mr_tree.specs.declared.nodes.NodesErr.TheVariants as nodes
 use Rattle.mr_prove.specs.declared.error.ProveErr.{ProveErr}
@@ -24,16 +24,16 @@ of_sink sink.NoMemory = errors.NoMemory
 
 -- Each refusal has its cause, between these counts of faults of the nodes and by whether that of
 -- the sink rose: that of a fetch, which is never handed on as one of memory, or of the sink.
-abbrev pub HasCause : Standing → (before after : ℕ) → (sink_rose : Type 0) → ProveErr → Type 0
-HasCause s before after sink_rose (errors.Nodes e) = HasSomeCause s before after e
+abbrev pub HasProveCause : MapModel → (before after : ℕ) → (sink_rose : Type 0) → ProveErr → Type 0
+HasProveCause s before after sink_rose (errors.Nodes e) = HasSomeCause s before after e
     × (e ≢ nodes.NoMemory)
-HasCause s before after sink_rose errors.Sink = sink_rose
-HasCause s before after sink_rose errors.NoMemory = ⊤
+HasProveCause s before after sink_rose errors.Sink = sink_rose
+HasProveCause s before after sink_rose errors.NoMemory = ⊤
 
 -- between these counts of faults of the nodes and these states of the sink
-pub record ProveCauses {A : Type 0} (s : Standing) (before after : ℕ) (from to : Sunk)
+pub record ProveCauses {A : Type 0} (s : MapModel) (before after : ℕ) (from to : Sunk)
     (result : Result A ProveErr) : Type 0 where
-  pub cause : IfErr result (HasCause s before after (Rose from.faults to.faults))
+  pub cause : IfErr result (HasProveCause s before after (Rose from.faults to.faults))
   pub faults : from.faults ≤ to.faults
   pub still : OnOk result (after ≡ before)
   pub quiet : OnOk result (to.faults ≡ from.faults)

@@ -1,5 +1,4 @@
 -- what has to be believed
 pub mod Causes
 -- what only private functions and proofs use
-pub mod Parts
-pub mod Search
+pub mod private

@@ -3,8 +3,8 @@
 ghost use Rattle.std.specs.Prelude.{◌≡◌, ℕ, ◌+◌, ◌≤◌, ◌∷◌, min, IfSome, OnOk, IsTrue, ◌↔◌};
 ghost use Rattle.std.specs.BinaryHeap.{heap_items};
 ghost use Rattle.mr_query.specs.Nearest.{distances};
-ghost use Rattle.mr_query.specs.Radius.{below, IsRadius};
-ghost use Rattle.mr_prove.specs.Search.{farthest, Best, IsReached};
+ghost use Rattle.mr_query.specs.private.Radius.{below, IsRadius};
+ghost use Rattle.mr_prove.specs.private.Search.{farthest, Best, IsReached};
 
 use mr_geom::Point;
 use mr_record::Record;

@@ -2,9 +2,9 @@
 
 ghost use Rattle.std.specs.Prelude.{◌≡◌, OnOk, IfErr};
 ghost use Rattle.mr_outside.specs.Faults.{next_count};
-ghost use Rattle.mr_tree.specs.Nodes.{MayFetch, Shows, TellsRefusal};
+ghost use Rattle.mr_tree.specs.Nodes.{MayFetch, ShowsNode, TellsRefusal};
 ghost use Rattle.mr_prove.specs.Causes.{IsHandedOn, of_nodes};
-ghost use Rattle.mr_prove.specs.Search.{SearchCauses};
+ghost use Rattle.mr_prove.specs.private.Search.{SearchCauses};
 
 use crate::ProveErr;
 use mr_tree::{Child, NodeView, Nodes};
@@ -18,7 +18,7 @@ pub(crate) fn fetched<N: Nodes>(
     requires { MayFetch N.Hash.of (N.stands nodes.old) child.now }
     ensures kept { N.kept nodes.old nodes.new }
     ensures counted { N.fetches nodes.new ≡ next_count (N.fetches nodes.old) }
-    ensures shows { OnOk result (Shows N.Hash.of (N.stands nodes.old) child.now into.new) }
+    ensures shows { OnOk result (ShowsNode N.Hash.of (N.stands nodes.old) child.now into.new) }
     ensures causes { SearchCauses (N.stands nodes.old) (N.faults nodes.old) (N.faults nodes.new)
         result }
     ensures refused { IfErr result (IsHandedOn (N.refusal nodes.new)) }

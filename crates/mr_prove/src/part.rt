@@ -2,17 +2,17 @@
 
 ghost use Rattle.std.specs.Prelude.{◌≡◌, ℕ, ◌+◌, ◌≤◌, true, Option, OnOk, OnErr, IfErr, IsSome};
 ghost use Rattle.mr_outside.specs.Causes.{SinkCauses};
-ghost use Rattle.mr_outside.specs.Told.{Takes, TakesFront};
+ghost use Rattle.mr_outside.specs.Told.{TakesBytes, TakesFront};
 ghost use Rattle.mr_outside.specs.Faults.{next_count};
-ghost use Rattle.mr_tree.specs.View.{size, entry_of};
-ghost use Rattle.mr_tree.specs.Nodes.{Standing, MayFetch, Shows, TellsRefusal};
+ghost use Rattle.mr_tree.specs.View.{size, child_entry};
+ghost use Rattle.mr_tree.specs.Nodes.{MapModel, MayFetch, ShowsNode, TellsRefusal};
 ghost use Rattle.mr_tree.specs.declared.nodes.NodesErr as error;
 ghost use Rattle.mr_proof.specs.Cut.{pruned_cut};
 ghost use Rattle.mr_proof.specs.Spelling.{cut_bytes};
 ghost use Rattle.mr_proof.specs.declared.way.Way.{Way};
-ghost use Rattle.mr_proof.specs.Tight.{Seen, opens_at};
+ghost use Rattle.mr_proof.specs.Tight.{Key, opens_at};
 ghost use Rattle.mr_prove.specs.Causes.{ProveCauses, IsHandedOn, of_nodes};
-ghost use Rattle.mr_prove.specs.Parts.{node_bytes, part_under, opened_under};
+ghost use Rattle.mr_prove.specs.private.Parts.{node_bytes, part_under, opened_under};
 
 use crate::ProveErr;
 use crate::fetching::fetched;
@@ -23,7 +23,8 @@ use mr_tree::{Child, NodeView, Nodes};
 // Writes the item of an opened node.
 fn write_node<W: Sink>(view: &NodeView, out: &mut W) -> Result<(), SinkErr>
     requires { 1 ≤ size view.now }
-    ensures whole { OnOk result (Takes (W.state out.old) (W.state out.new) (node_bytes view.now)) }
+    ensures whole { OnOk result (TakesBytes (W.state out.old) (W.state out.new)
+        (node_bytes view.now)) }
     ensures front { TakesFront (W.state out.old) (W.state out.new) (node_bytes view.now) }
     ensures causes { SinkCauses (W.state out.old) (W.state out.new) result }
 {
@@ -45,9 +46,10 @@ fn open_node<N: Nodes, W: Sink>(
     requires { MayFetch N.Hash.of (N.stands nodes.old) child.now }
     ensures kept { N.kept nodes.old nodes.new }
     ensures counted { N.fetches nodes.new ≡ next_count (N.fetches nodes.old) }
-    ensures shows { OnOk result (Shows N.Hash.of (N.stands nodes.old) child.now view.new) }
-    ensures whole { OnOk result (Takes (W.state out.old) (W.state out.new) (node_bytes view.new)) }
-    ensures front { OnErr result (IsSome (N.stands nodes.old).tree → (way : Seen → Way) →
+    ensures shows { OnOk result (ShowsNode N.Hash.of (N.stands nodes.old) child.now view.new) }
+    ensures whole { OnOk result (TakesBytes (W.state out.old) (W.state out.new)
+        (node_bytes view.new)) }
+    ensures front { OnErr result (IsSome (N.stands nodes.old).tree → (way : Key → Way) →
         opens_at way child.now.rect ≡ true → TakesFront (W.state out.old) (W.state out.new)
         (part_under N.Hash.of way (N.stands nodes.old) child.now)) }
     ensures causes { ProveCauses (N.stands nodes.old) (N.faults nodes.old) (N.faults nodes.new)
@@ -62,11 +64,11 @@ fn open_node<N: Nodes, W: Sink>(
 
 // Writes a part that is pruned, by its entry. A refusal is one of the sink.
 fn write_pruned<W: Sink>(child: &Child, out: &mut W) -> Result<(), ProveErr>
-    ensures whole { OnOk result (Takes (W.state out.old) (W.state out.new)
-        (cut_bytes (pruned_cut (entry_of child.now)))) }
+    ensures whole { OnOk result (TakesBytes (W.state out.old) (W.state out.new)
+        (cut_bytes (pruned_cut (child_entry child.now)))) }
     ensures front { TakesFront (W.state out.old) (W.state out.new)
-        (cut_bytes (pruned_cut (entry_of child.now))) }
-    ensures causes { (s : Standing) (faults : ℕ) →
+        (cut_bytes (pruned_cut (child_entry child.now))) }
+    ensures causes { (s : MapModel) (faults : ℕ) →
         ProveCauses s faults faults (W.state out.old) (W.state out.new) result }
     ensures refused { (last : Option error.NodesErr) → IfErr result (IsHandedOn last) }
     ensures answered { (last : Option error.NodesErr) → TellsRefusal of_nodes last last result }
@@ -91,7 +93,7 @@ fn write_met<N: Nodes, A: AsQuestion, W: Sink>(
     requires met { opens_at ((A.question q.now).way radius) child.now.rect ≡ true }
     ensures kept { N.kept nodes.old nodes.new }
     ensures whole { OnOk result (IsSome (N.stands nodes.old).tree →
-        Takes (W.state out.old) (W.state out.new)
+        TakesBytes (W.state out.old) (W.state out.new)
         (part_under N.Hash.of ((A.question q.now).way radius) (N.stands nodes.old) child.now)) }
     ensures front { OnErr result (IsSome (N.stands nodes.old).tree →
         TakesFront (W.state out.old) (W.state out.new)
@@ -124,7 +126,7 @@ pub(crate) fn write_part<N: Nodes, A: AsQuestion, W: Sink>(
     requires { MayFetch N.Hash.of (N.stands nodes.old) child.now }
     ensures kept { N.kept nodes.old nodes.new }
     ensures whole { OnOk result (IsSome (N.stands nodes.old).tree →
-        Takes (W.state out.old) (W.state out.new)
+        TakesBytes (W.state out.old) (W.state out.new)
         (part_under N.Hash.of ((A.question q.now).way radius) (N.stands nodes.old) child.now)) }
     ensures front { OnErr result (IsSome (N.stands nodes.old).tree →
         TakesFront (W.state out.old) (W.state out.new)

@@ -1,7 +1,7 @@
 //! The whole proof.
 
 ghost use Rattle.std.specs.Prelude.{◌≡◌, ◌+◌, ◌*◌, ◌≤◌, None, OnOk, OnErr, IfErr, IfSome, IsSome};
-ghost use Rattle.mr_outside.specs.Told.{Takes, TakesFront};
+ghost use Rattle.mr_outside.specs.Told.{TakesBytes, TakesFront};
 ghost use Rattle.mr_record.specs.declared.version.Version.TheVariants.{One};
 ghost use Rattle.mr_tree.specs.Digest.{by};
 ghost use Rattle.mr_tree.specs.Nodes.{TellsRefusal};
@@ -11,7 +11,7 @@ ghost use Rattle.mr_proof.specs.Spelling.{FitsRadius};
 ghost use Rattle.mr_proof.specs.Honest.{proof_for, opened_for, proof, opened};
 ghost use Rattle.mr_proof.specs.Halves.{AcceptsHonest};
 ghost use Rattle.mr_prove.specs.Causes.{ProveCauses, IsHandedOn, rounds, of_nodes};
-ghost use Rattle.mr_prove.specs.Parts.{head_by, proof_of, opened_by, IsRight};
+ghost use Rattle.mr_prove.specs.private.Parts.{head_by, proof_of, opened_by, IsRight};
 
 use crate::ProveErr;
 use crate::part::write_part;
@@ -46,7 +46,7 @@ fn write_proof<N: Nodes, A: AsQuestion, W: Sink>(
     requires fits { FitsRadius (A.question q.now).kind radius }
     ensures kept { N.kept nodes.old nodes.new }
     ensures whole { OnOk result (IsSome (N.stands nodes.old).tree →
-        Takes (W.state out.old) (W.state out.new)
+        TakesBytes (W.state out.old) (W.state out.new)
         (proof_of N.Hash.of (A.question q.now) (N.stands nodes.old))) }
     ensures front { OnErr result (IsSome (N.stands nodes.old).tree →
         TakesFront (W.state out.old) (W.state out.new)
@@ -78,7 +78,7 @@ fn prove_nearest<N: Nodes, W: Sink>(
     requires { 1 ≤ k }
     ensures kept { N.kept nodes.old nodes.new }
     ensures written { IfSome (N.stands nodes.old).tree (λ t. OnOk result
-        (Takes (W.state out.old) (W.state out.new)
+        (TakesBytes (W.state out.old) (W.state out.new)
         (proof (by (N.stands nodes.old).version N.Hash.of) t (N.stands nodes.old).batch
         (queries.Nearest center.now k)))) }
     ensures front { IfSome (N.stands nodes.old).tree (λ t. OnErr result
@@ -111,7 +111,7 @@ pub fn prove_question<N: Nodes, A: AsQuestion, W: Sink>(
     requires { (A.question q.now).around ≡ None }
     ensures kept { N.kept nodes.old nodes.new }
     ensures written { IfSome (N.stands nodes.old).tree (λ t. OnOk result
-        (Takes (W.state out.old) (W.state out.new)
+        (TakesBytes (W.state out.old) (W.state out.new)
         (proof_for (by (N.stands nodes.old).version N.Hash.of) (A.question q.now) t
         (N.stands nodes.old).batch))) }
     ensures front { IfSome (N.stands nodes.old).tree (λ t. OnErr result
@@ -140,7 +140,7 @@ pub fn prove_window<N: Nodes, W: Sink>(
 ) -> Result<(), ProveErr>
     ensures kept { N.kept nodes.old nodes.new }
     ensures written { IfSome (N.stands nodes.old).tree (λ t. OnOk result
-        (Takes (W.state out.old) (W.state out.new)
+        (TakesBytes (W.state out.old) (W.state out.new)
         (proof (by (N.stands nodes.old).version N.Hash.of) t (N.stands nodes.old).batch
         (queries.Window window.now)))) }
     ensures front { IfSome (N.stands nodes.old).tree (λ t. OnErr result
@@ -175,7 +175,7 @@ pub fn prove<N: Nodes, W: Sink>(
     requires { IsAskable q.now }
     ensures kept { N.kept nodes.old nodes.new }
     ensures written { IfSome (N.stands nodes.old).tree (λ t. OnOk result
-        (Takes (W.state out.old) (W.state out.new)
+        (TakesBytes (W.state out.old) (W.state out.new)
         (proof (by (N.stands nodes.old).version N.Hash.of) t (N.stands nodes.old).batch q.now))) }
     ensures front { IfSome (N.stands nodes.old).tree (λ t. OnErr result
         (TakesFront (W.state out.old) (W.state out.new)

@@ -10,9 +10,9 @@ ghost use Rattle.mr_tree.specs.Digest.{by};
 ghost use Rattle.mr_tree.specs.Nodes.{MayFetch, TellsRefusal};
 ghost use Rattle.mr_tree.specs.declared.tree.Tree.{Tree};
 ghost use Rattle.mr_query.specs.Nearest.{distances, kth_least, is_within};
-ghost use Rattle.mr_query.specs.Radius.{IsRadius};
+ghost use Rattle.mr_query.specs.private.Radius.{IsRadius};
 ghost use Rattle.mr_prove.specs.Causes.{IsHandedOn, of_nodes};
-ghost use Rattle.mr_prove.specs.Search.{nearest_first, waiting, farthest, near_opened, Best, Searching, Bounded, IsStart, Visited, SearchCauses};
+ghost use Rattle.mr_prove.specs.private.Search.{nearest_first, waiting, farthest, near_opened, Best, Searching, Bounded, IsStart, Visited, SearchCauses};
 
 use crate::ProveErr;
 use crate::best::{is_reached, offer_all, radius_of};

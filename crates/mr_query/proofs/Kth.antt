@@ -5,7 +5,7 @@ use Rattle.std.specs.List.{AllByRecursion, slice_get}
 use Rattle.std.proofs.lemmas.Bool.{cases_Bool, ltb-true, ltb-false}
 use Rattle.mr_record.specs.Sorting.{put_in, sorted_by}
 use Rattle.mr_query.specs.Nearest.{kth_least}
-use Rattle.mr_query.specs.Radius.{below, IsRadius}
+use Rattle.mr_query.specs.private.Radius.{below, IsRadius}
 use Rattle.mr_query.proofs.Counts.{one_below, one_below-lt, one_below-most, below-cons, below-none, one_radius}
 
 -- in rising order

@@ -8,7 +8,7 @@ use Rattle.std.proofs.lemmas.List.Sums.{sum_by-cons}
 use Rattle.mr_geom.specs.declared.point.Point.{Point}
 use Rattle.mr_record.specs.declared.record.Record.{Record}
 use Rattle.mr_query.specs.Nearest.{distance, distances, kth_least, is_within, nearer_than, not_farther_than, is_nearer, nearest}
-use Rattle.mr_query.specs.Radius.{below, IsRadius}
+use Rattle.mr_query.specs.private.Radius.{below, IsRadius}
 use Rattle.mr_query.proofs.Counts.{one_below, one_below-lt, one_below-le, below-cons}
 use Rattle.mr_query.proofs.Kth.{kth_is_radius, radius_is_kth}
 use Rattle.mr_query.proofs.Ranks.{Splits, first_of_passing}

@@ -10,7 +10,7 @@ use Rattle.std.proofs.lemmas.List.Elements.{All-push, All-get_or, All-cons, All-
 use Rattle.std.proofs.lemmas.List.Sums.{AllPass-from_list_all}
 use Rattle.mr_record.specs.declared.text_fault.TextErr.{TextErr}
 use Rattle.mr_record.specs.declared.text_fault.TextErr.TheVariants as errors
-use Rattle.mr_record.specs.Answer.{Answers}
+use Rattle.mr_record.specs.Answer.{AnswersText}
 use Rattle.mr_record.specs.Lines.{lines_of}
 use Rattle.mr_record.specs.LineTexts.{text_by, values_after}
 use Rattle.mr_record.proofs.RecordLines.{IsInk, decimal_ink, signed_ink, IsDark, dark_ink, lacks_feed}
@@ -89,7 +89,7 @@ text_written text queries e =
       sym (lines_text text) ∙ ap (flat_map line_text) w.1 ∙ spelled_lines query_lines queries ∙ script_by queries,
     )
 
-pub answer_written : (text : List ℕ) (answer : Result (Vec Query) TextErr) → Answers answer (queries_of_text text)
+pub answer_written : (text : List ℕ) (answer : Result (Vec Query) TextErr) → AnswersText answer (queries_of_text text)
     → IfOk answer (λ v. IsScript v.items × (text ≡ script_of v.items))
 answer_written text (Ok v) e = text_written text v.items e
 answer_written text (Err rule) e = tt
@@ -100,7 +100,7 @@ text_read queries is =
     ∙ ap (values_after query_lines []) (spelled_again query_lines IsScript query_spelling queries is)
     ∙ values_read query_lines IsScript query_spelling queries is
 
-pub answer_refused : (text : List ℕ) (answer : Result (Vec Query) TextErr) → Answers answer (queries_of_text text)
+pub answer_refused : (text : List ℕ) (answer : Result (Vec Query) TextErr) → AnswersText answer (queries_of_text text)
     → IfErr answer (λ e. IsScriptRefusal text e)
 answer_refused text (Ok v) e = tt
 answer_refused text (Err (errors.Text fault)) e =

@@ -12,14 +12,14 @@ use Rattle.mr_geom.specs.declared.point.Point.{Point}
 use Rattle.mr_geom.specs.Rectangle.{Rectangle, FitsMap, rectangle_of}
 use Rattle.mr_geom.proofs.Rectangles.{rectangle_of_some, true_from_T}
 use Rattle.mr_record.specs.Decimal.{i32_of, u64_of}
-use Rattle.mr_record.specs.Lines.{Lacks}
+use Rattle.mr_record.specs.Lines.{LacksByte}
 use Rattle.mr_record.specs.Results.{◌>>=◌}
 use Rattle.mr_record.proofs.Results.{bind_ok}
 use Rattle.mr_query.specs.declared.query.Query.{Query}
 use Rattle.mr_query.specs.declared.query.Query.TheVariants.{Window, Nearest}
 use Rattle.mr_query.specs.declared.query.QueryFault.{QueryFault}
 use Rattle.mr_query.specs.declared.query.QueryFault.TheVariants as faults
-use Rattle.mr_query.specs.Word.{parts_of, number_of, window_of, window_of_parts, neighbour_limit, if_askable, count_of, point_at, nearest_of, nearest_of_parts, window_word, nearest_word, nearest_query_of, query_of, FitsPoint, IsQuery, word_of}
+use Rattle.mr_query.specs.Word.{comma_parts, number_of, window_of, window_of_parts, neighbour_limit, if_askable, count_in_word, point_at, nearest_of, nearest_of_parts, window_word, nearest_word, nearest_query_of, query_of, FitsPoint, IsQuery, word_of}
 use Rattle.mr_record.proofs.RecordLines.{IsInk, decimal_ink, signed_ink}
 use Rattle.mr_record.proofs.Decimals.{u64_of-written, u64_of-decimal, i32_of-written, i32_of-signed}
 
@@ -115,7 +115,7 @@ asked_of text (Some m) n w e =
     let r = count_in_range m n e in
     (w.0 ∙ ap decimal r.0, r.1, r.2)
 
-count_written : (part : ℕ) (text : List ℕ) (n : ℕ) → count_of part text ≡ Ok n
+count_written : (part : ℕ) (text : List ℕ) (n : ℕ) → count_in_word part text ≡ Ok n
     → (text ≡ decimal n) × (1 ≤ n) × (n ≤ neighbour_limit)
 count_written part text n e =
     asked_of text (u64_of text) n (u64_of-written text)
@@ -127,7 +127,7 @@ IsNearestOf parts q =
     (p : Point) × (n : ℕ) × (q ≡ Nearest p n) × IsQuery (Nearest p n) × (parts ≡ spelled (Nearest p n))
 
 nearest_made : (a b c : List ℕ) (x y : ℤ) (k : ℕ) (q : Query) → number_of 1 a ≡ Ok x → number_of 2 b ≡ Ok y
-    → count_of 3 c ≡ Ok k → read_as (Nearest (point_at x y) k) ≡ read_as q
+    → count_in_word 3 c ≡ Ok k → read_as (Nearest (point_at x y) k) ≡ read_as q
     → IsNearestOf (a ∷ b ∷ c ∷ []) q
 nearest_made a b c x y k q ea eb ec e =
     let left = number_written 1 a x ea in
@@ -146,9 +146,9 @@ nearest_written : (a b c : List ℕ) (q : Query) → nearest_of a b c ≡ Ok q
 unfolding nearest_of
 nearest_written a b c q e =
     let made = λ (x y : ℤ) (k : ℕ). read_as (Nearest (point_at x y) k) in
-    let x = bind_ok (number_of 1 a) (λ x. number_of 2 b >>= λ y. count_of 3 c >>= λ k. made x y k) q e in
-    let y = bind_ok (number_of 2 b) (λ y. count_of 3 c >>= λ k. made x.0 y k) q x.2 in
-    let k = bind_ok (count_of 3 c) (λ k. made x.0 y.0 k) q y.2 in
+    let x = bind_ok (number_of 1 a) (λ x. number_of 2 b >>= λ y. count_in_word 3 c >>= λ k. made x y k) q e in
+    let y = bind_ok (number_of 2 b) (λ y. count_in_word 3 c >>= λ k. made x.0 y k) q x.2 in
+    let k = bind_ok (count_in_word 3 c) (λ k. made x.0 y.0 k) q y.2 in
     nearest_made a b c x.0 y.0 k.0 q x.1 y.1 k.1 k.2
 
 nearest_parts_written : (parts : List (List ℕ)) (q : Query) → nearest_of_parts parts ≡ Ok q → IsNearestOf parts q
@@ -169,7 +169,7 @@ chosen false r s q e = inr (refl, e)
 
 -- a word that begins so, and goes on with these parts
 word_with : (n : ℕ) (word name : List ℕ) (parts : List (List ℕ)) → bytes_eq (take n word) name ≡ true
-    → parts_of (drop n word) ≡ parts → word ≡ name ++ join_with_byte 44 parts
+    → comma_parts (drop n word) ≡ parts → word ≡ name ++ join_with_byte 44 parts
 word_with n word name parts t e =
     let front : take n word ≡ name = (bytes_eq-Decides (take n word) name).0 t in
     let back : drop n word ≡ join_with_byte 44 parts = sym (join_with_byte-slice_split 44 (drop n word))
@@ -190,15 +190,15 @@ IsWritten word q = IsQuery q × (word ≡ word_of q)
 pub query_written : (word : List ℕ) (q : Query) → query_of word ≡ Ok q → IsQuery q × (word ≡ word_of q)
 unfolding query_of nearest_query_of
 query_written word q e =
-    elim (chosen (bytes_eq (take 7 word) window_word) (window_of_parts (parts_of (drop 7 word)))
-    (cond (bytes_eq (take 8 word) nearest_word) (nearest_of_parts (parts_of (drop 8 word))) (Err faults.Kind)) q e) [
+    elim (chosen (bytes_eq (take 7 word) window_word) (window_of_parts (comma_parts (drop 7 word)))
+    (cond (bytes_eq (take 8 word) nearest_word) (nearest_of_parts (comma_parts (drop 8 word))) (Err faults.Kind)) q e) [
       | inl c ↦
-          let w = window_parts_written (parts_of (drop 7 word)) q c.1 in
+          let w = window_parts_written (comma_parts (drop 7 word)) q c.1 in
           subst (IsWritten word) (sym w.1)
           (w.2, word_with 7 word window_word (spelled (Window w.0)) c.0 w.3 ∙ window_joined w.0)
       | inr c ↦
-          let d = refused (bytes_eq (take 8 word) nearest_word) (nearest_of_parts (parts_of (drop 8 word))) q c.1 in
-          let w = nearest_parts_written (parts_of (drop 8 word)) q d.1 in
+          let d = refused (bytes_eq (take 8 word) nearest_word) (nearest_of_parts (comma_parts (drop 8 word))) q c.1 in
+          let w = nearest_parts_written (comma_parts (drop 8 word)) q d.1 in
           subst (IsWritten word) (sym w.2)
           (w.3, word_with 8 word nearest_word (spelled (Nearest w.0 w.1)) d.0 w.4 ∙ nearest_joined w.0 w.1)
     ]
@@ -210,14 +210,14 @@ result_written word (Err f) e = tt
 
 -- ---- what is written is read again
 
-lacks_comma : (text : List ℕ) → IsInk text → Lacks 44 text
+lacks_comma : (text : List ℕ) → IsInk text → LacksByte 44 text
 lacks_comma text ink k d at = let low = ink k d at in ne_eqb (get_or text k d) 44 (λ e. omega arith)
 
-part_split : (front rest : List ℕ) → IsInk front → parts_of (front ++ 44 ∷ rest) ≡ front ∷ parts_of rest
+part_split : (front rest : List ℕ) → IsInk front → comma_parts (front ++ 44 ∷ rest) ≡ front ∷ comma_parts rest
 part_split front rest ink = slice_split_at (λ b. eqb b 44) front 44 rest (lacks_comma front ink) refl
 
 spelled_parts : (w : Rectangle) → FitsMap w →
-    parts_of (signed_decimal w.x0 ++ 44 ∷
+    comma_parts (signed_decimal w.x0 ++ 44 ∷
     (signed_decimal w.y0 ++ 44 ∷ (signed_decimal w.x1 ++ 44 ∷ signed_decimal w.y1))) ≡ spelled (Window w)
 spelled_parts w fits =
     let x0 = signed_decimal w.x0 in
@@ -245,7 +245,7 @@ spelled_read w is =
 -- ---- nearest records
 
 spelled_three : (p : Point) (k : ℕ) → IsQuery (Nearest p k) →
-    parts_of (signed_decimal p.x ++ 44 ∷ (signed_decimal p.y ++ 44 ∷ decimal k)) ≡ spelled (Nearest p k)
+    comma_parts (signed_decimal p.x ++ 44 ∷ (signed_decimal p.y ++ 44 ∷ decimal k)) ≡ spelled (Nearest p k)
 spelled_three p k is =
     let x = signed_decimal p.x in
     let y = signed_decimal p.y in
@@ -257,7 +257,7 @@ spelled_three p k is =
     ∙ ap (λ (t : List (List ℕ)). x ∷ y ∷ t)
     (slice_split_none (λ b. eqb b 44) n (lacks_comma n (decimal_ink k low)))
 
-count_read : (part k : ℕ) → 1 ≤ k → k ≤ neighbour_limit → count_of part (decimal k) ≡ Ok k
+count_read : (part k : ℕ) → 1 ≤ k → k ≤ neighbour_limit → count_in_word part (decimal k) ≡ Ok k
 count_read part k some few =
     let low : k < 2 ^ 64 = omega arith in
     rw (u64_of-decimal k low, le-leb 1 k some, le-leb k neighbour_limit few) refl

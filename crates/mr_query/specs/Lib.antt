@@ -5,5 +5,4 @@ pub mod Nearest
 pub mod Region
 pub mod Scan
 -- what only private functions and proofs use
-pub mod Radius
-pub mod Circles
+pub mod private

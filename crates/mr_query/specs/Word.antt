@@ -13,8 +13,8 @@ use Rattle.mr_query.specs.declared.query.QueryFault.{QueryFault}
 use Rattle.mr_query.specs.declared.query.QueryFault.TheVariants.{Kind, Parts, Number, Order}
 
 -- the text cut at each comma
-abbrev pub parts_of : List ℕ → List (List ℕ)
-parts_of text = slice_split (λ b. b == 44) text
+abbrev pub comma_parts : List ℕ → List (List ℕ)
+comma_parts text = slice_split (λ b. b == 44) text
 
 -- the number of the part, counted from 1
 abbrev pub number_of : ℕ → List ℕ → Result ℤ QueryFault
@@ -44,8 +44,8 @@ abbrev pub if_askable : ℕ → Option ℕ
 if_askable k = if nat_le 1 k && nat_le k neighbour_limit then Some k else None
 
 -- the number of records that the part, counted from 1, asks for
-abbrev pub count_of : ℕ → List ℕ → Result ℕ QueryFault
-count_of part text = ok_or (option_and_then if_askable (u64_of text)) (Number part)
+abbrev pub count_in_word : ℕ → List ℕ → Result ℕ QueryFault
+count_in_word part text = ok_or (option_and_then if_askable (u64_of text)) (Number part)
 
 abbrev pub point_at : (x y : ℤ) → Point
 point_at x y = record { x = x; y = y }
@@ -55,7 +55,7 @@ unfoldable pub nearest_of : List ℕ → List ℕ → List ℕ → Result Query 
 nearest_of a b c = do
   x ← number_of 1 a
   y ← number_of 2 b
-  k ← count_of 3 c
+  k ← count_in_word 3 c
   Ok (Nearest (point_at x y) k)
 
 -- those that the parts ask for, which have to be three
@@ -74,13 +74,13 @@ nearest_word = 110 ∷ 101 ∷ 97 ∷ 114 ∷ 101 ∷ 115 ∷ 116 ∷ 58 ∷ []
 -- the query for nearest records that the word spells, else the first fault
 unfoldable pub nearest_query_of : List ℕ → Result Query QueryFault
 nearest_query_of word =
-    if bytes_eq (take 8 word) nearest_word then nearest_of_parts (parts_of (drop 8 word))
+    if bytes_eq (take 8 word) nearest_word then nearest_of_parts (comma_parts (drop 8 word))
     else Err Kind
 
 -- the query that the word spells, else the first fault
 unfoldable pub query_of : List ℕ → Result Query QueryFault
 query_of word =
-    if bytes_eq (take 7 word) window_word then window_of_parts (parts_of (drop 7 word))
+    if bytes_eq (take 7 word) window_word then window_of_parts (comma_parts (drop 7 word))
     else nearest_query_of word
 
 -- ---- the one spelling of a query

@@ -3,7 +3,7 @@
 ghost use Rattle.std.specs.Prelude.{◌≡◌, ◌≤◌, ◌↔◌, IsTrue, Some, None};
 ghost use Rattle.mr_geom.specs.Distance.{least_squared_distance};
 ghost use Rattle.mr_query.specs.Nearest.{is_within};
-ghost use Rattle.mr_query.specs.Circles.{circle_widens};
+ghost use Rattle.mr_query.specs.private.Circles.{circle_widens};
 
 use mr_geom::{Point, Rect, Region};
 

@@ -1,7 +1,7 @@
 //! Many queries as a text.
 
 ghost use Rattle.std.specs.Prelude.{◌≡◌, List, IfOk, IfErr, Ok};
-ghost use Rattle.mr_record.specs.Answer.{Answers};
+ghost use Rattle.mr_record.specs.Answer.{AnswersText};
 ghost use Rattle.mr_query.specs.Script.{IsScript, script_of, query_of_line, queries_of_text, IsScriptRefusal};
 ghost use Rattle.mr_query.specs.declared.query.Query as types;
 
@@ -56,10 +56,10 @@ impl LineReader for ReadsQueries {
 /// Reads a script: at most 65,536 lines, each a query's word and a line feed. The refusal is the
 /// first line that breaks a rule, and the first rule that it breaks.
 pub fn read_script(alloc: Global, text: &[u8]) -> Result<Vec<Query>, TextErr>
-    ensures exact { Answers result (queries_of_text text.now) }
+    ensures exact { AnswersText result (queries_of_text text.now) }
     ensures written { IfOk result (λ v. IsScript v.items × (text.now ≡ script_of v.items)) }
     ensures read { (qs : List types.Query) → IsScript qs → text.now ≡ script_of qs
-        → Answers result (Ok qs) }
+        → AnswersText result (Ok qs) }
     ensures refused { IfErr result (λ e. IsScriptRefusal text.now e) }
 {
     read_values(alloc, &ReadsQueries, (), text)

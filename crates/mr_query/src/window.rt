@@ -1,7 +1,7 @@
 //! Whether a rectangle meets a window.
 
 ghost use Rattle.std.specs.Prelude.{◌≡◌, ◌↔◌, IsTrue};
-ghost use Rattle.mr_geom.specs.Plane.{Meets, touches};
+ghost use Rattle.mr_geom.specs.Plane.{SharesPoint, touches};
 
 use mr_geom::{Rect, Region};
 
@@ -12,10 +12,10 @@ pub struct Window {
 }
 
 impl Region for Window {
-    ghost reached = { λ s r. Meets s.rect r };
+    ghost reached = { λ s r. SharesPoint s.rect r };
 
     fn meets(&self, r: &Rect) -> bool
-        ensures reached { IsTrue result ↔ Meets self.now.rect r.now }
+        ensures reached { IsTrue result ↔ SharesPoint self.now.rect r.now }
         ensures test { result ≡ touches self.now.rect r.now }
     {
         self.rect.meets(r)

@@ -2,7 +2,7 @@
 
 ghost use Rattle.std.specs.Prelude.{◌≡◌, IfOk, Ok};
 ghost use Rattle.mr_record.specs.Decimal.{i32_of};
-ghost use Rattle.mr_query.specs.Word.{number_of, window_of, window_of_parts, if_askable, count_of, nearest_of, nearest_of_parts, nearest_query_of, parts_of, query_of, IsQuery, word_of};
+ghost use Rattle.mr_query.specs.Word.{number_of, window_of, window_of_parts, if_askable, count_in_word, nearest_of, nearest_of_parts, nearest_query_of, comma_parts, query_of, IsQuery, word_of};
 ghost use Rattle.mr_query.specs.declared.query.Query as types;
 ghost use Rattle.mr_query.specs.declared.query.QueryFault.TheVariants as faults;
 
@@ -31,7 +31,7 @@ fn read_window(x0: &[u8], y0: &[u8], x1: &[u8], y1: &[u8]) -> Result<Query, Quer
 
 #[tactic(auto, unfolding(crate::specs::Word::window_of_parts))]
 fn read_window_parts(text: &[u8]) -> Result<Query, QueryFault>
-    ensures { result ≡ window_of_parts (parts_of text.now) }
+    ensures { result ≡ window_of_parts (comma_parts text.now) }
 {
     let (x0, rest) = split_part(text)?;
     let (y0, rest) = split_part(rest)?;
@@ -56,7 +56,7 @@ fn if_askable(count: u64) -> Option<u16>
 
 // How many records are asked for.
 fn read_count(part: u8, text: &[u8]) -> Result<u16, QueryFault>
-    ensures { result ≡ count_of part text.now }
+    ensures { result ≡ count_in_word part text.now }
 {
     match read_u64(text) {
         Some(count) => if_askable(count).ok_or(QueryFault::Number { part }),
@@ -79,7 +79,7 @@ fn read_nearest(x: &[u8], y: &[u8], k: &[u8]) -> Result<Query, QueryFault>
 
 #[tactic(auto, unfolding(crate::specs::Word::nearest_of_parts))]
 fn read_nearest_parts(text: &[u8]) -> Result<Query, QueryFault>
-    ensures { result ≡ nearest_of_parts (parts_of text.now) }
+    ensures { result ≡ nearest_of_parts (comma_parts text.now) }
 {
     let (x, rest) = split_part(text)?;
     let (y, k) = split_part(rest)?;

@@ -3,7 +3,7 @@
 ghost use Rattle.std.specs.Prelude.{◌≡◌, ◌+◌, ◌≤◌, ◌++◌, ◌∷◌, decimal, length, OnOk};
 ghost use Rattle.std.specs.Fmt.{signed_decimal};
 ghost use Rattle.mr_outside.specs.Causes.{SinkCauses};
-ghost use Rattle.mr_outside.specs.Told.{Takes, TakesFront};
+ghost use Rattle.mr_outside.specs.Told.{TakesBytes, TakesFront};
 ghost use Rattle.mr_query.specs.Word.{window_word, nearest_word, IsAskable, IsQuery, word_of};
 ghost use Rattle.mr_query.specs.declared.query.Query.TheVariants as queries;
 
@@ -85,7 +85,7 @@ fn text(q: &Query) -> Buffer<WORD_LIMIT>
 pub fn write_query<W: Sink>(out: &mut W, q: &Query) -> Result<(), SinkErr>
     requires { IsAskable q.now }
     ensures query { IsQuery q.now }
-    ensures whole { OnOk result (Takes (W.state out.old) (W.state out.new) (word_of q.now)) }
+    ensures whole { OnOk result (TakesBytes (W.state out.old) (W.state out.new) (word_of q.now)) }
     ensures front { TakesFront (W.state out.old) (W.state out.new) (word_of q.now) }
     ensures causes { SinkCauses (W.state out.old) (W.state out.new) result }
 {

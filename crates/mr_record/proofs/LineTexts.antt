@@ -9,7 +9,7 @@ use Rattle.std.proofs.lemmas.List.Folds.{flat_map-map}
 use Rattle.mr_record.specs.declared.text_fault.TextRule.{TextRule}
 use Rattle.mr_record.specs.declared.text_fault.TextRule.TheVariants.{TooMany, NoEnd}
 use Rattle.mr_record.specs.declared.text_fault.TextFault.{TextFault}
-use Rattle.mr_record.specs.Lines.{Line, lines_of, onto_line, Lacks}
+use Rattle.mr_record.specs.Lines.{Line, lines_of, onto_line, LacksByte}
 use Rattle.mr_record.specs.LineTexts.{Reader, text_by, value_after, on_line, values_after, IsFirstFaultBy}
 use Rattle.mr_record.proofs.Fields.{lines_at}
 use Rattle.mr_record.specs.Results.{◌>>=◌}
@@ -93,7 +93,8 @@ on_line-err {A} n (Err rule) fault e =
 -- what is to be known of a reader, and of the values that one text may hold
 pub record IsSpelling {A : Type 0} (reader : Reader A) (Holds : List A → Type 0) : Type 0 where
   pub none : Holds []
-  pub lacks : (earlier : List A) (one : A) (more : List A) → Holds (earlier ++ one ∷ more) → Lacks 10 (reader.spell one)
+  pub lacks : (earlier : List A) (one : A) (more : List A) → Holds (earlier ++ one ∷ more) → LacksByte 10
+      (reader.spell one)
   pub few : (earlier : List A) (one : A) (more : List A) → Holds (earlier ++ one ∷ more) → length earlier < reader.limit
   pub again : (earlier : List A) (one : A) (more : List A) → Holds (earlier ++ one ∷ more) →
       reader.read earlier (reader.spell one) ≡ Ok one

@@ -14,9 +14,9 @@ use Rattle.mr_geom.proofs.Rectangles.{rectangle_of_some, true_from_T}
 use Rattle.mr_record.specs.declared.record.Record.{Record}
 use Rattle.mr_record.specs.declared.text_fault.TextRule.{TextRule}
 use Rattle.mr_record.specs.declared.text_fault.TextRule.TheVariants.{Form, Number, Coordinate, Order, Payload}
-use Rattle.mr_record.specs.Bytes.{AreBytes}
+use Rattle.mr_record.specs.private.Bytes.{AreBytes}
 use Rattle.mr_record.specs.Decimal.{u64_of, i32_of, at_most}
-use Rattle.mr_record.specs.Lines.{fields_of, Lacks}
+use Rattle.mr_record.specs.Lines.{fields_of, LacksByte}
 use Rattle.mr_record.specs.Results.{◌>>=◌}
 use Rattle.mr_record.proofs.Results.{bind_ok}
 use Rattle.mr_record.specs.Record.{IsRecord, HasLayer}
@@ -298,7 +298,7 @@ payload_ink (b ∷ bytes) fits =
     λ k d at. lower_ink _ (AllPass-from_list_all is_lower_digit (payload_text (b ∷ bytes))
     (all_lower_text b bytes fits) k d at)
 
-pub lacks_space : (text : List ℕ) → IsInk text → Lacks 32 text
+pub lacks_space : (text : List ℕ) → IsInk text → LacksByte 32 text
 lacks_space text ink k d at = let low = ink k d at in ne_eqb (get_or text k d) 32 (λ e. omega arith)
 
 pub fields_split : (front rest : List ℕ) → IsInk front → fields_of (front ++ 32 ∷ rest) ≡ front ∷ fields_of rest
@@ -366,7 +366,7 @@ IsDark text = All (λ b. 32 ≤ b) text
 pub dark_ink : (text : List ℕ) → IsInk text → IsDark text
 dark_ink text ink = All-weaker (λ b. 45 ≤ b) (λ b. 32 ≤ b) (λ b h. omega arith) text ink
 
-pub lacks_feed : (text : List ℕ) → IsDark text → Lacks 10 text
+pub lacks_feed : (text : List ℕ) → IsDark text → LacksByte 10 text
 lacks_feed text dark k d at = let low = dark k d at in ne_eqb (get_or text k d) 10 (λ e. omega arith)
 
 -- a space and what is behind it
@@ -393,5 +393,5 @@ line_dark v r is =
     (dark_field (signed_decimal r.rect.y1) _ (signed_ink r.rect.y1 is.coordinates.y1)
     (last_dark v r.layer _ is.layer (dark_ink (payload_text r.payload) (payload_ink r.payload is.bytes)))))))
 
-pub line_lacks : (v : Version) (r : Record) → IsRecord r → Lacks 10 (line_of v r)
+pub line_lacks : (v : Version) (r : Record) → IsRecord r → LacksByte 10 (line_of v r)
 line_lacks v r is = lacks_feed (line_of v r) (line_dark v r is)

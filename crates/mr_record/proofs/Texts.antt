@@ -16,7 +16,7 @@ use Rattle.mr_record.specs.Lines.{lines_of, fields_of}
 use Rattle.mr_record.specs.LineTexts.{text_by, values_after}
 use Rattle.mr_record.specs.Record.{IsRecord, HasLayer}
 use Rattle.mr_record.specs.RecordText.{IsRecordList, line_limit, line_of, text_of, Unlayered, record_of_fields, layered, has_number, if_new, new_record, record_lines, records_of_text}
-use Rattle.mr_record.specs.Answer.{Answers, IsRefusal}
+use Rattle.mr_record.specs.Answer.{AnswersText, IsRefusal}
 use Rattle.mr_record.specs.Results.{◌>>=◌}
 use Rattle.mr_record.proofs.Results.{bind_ok}
 use Rattle.mr_record.proofs.RecordLines.{fields_written, line_from, fields_read, line_lacks}
@@ -122,7 +122,7 @@ module _ (v : Version) where
       )
 
   pub answer_written : (text : List ℕ) (answer : Result (Vec Record) TextErr) →
-      Answers answer (records_of_text v text) →
+      AnswersText answer (records_of_text v text) →
       IfOk answer (λ read. IsRecordList v read.items × (text ≡ text_of v read.items))
   answer_written text (Ok read) e = text_written text read.items e
   answer_written text (Err rule) e = tt
@@ -135,7 +135,7 @@ module _ (v : Version) where
       ∙ values_read (record_lines v) (IsRecordList v) record_spelling records is
 
   pub answer_refused : (text : List ℕ) (answer : Result (Vec Record) TextErr) →
-      Answers answer (records_of_text v text) →
+      AnswersText answer (records_of_text v text) →
       IfErr answer (λ e. IsRefusal v text e)
   answer_refused text (Ok read) e = tt
   answer_refused text (Err (errors.Text fault)) e =

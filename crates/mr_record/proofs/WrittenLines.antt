@@ -2,14 +2,14 @@
 use Rattle.std.proofs.Common.{◌≡◌, ℕ, zero, suc, ◌+◌, ◌<◌, List, [], ◌∷◌, ◌++◌, length, take, drop, get_or, refl, sym, ap, subst, ◌∙◌, append_assoc, append-nil, arith}
 use Rattle.std.specs.Prelude.{All}
 use Rattle.std.proofs.lemmas.List.Elements.{All-nil, All-more}
-use Rattle.mr_record.specs.Gathered.{Sends}
+use Rattle.mr_record.specs.private.Gathered.{SendsFront}
 use Rattle.mr_record.specs.Record.{IsRecord}
 use Rattle.mr_record.specs.declared.record.Record.{Record}
 use Rattle.mr_record.specs.declared.version.Version.{Version}
 use Rattle.mr_record.specs.RecordText.{line_of, text_of}
 use Rattle.mr_outside.specs.State.{Sunk}
-use Rattle.mr_outside.specs.Told.{Takes, TakesFront}
-use Rattle.mr_outside.proofs.Taking.{Takes-none, Takes-append}
+use Rattle.mr_outside.specs.Told.{TakesBytes, TakesFront}
+use Rattle.mr_outside.proofs.Taking.{TakesBytes-none, TakesBytes-append}
 
 module _ (v : Version) where
   abbrev line : Record → List ℕ
@@ -43,7 +43,7 @@ module _ (v : Version) where
     pub each : All IsRecord (take done records)
     pub sent : List ℕ
     pub whole : text_of v (take done records) ≡ sent ++ held
-    pub takes : Takes before now sent
+    pub takes : TakesBytes before now sent
     pub faults : now.faults ≡ before.faults
 
   pub none_gathered : (s : Sunk) (rs : List Record) (held : List ℕ) → held ≡ [] → HasGathered s s rs 0 held
@@ -52,7 +52,7 @@ module _ (v : Version) where
     each = All-nil IsRecord;
     sent = [];
     whole = sym none;
-    takes = Takes-none s;
+    takes = TakesBytes-none s;
     faults = refl;
   }
 
@@ -60,7 +60,7 @@ module _ (v : Version) where
       (has : HasGathered before between rs i held) where
     -- one line more, behind what was still held once the sink took some of it
     pub gathered_more : (r : Record) (kept more : List ℕ) → i < length rs → r ≡ get_or rs i r → IsRecord r
-        → Sends between after held kept → after.faults ≡ between.faults → more ≡ kept ++ line r
+        → SendsFront between after held kept → after.faults ≡ between.faults → more ≡ kept ++ line r
         → HasGathered before after rs (i + 1) more
     gathered_more r kept more low is one sends quiet puts =
         let next : suc i ≡ i + 1 = omega arith in
@@ -71,7 +71,7 @@ module _ (v : Version) where
               ∙ ap (λ text. text ++ line r) (has.whole ∙ ap (λ text. has.sent ++ text) sends.whole)
               ∙ all_parts has.sent sends.sent kept (line r)
               ∙ ap (λ text. (has.sent ++ sends.sent) ++ text) (sym puts);
-          takes = Takes-append before between after has.sent sends.sent has.takes sends.takes;
+          takes = TakesBytes-append before between after has.sent sends.sent has.takes sends.takes;
           faults = quiet ∙ has.faults;
         }
 
@@ -83,11 +83,11 @@ module _ (v : Version) where
       whole = text_parts rs i
           ∙ ap (λ text. text ++ text_of v (drop i rs)) (has.whole ∙ ap (λ text. has.sent ++ text) part.whole)
           ∙ all_parts has.sent part.front part.rest (text_of v (drop i rs));
-      takes = Takes-append before between after has.sent part.front has.takes part.takes;
+      takes = TakesBytes-append before between after has.sent part.front has.takes part.takes;
     }
 
     -- all of it, behind the last record
-    pub all_gathered : take i rs ≡ rs → Takes between after held → Takes before after (text_of v rs)
+    pub all_gathered : take i rs ≡ rs → TakesBytes between after held → TakesBytes before after (text_of v rs)
     all_gathered all more =
-        subst (Takes before after) (sym has.whole ∙ ap (text_of v) all)
-        (Takes-append before between after has.sent held has.takes more)
+        subst (TakesBytes before after) (sym has.whole ∙ ap (text_of v) all)
+        (TakesBytes-append before between after has.sent held has.takes more)

@@ -10,14 +10,14 @@ use Rattle.mr_record.specs.LineTexts.{IsFirstFaultBy}
 use Rattle.mr_record.specs.RecordText.{IsRecordList, record_lines}
 
 -- the refusal is the fault that is meant, or memory ran out
-abbrev pub Refuses : {A : Type 0} → TextErr → Result A TextFault → Type 0
-Refuses (Text fault) meant = meant ≡ Err fault
-Refuses NoMemory meant = ⊤
+abbrev pub RefusesText : {A : Type 0} → TextErr → Result A TextFault → Type 0
+RefusesText (Text fault) meant = meant ≡ Err fault
+RefusesText NoMemory meant = ⊤
 
 -- the answer is the one that is meant, unless memory ran out
-abbrev pub Answers : {A : Type 0} → Result (Vec A) TextErr → Result (List A) TextFault → Type 0
-Answers (Ok v) meant = meant ≡ Ok v.items
-Answers (Err e) meant = Refuses e meant
+abbrev pub AnswersText : {A : Type 0} → Result (Vec A) TextErr → Result (List A) TextFault → Type 0
+AnswersText (Ok v) meant = meant ≡ Ok v.items
+AnswersText (Err e) meant = RefusesText e meant
 
 -- The lines before the fault's line are the lines of records that one text may hold, and behind
 -- those records the fault's line breaks the fault's rule first.

@@ -1,5 +1,4 @@
 -- what has to be believed, in reading order
-pub mod Bytes
 pub mod Decimal
 pub mod Lines
 pub mod Results
@@ -12,6 +11,4 @@ pub mod RecordText
 pub mod Answer
 pub mod Sorting
 -- what only private functions and proofs use
-pub mod Padding
-pub mod Numbers
-pub mod Gathered
+pub mod private

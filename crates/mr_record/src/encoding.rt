@@ -3,7 +3,7 @@
 
 ghost use Rattle.std.specs.Prelude.{◌≡◌, ℕ, ◌+◌, ◌<◌, ◌≤◌, ◌++◌, ◌∷◌, [], List, length, drop, OnOk, IfOk, MatchResult};
 ghost use Rattle.mr_outside.specs.Causes.{SinkCauses};
-ghost use Rattle.mr_outside.specs.Told.{Takes, TakesFront};
+ghost use Rattle.mr_outside.specs.Told.{TakesBytes, TakesFront};
 ghost use Rattle.mr_record.specs.Record.{IsRecord, HasLayer, layer_bytes, record_bytes, payload_limit};
 ghost use Rattle.mr_record.specs.RecordField.{field_at, rectangle_at, layer_at, length_place, payload_behind, payload_at, record_in};
 ghost use Rattle.mr_record.specs.declared.version.Version.TheVariants.{One, Two};
@@ -199,7 +199,7 @@ pub fn write_record_of<W: Sink>(out: &mut W, version: Version, one: &Record) -> 
     requires { HasLayer version one.now }
     ensures record { IsRecord one.now }
     ensures whole { OnOk result
-        (Takes (W.state out.old) (W.state out.new) (record_bytes version one.now)) }
+        (TakesBytes (W.state out.old) (W.state out.new) (record_bytes version one.now)) }
     ensures front { TakesFront (W.state out.old) (W.state out.new) (record_bytes version one.now) }
     ensures causes { SinkCauses (W.state out.old) (W.state out.new) result }
 {
@@ -212,7 +212,7 @@ pub fn write_record<W: Sink>(out: &mut W, one: &Record) -> Result<(), SinkErr>
     requires { HasLayer One one.now }
     ensures record { IsRecord one.now }
     ensures whole { OnOk result
-        (Takes (W.state out.old) (W.state out.new) (record_bytes One one.now)) }
+        (TakesBytes (W.state out.old) (W.state out.new) (record_bytes One one.now)) }
     ensures front { TakesFront (W.state out.old) (W.state out.new) (record_bytes One one.now) }
     ensures causes { SinkCauses (W.state out.old) (W.state out.new) result }
 {
@@ -224,7 +224,7 @@ pub fn write_record2<W: Sink>(out: &mut W, one: &Record) -> Result<(), SinkErr>
     requires { HasLayer Two one.now }
     ensures record { IsRecord one.now }
     ensures whole { OnOk result
-        (Takes (W.state out.old) (W.state out.new) (record_bytes Two one.now)) }
+        (TakesBytes (W.state out.old) (W.state out.new) (record_bytes Two one.now)) }
     ensures front { TakesFront (W.state out.old) (W.state out.new) (record_bytes Two one.now) }
     ensures causes { SinkCauses (W.state out.old) (W.state out.new) result }
 {

@@ -1,7 +1,7 @@
 //! The numbers of the records that a text had so far.
 
 ghost use Rattle.std.specs.Prelude.{◌≡◌, [], IfOk};
-ghost use Rattle.mr_record.specs.Numbers.{Holds, Knows};
+ghost use Rattle.mr_record.specs.private.Numbers.{HoldsNumbers, KnowsNumbers};
 ghost use Rattle.mr_record.specs.RecordText.{has_number};
 
 use crate::Record;
@@ -21,7 +21,7 @@ pub(crate) struct Numbers {
 
 // The numbers of some records.
 fn numbers_of(alloc: Global, records: &[Record]) -> Result<BTreeSet<u64>, AllocError>
-    ensures { IfOk result (λ s. Holds s records.now) }
+    ensures { IfOk result (λ s. HoldsNumbers s records.now) }
 {
     let mut numbers = BTreeSet::new(alloc);
     for one in records {
@@ -38,7 +38,7 @@ fn is_among(records: &[Record], number: u64) -> bool
 
 impl Numbers {
     pub(crate) fn new(alloc: Global) -> Numbers
-        ensures { Knows result [] }
+        ensures { KnowsNumbers result [] }
     {
         Numbers {
             alloc,
@@ -49,7 +49,7 @@ impl Numbers {
 
     // Whether one of the earlier records has the number.
     pub(crate) fn contains(&self, earlier: &[Record], number: u64) -> bool
-        requires { Knows self.now earlier.now }
+        requires { KnowsNumbers self.now earlier.now }
         ensures { result ≡ has_number number earlier.now }
     {
         if u128::from(number) >= self.end {
@@ -63,9 +63,9 @@ impl Numbers {
 }
 
 impl Memory<Record> for Numbers {
-    ghost use Rattle.mr_record.specs.Numbers.{Knows};
+    ghost use Rattle.mr_record.specs.private.Numbers.{KnowsNumbers};
 
-    ghost keeps = { λ numbers earlier. Knows numbers earlier };
+    ghost keeps = { λ numbers earlier. KnowsNumbers numbers earlier };
 
     fn keep(&mut self, earlier: &[Record], one: &Record) -> Result<(), AllocError> {
         let number = u128::from(one.number);

@@ -3,14 +3,14 @@
 ghost use Rattle.std.specs.Prelude.{◌≡◌, ◌+◌, ◌*◌, ◌^◌, ◌≤◌, ◌++◌, ◌∷◌, [], length, drop, decimal, OnOk, All};
 ghost use Rattle.std.specs.Fmt.{signed_decimal};
 ghost use Rattle.hex.specs.Hex.{encode_lower};
-ghost use Rattle.mr_outside.specs.Told.{Takes, TakesFront};
+ghost use Rattle.mr_outside.specs.Told.{TakesBytes, TakesFront};
 ghost use Rattle.mr_outside.specs.Causes.{SinkCauses};
 ghost use Rattle.mr_geom.specs.Rectangle.{IsOrdered, FitsMap};
-ghost use Rattle.mr_record.specs.Bytes.{AreBytes};
+ghost use Rattle.mr_record.specs.private.Bytes.{AreBytes};
 ghost use Rattle.mr_record.specs.Record.{IsRecord, HasLayer, payload_limit};
 ghost use Rattle.mr_record.specs.RecordText.{payload_text, layer_text, line_of, text_of};
 ghost use Rattle.mr_record.specs.declared.version.Version.TheVariants.{One, Two};
-ghost use Rattle.mr_record.specs.Gathered.{Sends};
+ghost use Rattle.mr_record.specs.private.Gathered.{SendsFront};
 
 use crate::{Payload, Record, Version};
 use mr_geom::Rect;
@@ -162,7 +162,7 @@ pub fn write_line_of<W: Sink>(out: &mut W, version: Version, one: &Record) -> Re
     requires { HasLayer version one.now }
     ensures record { IsRecord one.now }
     ensures whole { let line = line_of version one.now ++ 10 ∷ [] in
-        OnOk result (Takes (W.state out.old) (W.state out.new) line) }
+        OnOk result (TakesBytes (W.state out.old) (W.state out.new) line) }
     ensures front { TakesFront (W.state out.old) (W.state out.new)
         (line_of version one.now ++ 10 ∷ []) }
     ensures causes { SinkCauses (W.state out.old) (W.state out.new) result }
@@ -177,7 +177,7 @@ pub fn write_line<W: Sink>(out: &mut W, one: &Record) -> Result<(), SinkErr>
     requires { HasLayer One one.now }
     ensures record { IsRecord one.now }
     ensures whole { let line = line_of One one.now ++ 10 ∷ [] in
-        OnOk result (Takes (W.state out.old) (W.state out.new) line) }
+        OnOk result (TakesBytes (W.state out.old) (W.state out.new) line) }
     ensures front { TakesFront (W.state out.old) (W.state out.new)
         (line_of One one.now ++ 10 ∷ []) }
     ensures causes { SinkCauses (W.state out.old) (W.state out.new) result }
@@ -190,7 +190,7 @@ pub fn write_line2<W: Sink>(out: &mut W, one: &Record) -> Result<(), SinkErr>
     requires { HasLayer Two one.now }
     ensures record { IsRecord one.now }
     ensures whole { let line = line_of Two one.now ++ 10 ∷ [] in
-        OnOk result (Takes (W.state out.old) (W.state out.new) line) }
+        OnOk result (TakesBytes (W.state out.old) (W.state out.new) line) }
     ensures front { TakesFront (W.state out.old) (W.state out.new)
         (line_of Two one.now ++ 10 ∷ []) }
     ensures causes { SinkCauses (W.state out.old) (W.state out.new) result }
@@ -201,7 +201,8 @@ pub fn write_line2<W: Sink>(out: &mut W, one: &Record) -> Result<(), SinkErr>
 // Gives what was gathered to the sink, where there is no room for one more line behind it.
 fn make_room<W: Sink>(out: &mut W, piece: &mut Buffer<PIECE_LIMIT>) -> Result<(), SinkErr>
     ensures room { OnOk result (length piece.new + 512 ≤ 2 ^ 16) }
-    ensures sent { OnOk result (Sends (W.state out.old) (W.state out.new) piece.old piece.new) }
+    ensures sent { OnOk result (SendsFront (W.state out.old) (W.state out.new) piece.old
+        piece.new) }
     ensures front { TakesFront (W.state out.old) (W.state out.new) piece.old }
     ensures causes { SinkCauses (W.state out.old) (W.state out.new) result }
 {
@@ -224,7 +225,7 @@ pub fn write_lines<W: Sink>(
     requires { All (HasLayer version) records.now }
     ensures records { OnOk result (All IsRecord records.now) }
     ensures whole { OnOk result
-        (Takes (W.state out.old) (W.state out.new) (text_of version records.now)) }
+        (TakesBytes (W.state out.old) (W.state out.new) (text_of version records.now)) }
     ensures front { TakesFront (W.state out.old) (W.state out.new) (text_of version records.now) }
     ensures causes { SinkCauses (W.state out.old) (W.state out.new) result }
 {

@@ -2,7 +2,7 @@
 
 ghost use Rattle.std.specs.Prelude.{◌≡◌, ℕ, ◌+◌, ◌^◌, ◌<◌, ◌≤◌, ◌∷◌, [], ◌++◌, length, List, IfOk, IfErr, OnOk};
 ghost use Rattle.mr_record.specs.declared.text_fault.TextErr.TheVariants as errors;
-ghost use Rattle.mr_record.specs.Answer.{Answers, Refuses};
+ghost use Rattle.mr_record.specs.Answer.{AnswersText, RefusesText};
 ghost use Rattle.mr_record.specs.Lines.{lines_of};
 ghost use Rattle.mr_record.specs.LineTexts.{Reader, value_after, values_after};
 
@@ -131,7 +131,7 @@ fn take_line<'a, R: LineReader>(
     ensures goes_on { IfOk result (λ rest. values_after (R.reader reader.now) values.old.items
         (lines_of text.now)
         ≡ values_after (R.reader reader.now) values.new.items (lines_of rest.now)) }
-    ensures refused { IfErr result (λ e. Refuses e
+    ensures refused { IfErr result (λ e. RefusesText e
         (values_after (R.reader reader.now) values.old.items (lines_of text.now))) }
 {
     let (line, ended, rest) = first_line(text);
@@ -160,7 +160,7 @@ pub fn read_values<R: LineReader>(
     text: &[u8],
 ) -> Result<Vec<R::Value>, TextErr>
     requires { R.Memory.keeps memory [] }
-    ensures { Answers result (values_after (R.reader reader.now) [] (lines_of text.now)) }
+    ensures { AnswersText result (values_after (R.reader reader.now) [] (lines_of text.now)) }
 {
     let mut values = Vec::with_capacity(alloc, count(reader, text))?;
     let mut rest = text;

@@ -4,7 +4,7 @@ ghost use Rattle.std.specs.Prelude.{◌≡◌, ◌∷◌, [], ◌++◌, List, If
 ghost use Rattle.mr_record.specs.declared.record.Record as types;
 ghost use Rattle.mr_record.specs.declared.version.Version.TheVariants.{One, Two};
 ghost use Rattle.mr_record.specs.RecordText.{IsRecordList, text_of, records_of_text};
-ghost use Rattle.mr_record.specs.Answer.{Answers, IsRefusal};
+ghost use Rattle.mr_record.specs.Answer.{AnswersText, IsRefusal};
 
 use crate::line::{read_fields, with_layer};
 use crate::numbers::Numbers;
@@ -52,11 +52,11 @@ impl LineReader for ReadsRecords {
 /// Reads a record text of this version: at most 2^20 lines, each a record and a line feed, with
 /// different numbers.
 pub fn read_lines_of(alloc: Global, version: Version, text: &[u8]) -> Result<Vec<Record>, TextErr>
-    ensures exact { Answers result (records_of_text version text.now) }
+    ensures exact { AnswersText result (records_of_text version text.now) }
     ensures written { IfOk result
         (λ v. IsRecordList version v.items × (text.now ≡ text_of version v.items)) }
     ensures read { (rs : List types.Record) → IsRecordList version rs
-        → text.now ≡ text_of version rs → Answers result (Ok rs) }
+        → text.now ≡ text_of version rs → AnswersText result (Ok rs) }
     ensures refused { IfErr result (λ e. IsRefusal version text.now e) }
 {
     read_values(alloc, &ReadsRecords { version }, Numbers::new(alloc), text)
@@ -64,11 +64,11 @@ pub fn read_lines_of(alloc: Global, version: Version, text: &[u8]) -> Result<Vec
 
 /// `read_lines_of` version 1.
 pub fn read_lines(alloc: Global, text: &[u8]) -> Result<Vec<Record>, TextErr>
-    ensures exact { Answers result (records_of_text One text.now) }
+    ensures exact { AnswersText result (records_of_text One text.now) }
     ensures written { IfOk result
         (λ v. IsRecordList One v.items × (text.now ≡ text_of One v.items)) }
     ensures read { (rs : List types.Record) → IsRecordList One rs → text.now ≡ text_of One rs
-        → Answers result (Ok rs) }
+        → AnswersText result (Ok rs) }
     ensures refused { IfErr result (λ e. IsRefusal One text.now e) }
 {
     read_lines_of(alloc, Version::One, text)
@@ -76,11 +76,11 @@ pub fn read_lines(alloc: Global, text: &[u8]) -> Result<Vec<Record>, TextErr>
 
 /// `read_lines_of` version 2.
 pub fn read_lines2(alloc: Global, text: &[u8]) -> Result<Vec<Record>, TextErr>
-    ensures exact { Answers result (records_of_text Two text.now) }
+    ensures exact { AnswersText result (records_of_text Two text.now) }
     ensures written { IfOk result
         (λ v. IsRecordList Two v.items × (text.now ≡ text_of Two v.items)) }
     ensures read { (rs : List types.Record) → IsRecordList Two rs → text.now ≡ text_of Two rs
-        → Answers result (Ok rs) }
+        → AnswersText result (Ok rs) }
     ensures refused { IfErr result (λ e. IsRefusal Two text.now e) }
 {
     read_lines_of(alloc, Version::Two, text)

@@ -4,9 +4,9 @@
 use crate::failing::{Calls, Failing, Written};
 use crate::lines::{bytes_at, item};
 use crate::steps::went;
-use mr_bench::listed::Listed;
-use mr_bench::parts::{number, numbers};
-use mr_bench::runs::{shelf_with, words};
+use mr_fixtures::listed::Listed;
+use mr_fixtures::parts::{number, numbers};
+use mr_fixtures::runs::{shelf_with, words};
 use mr_outside::{NoGate, Shelf, Sink};
 use mr_system::{StdShelf, StdSink};
 use mr_tool::{Status, run};

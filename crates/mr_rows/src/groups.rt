@@ -7,8 +7,8 @@
 use crate::each_call::holds;
 use crate::lines::{begins, bytes_at, group_at, item, key_at};
 use crate::steps::{Said, is_so, went};
-use mr_bench::listed::Listed;
-use mr_bench::parts::{numbers, small};
+use mr_fixtures::listed::Listed;
+use mr_fixtures::parts::{numbers, small};
 use mr_outside::MemShelf;
 use std::alloc::{AllocError, Global};
 use std::rt::Files;

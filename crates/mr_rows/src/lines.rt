@@ -3,7 +3,7 @@
 //! next such line. Empty lines and those that begin with `#` tell nothing. A line that ends with
 //! `\` goes on with the next one, behind the two spaces that this begins with.
 
-use mr_bench::parts::{put_line, put_part};
+use mr_fixtures::parts::{put_line, put_part};
 use std::alloc::{AllocError, Global};
 
 // The text, with lines that go on put together.

@@ -2,10 +2,10 @@
 
 ghost use Rattle.std.specs.Prelude.{◌≤◌};
 
-use mr_bench::cuts::agrees;
-use mr_bench::listed::Listed;
-use mr_bench::parts::{number, numbers, small};
-use mr_bench::runs::{digest, file_of, ran};
+use mr_fixtures::cuts::agrees;
+use mr_fixtures::listed::Listed;
+use mr_fixtures::parts::{number, numbers, small};
+use mr_fixtures::runs::{digest, file_of, ran};
 use mr_outside::{MemShelf, NoGate};
 use mr_pages::{PAGE_SIZE, SECOND_SIZE, open_plain, save_plain, save2_plain};
 use mr_record::Version;

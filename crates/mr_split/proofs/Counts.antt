@@ -20,7 +20,7 @@ use Rattle.mr_geom.specs.Rectangle.{Rectangle, area}
 use Rattle.mr_split.specs.Best.{best, positions}
 use Rattle.mr_split.specs.Choice.{rect_at, choose, is_fitter_at, growth, is_fitter}
 use Rattle.mr_split.specs.Seeds.{pairs, pairs_of, seeds, first_pair, wastes_more}
-use Rattle.mr_split.specs.Split.{is, mark_at, count, urgency, is_more_urgent, most_urgent, next, bounds, is_second_fitter, group_for, seeded, needs_all, filled, placed, shared, sides, is_on, group}
+use Rattle.mr_split.specs.Split.{is, mark_at, count, urgency, is_more_urgent, most_urgent, next, bounds, is_second_fitter, group_for, seeded, needs_all, filled, with_next_placed, shared, sides, is_on, group}
 use Rattle.mr_split.specs.declared.mark.Mark.{Mark}
 use Rattle.mr_split.specs.declared.mark.Mark.TheVariants.{Open, First, Second}
 use Rattle.mr_split.specs.declared.seeds.Pair.{Pair}
@@ -236,13 +236,14 @@ all_split zero least size list marks length_is half few can = record {
 }
 all_split (suc left) least size list marks length_is half few can =
     at (needs_all least First marks) (needs_all least Second marks) refl refl
-    (λ few can. all_split left least size list (placed list marks) length_is half few can)
+    (λ few can. all_split left least size list (with_next_placed list marks) length_is half few can)
   where
     at : (a b : Bool) → needs_all least First marks ≡ a → needs_all least Second marks ≡ b →
-        (many (is Open) (placed list marks) ≡ left → CanSplit least size (placed list marks) → Splits least
-        (shared left least list (placed list marks))) →
+        (many (is Open) (with_next_placed list marks) ≡ left → CanSplit least size (with_next_placed list marks) →
+        Splits least
+        (shared left least list (with_next_placed list marks))) →
         Splits least (if a then filled First marks else (if b then filled Second marks else shared left least list
-        (placed list marks)))
+        (with_next_placed list marks)))
     at true b p q rest =
         let f = first_filled marks in
         let n = needed least First marks p in
@@ -389,12 +390,12 @@ unfolding shared
 shared_size zero least list marks = refl
 shared_size (suc left) least list marks =
     at (needs_all least First marks) (needs_all least Second marks)
-    (shared_size left least list (placed list marks) ∙ length-set marks (next list marks)
+    (shared_size left least list (with_next_placed list marks) ∙ length-set marks (next list marks)
     (group_for list marks (rect_at list (next list marks))))
   where
-    at : (a b : Bool) → length (shared left least list (placed list marks)) ≡ length marks →
+    at : (a b : Bool) → length (shared left least list (with_next_placed list marks)) ≡ length marks →
         length (if a then filled First marks else (if b then filled Second marks else shared left least list
-        (placed list marks))) ≡ length marks
+        (with_next_placed list marks))) ≡ length marks
     at true b rest = filled_size First marks
     at false true rest = filled_size Second marks
     at false false rest = rest

@@ -7,7 +7,7 @@ use Rattle.std.proofs.lemmas.Int.{ints}
 use Rattle.std.proofs.Math.ListN.{length-set}
 use Rattle.mr_geom.specs.Rectangle.{Rectangle, join, area, union}
 use Rattle.mr_split.specs.Choice.{rect_at}
-use Rattle.mr_split.specs.Split.{area_of, growth_of, member, bounds, shared, placed, next, group_for, filled, needs_all, group, preference}
+use Rattle.mr_split.specs.Split.{area_of, growth_of, member, bounds, shared, with_next_placed, next, group_for, filled, needs_all, group, preference}
 use Rattle.mr_split.specs.declared.mark.Mark.{Mark}
 use Rattle.mr_split.specs.declared.mark.Mark.TheVariants.{First, Second}
 use Rattle.mr_split.proofs.Champion.{next_position}
@@ -79,10 +79,10 @@ next_left i n within = omega (arith, within)
 pub shared_now : (left least : ℕ) (list : List Rectangle) (marks : List Mark) (a b : Bool) → needs_all least First
     marks ≡ a → needs_all least Second marks ≡ b →
     shared (suc left) least list marks ≡ (if a then filled First marks else (if b then filled Second marks else shared
-    left least list (placed list marks)))
+    left least list (with_next_placed list marks)))
 unfolding shared
 shared_now left least list marks a b p q = λ i. if p i then filled First marks else
-    (if q i then filled Second marks else shared left least list (placed list marks))
+    (if q i then filled Second marks else shared left least list (with_next_placed list marks))
 
 pub first_takes : (n i least : ℕ) (list : List Rectangle) (marks new z : List Mark) → i < n → needs_all least First
     marks ≡ true → new ≡ filled First marks →
@@ -99,7 +99,7 @@ second_takes n i least list marks new z within d e is so_far =
     (next_left i n within)) ∙ so_far
 
 pub one_goes : (n i least : ℕ) (list : List Rectangle) (marks new z : List Mark) → i < n → needs_all least First
-    marks ≡ false → needs_all least Second marks ≡ false → new ≡ placed list marks →
+    marks ≡ false → needs_all least Second marks ≡ false → new ≡ with_next_placed list marks →
     shared (n - i) least list marks ≡ z → shared (n - (i + 1)) least list new ≡ z
 one_goes n i least list marks new z within d e is so_far =
     ap (shared (n - (i + 1)) least list) is ∙ sym (shared_now (n - (i + 1)) least list marks false false d e) ∙ sym
@@ -111,7 +111,8 @@ unfolding shared
 all_shared n i least list marks z done so_far = let none : n - i ≡ 0 = omega (arith, done) in
     sym (ap (λ k. shared k least list marks) none) ∙ so_far
 
-pub length_of_placed : (list : List Rectangle) (marks new : List Mark) → new ≡ placed list marks → length new ≡ length
+pub length_of_placed : (list : List Rectangle) (marks new : List Mark) → new ≡ with_next_placed list marks → length new
+    ≡ length
     marks
 length_of_placed list marks new is = ap length is ∙ length-set marks (next list marks)
     (group_for list marks (rect_at list (next list marks)))

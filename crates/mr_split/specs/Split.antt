@@ -102,8 +102,8 @@ abbrev pub filled : Mark → List Mark → List Mark
 filled group marks = map (λ mark. if is Open mark then group else mark) marks
 
 -- the next entry goes to its group
-abbrev pub placed : List Rectangle → List Mark → List Mark
-placed list marks =
+abbrev pub with_next_placed : List Rectangle → List Mark → List Mark
+with_next_placed list marks =
     set marks (next list marks) (group_for list marks (rect_at list (next list marks)))
 
 -- all entries are in groups, where so many are open
@@ -112,7 +112,7 @@ shared zero least list marks = marks
 shared (suc left) least list marks =
     if needs_all least First marks then filled First marks
     else (if needs_all least Second marks then filled Second marks
-    else shared left least list (placed list marks))
+    else shared left least list (with_next_placed list marks))
 
 -- of each entry whether it goes to the second group, where each group gets at least so many
 unfoldable pub sides : List Rectangle → (least : ℕ) → List Bool

@@ -1,7 +1,7 @@
 //! How the other entries are put into the two groups, one by one.
 
 ghost use Rattle.std.specs.Prelude.{◌≡◌, ◌-◌, ◌*◌, ◌^◌, ◌<◌, ◌≤◌, pos, length};
-ghost use Rattle.mr_split.specs.Split.{member as member_of, bounds as bounds_of, area_of as area_in, growth_of, urgency as urgency_of, most_urgent as most_urgent_of, is_second_fitter as second_fitter, placed, needs_all as needs, filled, shared};
+ghost use Rattle.mr_split.specs.Split.{member as member_of, bounds as bounds_of, area_of as area_in, growth_of, urgency as urgency_of, most_urgent as most_urgent_of, is_second_fitter as second_fitter, with_next_placed, needs_all as needs, filled, shared};
 
 use crate::mark::{Mark, count, is};
 use mr_geom::{Rect, joined};
@@ -103,7 +103,7 @@ fn is_second_fitter(
 fn place_next(list: &[Rect], marks: &mut [Mark])
     requires some { 0 < length list.now }
     requires same { length marks.old ≡ length list.now }
-    ensures { marks.new ≡ placed list.now marks.old }
+    ensures { marks.new ≡ with_next_placed list.now marks.old }
 {
     let first = bounds(list, marks, Mark::First);
     let second = bounds(list, marks, Mark::Second);

@@ -14,8 +14,8 @@ use Rattle.lru.proofs.CallerLemmas.{Contains-remove_entry, Contains-lookup_entry
 use Rattle.lru.proofs.Splits.{Contains-cons, Contains-nil}
 use Rattle.mr_tree.specs.View.{Node}
 use Rattle.mr_tree.specs.declared.child.Child.{Child}
-use Rattle.mr_store.specs.declared.kept.Kept.{Kept}
-use Rattle.mr_store.specs.Kept.{Entries, node_of, IsThat, IsHeld, IsShown, IsFound, Finds, Forgets, Stays, Gains}
+use Rattle.mr_store.specs.declared.cached_node.CachedNode.{CachedNode}
+use Rattle.mr_store.specs.Kept.{CacheEntries, node_of, IsThat, IsHeld, IsShown, IsFound, FindsNode, Forgets, KeepsEntries, GainsNode}
 
 -- ---- an entry is moved or put in its place
 
@@ -56,7 +56,7 @@ module _ {K V : Type 0} (s t : K → Bool) where
   pub promoted_keeps : (es : List (K × V)) → IsSome (lookup t es) → IsSome (lookup t (promoted s es))
   promoted_keeps es some = front es (lookup_entry s es) refl some
 
-pub stays_promoted : (es : Entries) (page : ℕ) → Stays es (promoted (nat_eq page) es)
+pub stays_promoted : (es : CacheEntries) (page : ℕ) → KeepsEntries es (promoted (nat_eq page) es)
 stays_promoted es page = record {
   none_new = Contains-promoted (nat_eq page) es;
   none_lost = λ q some. promoted_keeps (nat_eq page) (nat_eq q) es some;
@@ -64,15 +64,15 @@ stays_promoted es page = record {
 
 -- ---- an entry is put
 
-module _ (c : LruCache ℕ Kept) (k : ℕ) (v : Kept) where
-  put : (t : ℕ → Bool) (o : Option (ℕ × Kept)) → lookup_entry (nat_eq k) c.entries ≡ o →
+module _ (c : LruCache ℕ CachedNode) (k : ℕ) (v : CachedNode) where
+  put : (t : ℕ → Bool) (o : Option (ℕ × CachedNode)) → lookup_entry (nat_eq k) c.entries ≡ o →
       IsSome (lookup (nat_eq k) c.entries) ⊎ (length c.entries < c.cap) → IsSome (lookup t c.entries) →
       IsSome (lookup t (option_map_or (λ e. (e.0, v) ∷ remove_entry (nat_eq k) c.entries) o
       ((k, v) ∷ take (c.cap - 1) c.entries)))
   put t None h (inl there) some =
       let none : lookup (nat_eq k) c.entries ≡ None = sym (lookup-lookup_entry (nat_eq k) c.entries)
-      ∙ ap (option_map (λ (e : ℕ × Kept). e.1)) h in
-      let is : IsSome {T = Kept} None = subst (IsSome {T = Kept}) none there in cc
+      ∙ ap (option_map (λ (e : ℕ × CachedNode). e.1)) h in
+      let is : IsSome {T = CachedNode} None = subst (IsSome {T = CachedNode}) none there in cc
   put t None h (inr room) some =
       at_front (nat_eq k) t (k, v) v (take (c.cap - 1) c.entries)
       (inr (subst (λ es. IsSome (lookup t es)) (sym (take_all (c.cap - 1) c.entries (omega (arith, room)))) some))
@@ -85,45 +85,46 @@ module _ (c : LruCache ℕ Kept) (k : ℕ) (v : Kept) where
   put_keeps t room some = put t (lookup_entry (nat_eq k) c.entries) refl room some
 
 -- the node of a child was put
-pub gains_put : (c : LruCache ℕ Kept) (child : Child) (n : Node) (k : Kept) → IsThat child k → node_of k.node ≡ n →
-    Gains c.cap c.entries (put_entries nat_eq c child.id k) child n
+pub gains_put : (c : LruCache ℕ CachedNode) (child : Child) (n : Node) (k : CachedNode) → IsThat child k → node_of
+    k.node ≡ n →
+    GainsNode c.cap c.entries (put_entries nat_eq c child.id k) child n
 gains_put c child n k that is = record {
   each = λ e d. elim (Contains-put_entries nat_eq c child.id k e d) [
     | inl old ↦ inl old
     | inr new' ↦ inr (record {
       page = elim new'.1 [ inl same ↦ same | inr other ↦ sym (eqb-true child.id e.0 other.2) ];
       that = subst (IsThat child) (sym new'.0) that;
-      node = ap (λ (x : Kept). node_of x.node) new'.0 ∙ is;
+      node = ap (λ (x : CachedNode). node_of x.node) new'.0 ∙ is;
     })
   ];
-  put = subst (IsSome {T = Kept}) (sym (lookup-put_entries nat_eq c child.id k nat_eq_equiv)) refl;
+  put = subst (IsSome {T = CachedNode}) (sym (lookup-put_entries nat_eq c child.id k nat_eq_equiv)) refl;
   held = subst (λ o. IsSomeAnd o (IsThat child)) (sym (lookup-put_entries nat_eq c child.id k nat_eq_equiv)) that;
   none_lost = λ room page some. put_keeps c child.id k (nat_eq page) room some;
 }
 
 -- ---- what is found
 
-module _ (es : Entries) (page : ℕ) (k : Kept) (there : Some k ≡ lookup (nat_eq page) es) where
+module _ (es : CacheEntries) (page : ℕ) (k : CachedNode) (there : Some k ≡ lookup (nat_eq page) es) where
   pub found_among : Contains es (page, k)
   found_among =
       let q = Contains-lookup (nat_eq page) es k (sym there) in
       subst (λ p. Contains es (p, k)) (sym (eqb-true page q.0 q.2)) q.1
 
-  pub found_shown : ((e : ℕ × Kept) → Contains es e → IsShown e.1) → IsShown k
+  pub found_shown : ((e : ℕ × CachedNode) → Contains es e → IsShown e.1) → IsShown k
   found_shown all = all (page, k) found_among
 
-pub not_there : (es : Entries) (c : Child) → None ≡ lookup (nat_eq c.id) es → IsHeld es c → ⊥
+pub not_there : (es : CacheEntries) (c : Child) → None ≡ lookup (nat_eq c.id) es → IsHeld es c → ⊥
 not_there es c none h = subst (λ o. IsSomeAnd o (IsThat c)) (sym none) h
 
-pub not_that : (es : Entries) (c : Child) (k : Kept) → Some k ≡ lookup (nat_eq c.id) es → (IsThat c k → ⊥) →
+pub not_that : (es : CacheEntries) (c : Child) (k : CachedNode) → Some k ≡ lookup (nat_eq c.id) es → (IsThat c k → ⊥) →
     IsHeld es c → ⊥
 not_that es c k there other h = other (subst (λ o. IsSomeAnd o (IsThat c)) (sym there) h)
 
-pub found_there : (es : Entries) (c : Child) (b : Bool) (n : Node) → b ≡ true → Finds es c b n → IsFound es c n
+pub found_there : (es : CacheEntries) (c : Child) (b : Bool) (n : Node) → b ≡ true → FindsNode es c b n → IsFound es c n
 found_there es c true n e f = f
 found_there es c false n e f = cc
 
-pub not_found : (es es' : Entries) (c : Child) (b : Bool) (n : Node) → b ≡ false → Finds es c b n →
+pub not_found : (es es' : CacheEntries) (c : Child) (b : Bool) (n : Node) → b ≡ false → FindsNode es c b n →
     (b ≡ false → es' ≡ es) → IsHeld es' c → ⊥
 not_found es es' c true n e f same h = cc
 not_found es es' c false n e f same h = f (subst (λ xs. IsHeld xs c) (same refl) h)
@@ -141,30 +142,31 @@ module _ {K V : Type 0} (test : K → Bool) (es : List (K × V)) where
   promoted_finds : lookup test (promoted test es) ≡ lookup test es
   promoted_finds = first (lookup_entry test es) refl
 
-pub held_promoted : (es : Entries) (c : Child) (n : Node) → IsFound es c n → IsHeld (promoted (nat_eq c.id) es) c
+pub held_promoted : (es : CacheEntries) (c : Child) (n : Node) → IsFound es c n → IsHeld (promoted (nat_eq c.id) es) c
 held_promoted es c n f =
     subst (λ o. IsSomeAnd o (IsThat c)) (sym (promoted_finds (nat_eq c.id) es ∙ f.there)) f.that
 
 -- ---- nothing is kept of a page any more
 
-not_here : (page : ℕ) (f e : ℕ × Kept) (es : Entries) (b : Bool) → nat_eq page f.0 ≡ b →
+not_here : (page : ℕ) (f e : ℕ × CachedNode) (es : CacheEntries) (b : Bool) → nat_eq page f.0 ≡ b →
     cond b (Some f.1) (lookup (nat_eq page) es) ≡ None →
     (lookup (nat_eq page) es ≡ None → Contains es e → e.0 ≢ page) → Contains (f ∷ es) e → e.0 ≢ page
 not_here page f e es true test none rest there = absurd cc
 not_here page f e es false test none rest there = elim (Contains-cons f es e there) [
-  | inl same ↦ λ is. no (sym (eq-eqb page f.0 (sym is ∙ sym (ap (λ (x : ℕ × Kept). x.0) same))) ∙ test)
+  | inl same ↦ λ is. no (sym (eq-eqb page f.0 (sym is ∙ sym (ap (λ (x : ℕ × CachedNode). x.0) same))) ∙ test)
   | inr behind ↦ rest none behind
 ]
   where
     no : true ≡ false → ⊥
     no h = cc
 
-not_among : (page : ℕ) (es : Entries) → lookup (nat_eq page) es ≡ None → (e : ℕ × Kept) → Contains es e → e.0 ≢ page
+not_among : (page : ℕ) (es : CacheEntries) → lookup (nat_eq page) es ≡ None → (e : ℕ × CachedNode) → Contains es e → e.0
+    ≢ page
 not_among page [] none e there = absurd (Contains-nil e there)
 not_among page (f ∷ es) none e there =
     not_here page f e es (nat_eq page f.0) refl none (λ n c. not_among page es n e c) there
 
-pub forgets : (page : ℕ) (es : Entries) → IsDistinct nat_eq (keys_of es) →
+pub forgets : (page : ℕ) (es : CacheEntries) → IsDistinct nat_eq (keys_of es) →
     Forgets page es (remove_entry (nat_eq page) es)
 forgets page es apart = record {
   none_new = Contains-remove_entry (nat_eq page) es;

@@ -25,15 +25,15 @@ use Rattle.mr_tree.specs.declared.tree.Tree.TheOpen.{Leaf, Inner}
 use Rattle.mr_tree.proofs.Subtrees.{subtrees-Leaf}
 use Rattle.mr_tree.proofs.Told.{told_counts}
 use Rattle.mr_tree.proofs.Placements.{leaf_placed, inner_placed, placed_on, links_more, trees_before}
-use Rattle.mr_store.specs.Walk.{Suits, GathersAll, moved}
-use Rattle.mr_store.specs.Copying.{trees_in, IsPut, ArePlaced}
+use Rattle.mr_store.specs.private.Walk.{SuitsEntry, GathersAll, moved}
+use Rattle.mr_store.specs.private.Copying.{trees_in, IsPut, ArePlaced}
 use Rattle.mr_pages.proofs.Fits.{levels}
 use Rattle.mr_store.proofs.Walks.{first_same, rest_same, no_first}
 
 -- ---- a leaf
 
 pub leaf_put : (x : Scheme) (root : Bool) (child : Child) (rs qs : List Record) (old new : List Stored) (id : ℕ) →
-    qs ≡ rs → IsPut old new (Records qs) id → Suits x root child (Leaf rs) → AreLinked x old →
+    qs ≡ rs → IsPut old new (Records qs) id → SuitsEntry x root child (Leaf rs) → AreLinked x old →
     IsPlaced x old new (moved id child) (tree.Leaf rs) (subtrees (tree.Leaf rs))
 leaf_put x root child rs qs old new id same put suits linked =
     subst (λ ns. IsPlaced x old ns (moved id child) (tree.Leaf rs) (subtrees (tree.Leaf rs)))
@@ -44,34 +44,36 @@ leaf_put x root child rs qs old new id same put suits linked =
 
 -- ---- an inner node
 
-alike_same : (n : ℕ) (cs ds : List Child) → map view.entry_of cs ≡ map view.entry_of ds →
+alike_same : (n : ℕ) (cs ds : List Child) → map view.child_entry cs ≡ map view.child_entry ds →
     AllByRecursion (λ (c : Child). c.level + 1 ≡ n) ds → AllByRecursion (λ (c : Child). c.level + 1 ≡ n) cs
 alike_same n [] ds e all = tt
-alike_same n (c ∷ cs) [] e all = absurd (no_first (view.entry_of c) (map view.entry_of cs) e)
+alike_same n (c ∷ cs) [] e all = absurd (no_first (view.child_entry c) (map view.child_entry cs) e)
 alike_same n (c ∷ cs) (d ∷ ds) e all = (
   ap (λ (x : Entry). x.level + 1)
-      (first_same (view.entry_of c) (view.entry_of d) (map view.entry_of cs) (map view.entry_of ds) e) ∙ all.0,
+      (first_same (view.child_entry c) (view.child_entry d) (map view.child_entry cs) (map view.child_entry ds) e) ∙
+      all.0,
   alike_same n cs ds
-      (rest_same (view.entry_of c) (view.entry_of d) (map view.entry_of cs) (map view.entry_of ds) e) all.1,
+      (rest_same (view.child_entry c) (view.child_entry d) (map view.child_entry cs) (map view.child_entry ds) e) all.1,
 )
 
-same_count : (cs ds : List Child) → map view.entry_of cs ≡ map view.entry_of ds → length cs ≡ length ds
-same_count cs ds e = sym (length-map cs view.entry_of) ∙ ap length e ∙ length-map ds view.entry_of
+same_count : (cs ds : List Child) → map view.child_entry cs ≡ map view.child_entry ds → length cs ≡ length ds
+same_count cs ds e = sym (length-map cs view.child_entry) ∙ ap length e ∙ length-map ds view.child_entry
 
-tells_same : (v : Version) (cs ds : List Child) → map view.entry_of cs ≡ map view.entry_of ds →
+tells_same : (v : Version) (cs ds : List Child) → map view.child_entry cs ≡ map view.child_entry ds →
     AllByRecursion (λ (c : Child). view.MayTell v c.mask c.count) ds →
     AllByRecursion (λ (c : Child). view.MayTell v c.mask c.count) cs
 tells_same v [] ds e all = tt
-tells_same v (c ∷ cs) [] e all = absurd (no_first (view.entry_of c) (map view.entry_of cs) e)
+tells_same v (c ∷ cs) [] e all = absurd (no_first (view.child_entry c) (map view.child_entry cs) e)
 tells_same v (c ∷ cs) (d ∷ ds) e all = (
   subst (λ (y : Entry). view.MayTell v y.mask y.count)
-      (sym (first_same (view.entry_of c) (view.entry_of d) (map view.entry_of cs) (map view.entry_of ds) e)) all.0,
+      (sym (first_same (view.child_entry c) (view.child_entry d) (map view.child_entry cs) (map view.child_entry ds) e))
+      all.0,
   tells_same v cs ds
-      (rest_same (view.entry_of c) (view.entry_of d) (map view.entry_of cs) (map view.entry_of ds) e) all.1,
+      (rest_same (view.child_entry c) (view.child_entry d) (map view.child_entry cs) (map view.child_entry ds) e) all.1,
 )
 
 -- entries of which a view showed the same tell what they told there
-told_same : (v : Version) (cs ds : List Child) → map view.entry_of cs ≡ map view.entry_of ds →
+told_same : (v : Version) (cs ds : List Child) → map view.child_entry cs ≡ map view.child_entry ds →
     view.AreTold v (Inner ds) → view.AreTold v (Inner cs)
 told_same v cs ds e told = record {
   layers = All-nil (HasLayer v);
@@ -80,7 +82,7 @@ told_same v cs ds e told = record {
 }
 
 -- and have a node's shape
-shape_same : (v : Version) (cs ds : List Child) → map view.entry_of cs ≡ map view.entry_of ds → IsInner ds →
+shape_same : (v : Version) (cs ds : List Child) → map view.child_entry cs ≡ map view.child_entry ds → IsInner ds →
     view.AreTold v (Inner cs) → HasShape (Inner cs)
 shape_same v cs ds e fits told =
     let count = same_count cs ds e in
@@ -101,8 +103,8 @@ shape_same v cs ds e fits told =
 
 -- the entry and the place of a node whose children were placed before
 inner_behind : (x : Scheme) (root : Bool) (child : Child) (cs ds : List Child) (us : List Tree)
-    (old mid : List Stored) (id : ℕ) → id ≡ length mid + 1 → Suits x root child (Inner ds) →
-    map view.entry_of cs ≡ map view.entry_of ds → ArePlaced x old mid cs us →
+    (old mid : List Stored) (id : ℕ) → id ≡ length mid + 1 → SuitsEntry x root child (Inner ds) →
+    map view.child_entry cs ≡ map view.child_entry ds → ArePlaced x old mid cs us →
     IsPlaced x old (mid ++ Children cs ∷ []) (moved id child) (tree.Inner us) (subtrees (tree.Inner us))
 inner_behind x root child cs ds us old mid id last suits same all =
     let c = moved id child in
@@ -115,8 +117,10 @@ inner_behind x root child cs ds us old mid id last suits same all =
     placed_on {E = Unit {0}} x old mid new (Ok c) (tree.Inner us) (tree.Inner us) us q all.grown refl refl
 
 pub inner_put : (x : Scheme) (root : Bool) (child : Child) (cs qs ds : List Child) (us : List Tree)
-    (old mid new : List Stored) (id : ℕ) → qs ≡ cs → IsPut mid new (Children qs) id → Suits x root child (Inner ds) →
-    map view.entry_of cs ≡ map view.entry_of ds → (AreLinked x old → ArePlaced x old mid cs us) → AreLinked x old →
+    (old mid new : List Stored) (id : ℕ) → qs ≡ cs → IsPut mid new (Children qs) id → SuitsEntry x root child
+    (Inner ds) →
+    map view.child_entry cs ≡ map view.child_entry ds → (AreLinked x old → ArePlaced x old mid cs us) → AreLinked
+    x old →
     IsPlaced x old new (moved id child) (tree.Inner us) (subtrees (tree.Inner us))
 inner_put x root child cs qs ds us old mid new id items put suits same all linked =
     subst (λ ns. IsPlaced x old ns (moved id child) (tree.Inner us) (subtrees (tree.Inner us)))

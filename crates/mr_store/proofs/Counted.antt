@@ -9,8 +9,8 @@ use Rattle.mr_geom.specs.Rectangle.{Rectangle}
 use Rattle.mr_outside.specs.Faults.{next_count}
 use Rattle.mr_tree.specs.Tree.{rect}
 use Rattle.mr_tree.specs.Digest.{Scheme, by, entry}
-use Rattle.mr_tree.specs.View.{Node, children_in, entry_of}
-use Rattle.mr_tree.specs.Nodes.{Standing, IsNodeOf, MayFetch, Shows, subtrees}
+use Rattle.mr_tree.specs.View.{Node, children_in, child_entry}
+use Rattle.mr_tree.specs.Nodes.{MapModel, IsNodeOf, MayFetch, ShowsNode, subtrees}
 use Rattle.mr_tree.specs.declared.child.Child.{Child}
 use Rattle.mr_tree.specs.declared.entry.Entry.{Entry}
 use Rattle.mr_tree.specs.declared.tree.Tree.{Tree}
@@ -22,7 +22,7 @@ use Rattle.mr_tree.proofs.Subtrees.{subtrees-Leaf, subtrees-Inner}
 use Rattle.mr_tree.specs.Snapshot.{IsSnapshot, tree_of, tree_over, trees}
 use Rattle.mr_tree.specs.declared.nodes.Top.{Top}
 use Rattle.mr_tree.specs.declared.stored.Stored.{Stored}
-use Rattle.mr_store.specs.Walk.{nodes_at, nodes_in}
+use Rattle.mr_store.specs.private.Walk.{nodes_at, nodes_in}
 use Rattle.mr_store.proofs.Walks.{some_of, next_count-≤}
 
 sum_by_map : {X Y : Type 0} (f : Y → ℕ) (g : X → Y) (xs : List X) → sum_by f (map g xs) ≡ sum_by (λ x. f (g x)) xs
@@ -38,7 +38,7 @@ sum_by_along f g h xs ys e = sym (sum_by_map f g xs) ∙ ap (sum_by f) e ∙ sum
 -- ---- how many nodes a tree has
 
 -- itself, and those below it
-counted : (s : Standing) (t : Tree) (n : Node) → IsNodeOf s t n →
+counted : (s : MapModel) (t : Tree) (n : Node) → IsNodeOf s t n →
     length (subtrees t) ≡ 1 + nodes_in s (children_in n)
 unfolding nodes_at
 counted s t Empty is = absurd is
@@ -50,7 +50,7 @@ counted s t (Inner cs) is =
     ∙ sym (sum_by_along nodes_at (λ (d : Child). s.node d.id) Some cs is.0 is.2) in
     omega (arith, all, both, below)
 
-counted_at : (s : Standing) (o : Option Tree) (n : Node) → IsSome o → IfSome o (λ t. IsNodeOf s t n) →
+counted_at : (s : MapModel) (o : Option Tree) (n : Node) → IsSome o → IfSome o (λ t. IsNodeOf s t n) →
     nodes_at o ≡ 1 + nodes_in s (children_in n)
 unfolding nodes_at
 counted_at s None n some node = let none : IsSome {T = Tree} None = some in cc
@@ -66,7 +66,7 @@ some_nodes = tree_induction (λ t. (r : Rectangle) → rect t ≡ Some r → 1 �
     omega (arith, all, both))
 
 -- a tree of which a child is the entry
-one_at : (scheme : Scheme) (o : Option Tree) (c : Child) → IsSomeAnd o (λ t. entry_of c ≡ entry scheme t) →
+one_at : (scheme : Scheme) (o : Option Tree) (c : Child) → IsSomeAnd o (λ t. child_entry c ≡ entry scheme t) →
     1 ≤ nodes_at o
 unfolding nodes_at
 one_at scheme None c e = absurd e
@@ -75,7 +75,7 @@ one_at scheme (Some t) c e =
 
 -- ---- how many of them were fetched
 
-module _ (hash : List ℕ → List ℕ) (s : Standing) (c : Child) (may : MayFetch hash s c) (told : IsSome s.tree) where
+module _ (hash : List ℕ → List ℕ) (s : MapModel) (c : Child) (may : MayFetch hash s c) (told : IsSome s.tree) where
   -- the node itself
   pub one_fetch : (before now : ℕ) → now ≡ next_count before → now ≤ before + nodes_at (s.node c.id)
   one_fetch before now e =
@@ -83,7 +83,7 @@ module _ (hash : List ℕ → List ℕ) (s : Standing) (c : Child) (may : MayFet
       let more = next_count-≤ before in
       omega arith
 
-  module _ (children cs : List Child) (are : cs ≡ children) (shows : Shows hash s c (Inner children)) where
+  module _ (children cs : List Child) (are : cs ≡ children) (shows : ShowsNode hash s c (Inner children)) where
     -- and those below some of its children
     pub some_fetches : (i before now : ℕ) → now ≤ next_count before + nodes_in s (take i cs) →
         now ≤ before + nodes_at (s.node c.id)
@@ -95,7 +95,7 @@ module _ (hash : List ℕ → List ℕ) (s : Standing) (c : Child) (may : MayFet
         omega arith
 
 -- those below one child more
-pub fetched_more : (s s' : Standing) (cs : List Child) (i : ℕ) (d : Child) (old between new : ℕ) → s' ≡ s →
+pub fetched_more : (s s' : MapModel) (cs : List Child) (i : ℕ) (d : Child) (old between new : ℕ) → s' ≡ s →
     d ≡ get_or cs i d → i < length cs → between ≤ old + nodes_in s (take i cs) →
     (IsSome s'.tree → new ≤ between + nodes_at (s'.node d.id)) → IsSome s.tree →
     new ≤ old + nodes_in s (take (i + 1) cs)
@@ -104,7 +104,7 @@ fetched_more s s' cs i d old between new stands is within a b told =
     let more = sum_by_more f cs i d within in
     let same : f d ≡ f (get_or cs i d) = ap f is in
     let next : new ≤ between + f d =
-    subst (λ (x : Standing). IsSome x.tree → new ≤ between + nodes_at (x.node d.id)) stands b told in
+    subst (λ (x : MapModel). IsSome x.tree → new ≤ between + nodes_at (x.node d.id)) stands b told in
     omega arith
 
 -- the nodes of a map in memory are those of its tree

@@ -16,36 +16,36 @@ use Rattle.mr_record.specs.declared.version.Version.{Version}
 use Rattle.mr_tree.specs.declared.entry.Entry.{Entry}
 use Rattle.mr_tree.specs.Digest.{Scheme, by, entry}
 use Rattle.mr_tree.specs.View as view
-use Rattle.mr_tree.specs.Nodes.{Standing, IsEntry, MayFetch, Shows, HasCause}
+use Rattle.mr_tree.specs.Nodes.{MapModel, IsEntry, MayFetch, ShowsNode, HasFetchCause}
 use Rattle.mr_tree.specs.Snapshot.{HasShape}
 use Rattle.mr_tree.specs.declared.child.Child.{Child}
 use Rattle.mr_tree.specs.declared.nodes.NodesErr.{NodesErr}
 use Rattle.mr_tree.specs.declared.tree.Tree.{Tree}
 use Rattle.mr_tree.specs.declared.nodes.NodesErr.TheVariants as errors
 use Rattle.mr_pages.specs.declared.head.MapHead.{MapHead}
-use Rattle.mr_pages.specs.Page.{Node, Form, IsForm, entry_of}
+use Rattle.mr_pages.specs.Page.{Node, Form, IsForm, node_entry}
 use Rattle.mr_pages.specs.File.{file_of}
 use Rattle.mr_pages.specs.Stands.{Placed, tree_of, whole_pages}
 use Rattle.mr_pages.specs.Walking.{page_node}
 use Rattle.mr_pages.proofs.Lists.{has_contains}
 use Rattle.mr_pages.proofs.Building.{level_is}
-use Rattle.mr_store.specs.declared.kept.Kept.{Kept}
+use Rattle.mr_store.specs.declared.cached_node.CachedNode.{CachedNode}
 use Rattle.mr_store.specs.Parts.{whole_parts, untold}
-use Rattle.mr_store.specs.Kept.{Entries, node_of, IsThat, IsHeld, IsShown, AreInside, IsGood, IsFound, Stays, IsKeptOf, Gains}
-use Rattle.mr_store.specs.Again.{IsRead, IsSaid, TellsNode, TellsAgain, IsRefused}
-use Rattle.mr_store.specs.Stored.{told_bytes, placed, read_map, room, IsOpen, IsStored}
-use Rattle.mr_store.specs.PartLaws.{whole_has}
-use Rattle.mr_store.specs.Told.{IsOn, is_on, level_known, digest_known}
-use Rattle.mr_store.specs.Laws.{opened}
+use Rattle.mr_store.specs.Kept.{CacheEntries, node_of, IsThat, IsHeld, IsShown, AreInside, IsGood, IsFound, KeepsEntries, IsKeptOf, GainsNode}
+use Rattle.mr_store.specs.Again.{IsChildInFile, IsSaid, TellsNode, TellsAgain, IsFetchRefused}
+use Rattle.mr_store.specs.Stored.{told_bytes, nodes_on_pages, read_map, room, IsOpen, IsStored}
+use Rattle.mr_store.specs.private.PartLaws.{whole_has}
+use Rattle.mr_store.specs.private.Told.{IsOn, is_on, level_known, digest_known}
+use Rattle.mr_store.specs.private.Laws.{opened}
 
 -- ---- what may be fetched of a map that is told
 
-on_page : (form : Form) → IsForm form → (hash : List ℕ → List ℕ) (h : MapHead) (es : Entries) (bytes : List ℕ) →
+on_page : (form : Form) → IsForm form → (hash : List ℕ → List ℕ) (h : MapHead) (es : CacheEntries) (bytes : List ℕ) →
     IsOpen form hash h es bytes → (c : Child) → MayFetch hash (read_map form h (Some bytes)) c →
     IsOn (by form.version hash) (file_of form bytes).node (read_map form h (Some bytes)) c
 on_page form is hash h es bytes o c may =
     let p = opened form is hash h es bytes o in
-    is_on (by form.version hash) (file_of form bytes).node h.batch h.pages (placed form h bytes) p.pages
+    is_on (by form.version hash) (file_of form bytes).node h.batch h.pages (nodes_on_pages form h bytes) p.pages
     p.reads.lies.written c (may.known refl)
 
 some_same : {A : Type 0} (x y : A) → Some x ≡ Some y → x ≡ y
@@ -57,7 +57,7 @@ some_same x y e = cc
 untold_shows : (hash : Scheme) (batch pages : ℕ) (c : Child) (n : view.Node) → c.level ≤ level_limit →
     HasShape n → view.AreTold hash.version n → view.level_of n ≡ c.level → hash.of (view.preimage_of hash.version n) ≡
     c.digest →
-    AreInside pages n → Shows hash.of (untold hash.version batch pages) c n
+    AreInside pages n → ShowsNode hash.of (untold hash.version batch pages) c n
 untold_shows hash batch pages c n low shape told level digest inside = record {
   some = shape.some;
   level = level;
@@ -84,34 +84,35 @@ untold_shows hash batch pages c n low shape told level digest inside = record {
     )
 
 module _ (form : Form) (is : IsForm form) (hash : List ℕ → List ℕ) (told : Option Files) (name : List ℕ) (h : MapHead)
-    (es : Entries) (cap : ℕ)
+    (es : CacheEntries) (cap : ℕ)
     (s : IsStored form hash told name h es cap) where
   -- what is kept of a page
-  kept_of : (page : ℕ) (k : Kept) → lookup (nat_eq page) es ≡ Some k → Contains es (page, k)
+  kept_of : (page : ℕ) (k : CachedNode) → lookup (nat_eq page) es ≡ Some k → Contains es (page, k)
   kept_of page k e =
       let q = Contains-lookup (nat_eq page) es k e in
       subst (λ p. Contains es (p, k)) (sym (eqb-true page q.0 q.2)) q.1
 
-  pub shown_of : (e : ℕ × Kept) → Contains es e → IsShown e.1
+  pub shown_of : (e : ℕ × CachedNode) → Contains es e → IsShown e.1
   shown_of e c = record { shape = (s.good e c).shape; level = (s.good e c).level }
 
   pub found_shows : (c : Child) (n : view.Node) → MayFetch hash (read_map form h (told_bytes told name)) c →
-      IsFound es c n → Shows hash (read_map form h (told_bytes told name)) c n
+      IsFound es c n → ShowsNode hash (read_map form h (told_bytes told name)) c n
   found_shows c n may f =
       let within = kept_of c.id f.kept f.there in
       at_bytes c n f within (s.good (c.id, f.kept) within) (told_bytes told name) s.open_ may
     where
       at_bytes : (c : Child) (n : view.Node) (f : IsFound es c n) → Contains es (c.id, f.kept) →
           IsGood (by form.version hash) h.pages f.kept → (o : Option (List ℕ)) → IfSome o (IsOpen form hash h es) →
-          MayFetch hash (read_map form h o) c → Shows hash (read_map form h o) c n
-      at_bytes c n f within good None op may = subst (Shows hash (untold form.version h.batch h.pages) c) (sym f.node)
+          MayFetch hash (read_map form h o) c → ShowsNode hash (read_map form h o) c n
+      at_bytes c n f within good None op may = subst (ShowsNode hash (untold form.version h.batch h.pages) c)
+          (sym f.node)
           (untold_shows (by form.version hash) h.batch h.pages c (node_of f.kept.node) may.low good.shape good.told
           (good.level ∙
           f.that.level)
           (good.digest ∙ f.that.digest) good.inside)
       at_bytes c n f within good (Some bytes) op may =
           let on = on_page form is hash h es bytes op c may in
-          subst (Shows hash (read_map form h (Some bytes)) c) (sym f.node)
+          subst (ShowsNode hash (read_map form h (Some bytes)) c) (sym f.node)
           (on.shows (node_of f.kept.node)
           (some_same (page_node (node_of f.kept.node)) on.node (sym (op.same (c.id, f.kept) within) ∙ on.there))
           good.shape good.told may.low)
@@ -120,19 +121,20 @@ module _ (form : Form) (is : IsForm form) (hash : List ℕ → List ℕ) (told :
 
   -- the page of a child that may be fetched is one of the map's
   on_map : (bytes : List ℕ) (c : Child) → IsEntry hash (read_map form h (Some bytes)) c →
-      Contains (whole_pages (placed form h bytes)) c.id
-  on_map bytes c known = at_place (lookup (nat_eq c.id) (whole_parts (placed form h bytes))) refl known
+      Contains (whole_pages (nodes_on_pages form h bytes)) c.id
+  on_map bytes c known = at_place (lookup (nat_eq c.id) (whole_parts (nodes_on_pages form h bytes))) refl known
     where
-      at_place : (o : Option Placed) → lookup (nat_eq c.id) (whole_parts (placed form h bytes)) ≡ o →
-          IsSomeAnd (option_map tree_of o) (λ t. view.entry_of c ≡ entry (by form.version hash) t) →
-          Contains (whole_pages (placed form h bytes)) c.id
+      at_place : (o : Option Placed) → lookup (nat_eq c.id) (whole_parts (nodes_on_pages form h bytes)) ≡ o →
+          IsSomeAnd (option_map tree_of o) (λ t. view.child_entry c ≡ entry (by form.version hash) t) →
+          Contains (whole_pages (nodes_on_pages form h bytes)) c.id
       at_place None e k = absurd k
       at_place (Some P) e k =
-          has_contains c.id (whole_pages (placed form h bytes)) (sym (whole_has c.id (placed form h bytes))
-          ∙ sym (is_some-lookup (nat_eq c.id) (whole_parts (placed form h bytes))) ∙ ap is_some e)
+          has_contains c.id (whole_pages (nodes_on_pages form h bytes))
+          (sym (whole_has c.id (nodes_on_pages form h bytes))
+          ∙ sym (is_some-lookup (nat_eq c.id) (whole_parts (nodes_on_pages form h bytes))) ∙ ap is_some e)
 
   held : (bytes : List ℕ) → IsOpen form hash h es bytes → (c : Child) → MayFetch hash (read_map form h (Some bytes)) c →
-      (k : Kept) → lookup (nat_eq c.id) es ≡ Some k → IsThat c k
+      (k : CachedNode) → lookup (nat_eq c.id) es ≡ Some k → IsThat c k
   held bytes op c may k e =
       let on = on_page form is hash h es bytes op c may in
       let within = kept_of c.id k e in
@@ -140,18 +142,18 @@ module _ (form : Form) (is : IsForm form) (hash : List ℕ → List ℕ) (told :
       let same : page_node (node_of k.node) ≡ on.node =
       some_same (page_node (node_of k.node)) on.node (sym (op.same (c.id, k) within) ∙ on.there) in
       record {
-        level = sym good.level ∙ level_known (by form.version hash) (node_of k.node) ∙ ap (λ m. (entry_of (by
+        level = sym good.level ∙ level_known (by form.version hash) (node_of k.node) ∙ ap (λ m. (node_entry (by
             form.version hash) m).level) same
             ∙ ap (λ (x : Entry). x.level) on.known;
-        digest = sym good.digest ∙ digest_known (by form.version hash) (node_of k.node) ∙ ap (λ m. (entry_of (by
+        digest = sym good.digest ∙ digest_known (by form.version hash) (node_of k.node) ∙ ap (λ m. (node_entry (by
             form.version hash) m).digest) same
             ∙ ap (λ (x : Entry). x.digest) on.known;
       }
 
   held_at : (bytes : List ℕ) → IsOpen form hash h es bytes → (c : Child) → MayFetch hash (read_map form h (Some bytes))
       c →
-      (o : Option Kept) → lookup (nat_eq c.id) es ≡ o → IsSome o → IsSomeAnd o (IsThat c)
-  held_at bytes op c may None e some = let none : IsSome {T = Kept} None = some in cc
+      (o : Option CachedNode) → lookup (nat_eq c.id) es ≡ o → IsSome o → IsSomeAnd o (IsThat c)
+  held_at bytes op c may None e some = let none : IsSome {T = CachedNode} None = some in cc
   held_at bytes op c may (Some k) e some = held bytes op c may k e
 
   pub none_missed : IsSome told → h.pages ≤ room + 1 → (c : Child) →
@@ -183,7 +185,7 @@ of_told (Some files) name P h = at_file (file files name) h
     at_file None h = tt
     at_file (Some bytes) h = h
 
-said_of : (hash : Scheme) (at : ℕ → Option Node) (s : Standing) (c : Child) (on : IsOn hash at s c) →
+said_of : (hash : Scheme) (at : ℕ → Option Node) (s : MapModel) (c : Child) (on : IsOn hash at s c) →
     IsSaid hash s.span c on.node
 said_of hash at s c on = record {
   level = sym (level_is hash on.node) ∙ ap (λ (x : Entry). x.level) on.known;
@@ -192,7 +194,7 @@ said_of hash at s c on = record {
 }
 
 module _ (form : Form) (is : IsForm form) (hash : List ℕ → List ℕ) (told : Option Files) (name : List ℕ) (h : MapHead)
-    (es : Entries) (cap : ℕ)
+    (es : CacheEntries) (cap : ℕ)
     (s : IsStored form hash told name h es cap) (c : Child) (may : MayFetch hash (read_map form h (told_bytes told
     name)) c)
   where
@@ -204,14 +206,14 @@ module _ (form : Form) (is : IsForm form) (hash : List ℕ → List ℕ) (told :
         t (opened form is hash h es bytes op).whole within on.node on.there
         (said_of (by form.version hash) (file_of form bytes).node (read_map form h (Some bytes)) c on)
 
-    pub read_shows : {A : Type 0} (a : A) (n : view.Node) → IsRead (by form.version hash) h.pages c n →
+    pub read_shows : {A : Type 0} (a : A) (n : view.Node) → IsChildInFile (by form.version hash) h.pages c n →
         OfFile told name ⊤ (TellsAgain {A = A} form hash h.pages c (Ok a) n) →
-        Shows hash (read_map form h (told_bytes told name)) c n
+        ShowsNode hash (read_map form h (told_bytes told name)) c n
     read_shows {A} a n r t =
         by_bytes (told_bytes told name) s.open_ may (of_told told name (TellsAgain form hash h.pages c (Ok a) n) t)
       where
         by_bytes : (o : Option (List ℕ)) → IfSome o (IsOpen form hash h es) → MayFetch hash (read_map form h o) c →
-            IfSome o (TellsAgain {A = A} form hash h.pages c (Ok a) n) → Shows hash (read_map form h o) c n
+            IfSome o (TellsAgain {A = A} form hash h.pages c (Ok a) n) → ShowsNode hash (read_map form h o) c n
         by_bytes None op may t =
             untold_shows (by form.version hash) h.batch h.pages c n may.low r.shape r.told r.level r.digest r.inside
         by_bytes (Some bytes) op may t =
@@ -254,8 +256,8 @@ module _ (form : Form) (is : IsForm form) (hash : List ℕ → List ℕ) (told :
 
     pub read_cause : (A : Type 0) (before after : Shelved) (e : NodesErr) (n : view.Node) → before.files ≡ told →
         OfFile told name ⊤ (TellsAgain {A = A} form hash h.pages c (Err e) n) →
-        IsRefused h.pages name c before after e →
-        HasCause (read_map form h (told_bytes told name)) c before.faults after.faults e
+        IsFetchRefused h.pages name c before after e →
+        HasFetchCause (read_map form h (told_bytes told name)) c before.faults after.faults e
     read_cause A before after (errors.Changed page held found) n same t r =
         (blamed A (errors.Changed page held found) n t (λ m other. other), r.0.0, r.0.1, r.0.2, r.2)
     read_cause A before after (errors.Page page) n same t r =
@@ -281,7 +283,8 @@ module _ (form : Form) (is : IsForm form) (hash : List ℕ → List ℕ) (told :
             h.pages e) c
             may))
 
-    pub still_store : (es' : Entries) (cap' : ℕ) → Stays es es' → cap' ≡ cap → IsStored form hash told name h es' cap'
+    pub still_store : (es' : CacheEntries) (cap' : ℕ) → KeepsEntries es es' → cap' ≡ cap → IsStored form hash told name
+        h es' cap'
     still_store es' cap' stays same = record {
       few = s.few;
       paged = s.paged;
@@ -303,9 +306,9 @@ module _ (form : Form) (is : IsForm form) (hash : List ℕ → List ℕ) (told :
           all = λ small page on. stays.none_lost page (op.all small page on);
         }
 
-    pub grown_store : {A : Type 0} (a : A) (n : view.Node) (es' : Entries) (cap' : ℕ) →
-        IsRead (by form.version hash) h.pages c n →
-        OfFile told name ⊤ (TellsAgain {A = A} form hash h.pages c (Ok a) n) → Gains cap es es' c n → cap' ≡ cap →
+    pub grown_store : {A : Type 0} (a : A) (n : view.Node) (es' : CacheEntries) (cap' : ℕ) →
+        IsChildInFile (by form.version hash) h.pages c n →
+        OfFile told name ⊤ (TellsAgain {A = A} form hash h.pages c (Ok a) n) → GainsNode cap es es' c n → cap' ≡ cap →
         (IsHeld es c → ⊥) → IsStored form hash told name h es' cap'
     grown_store {A} a n es' cap' r t g same missed = record {
       few = s.few;
@@ -320,7 +323,7 @@ module _ (form : Form) (is : IsForm form) (hash : List ℕ → List ℕ) (told :
           may));
     }
       where
-        good_of : (e : ℕ × Kept) → IsKeptOf c n e → IsGood (by form.version hash) h.pages e.1
+        good_of : (e : ℕ × CachedNode) → IsKeptOf c n e → IsGood (by form.version hash) h.pages e.1
         good_of e k = record {
           shape = subst HasShape (sym k.node) r.shape;
           level = ap view.level_of k.node ∙ r.level ∙ sym k.that.level;

@@ -16,9 +16,9 @@ use Rattle.mr_record.specs.RecordText.{has_number}
 use Rattle.mr_record.specs.declared.record.Record.{Record}
 use Rattle.mr_pages.specs.Faults.{numbers_of}
 use Rattle.mr_pages.proofs.AsRead.{numbers_apart}
-use Rattle.mr_batch.specs.Directory.{Entries, rect_in}
+use Rattle.mr_batch.specs.Directory.{DirectoryEntries, rect_in}
 use Rattle.mr_batch.proofs.Directories.{rect_in-absent}
-use Rattle.mr_store.specs.Listing.{entry_of, AreApart, Gathers}
+use Rattle.mr_store.specs.private.Listing.{directory_entry, AreApart, GathersDirectory}
 
 apart_rest : (r : Record) (rs : List Record) → AreApart (r ∷ rs) → AreApart rs
 apart_rest r rs apart = λ i j d low high. apart (suc i) (suc j) d (omega (arith, low)) (omega (arith, high))
@@ -40,7 +40,7 @@ or_none None = refl
 
 -- where no number stands twice, the last record of a number is the first one
 found : (rs : List Record) (f : ℕ → Option Rectangle) (n : ℕ) → AreApart rs →
-    update_all (eq_by_cmp nat_cmp) f (map entry_of rs) n ≡ either (rect_in rs n) (f n)
+    update_all (eq_by_cmp nat_cmp) f (map directory_entry rs) n ≡ either (rect_in rs n) (f n)
 found [] f n apart = refl
 found (r ∷ rs) f n apart =
     found rs (update (eq_by_cmp nat_cmp) f r.number (Some r.rect)) n (apart_rest r rs apart)
@@ -54,7 +54,7 @@ found (r ∷ rs) f n apart =
         (rect_in-absent rs n (ap (λ m. has_number m rs) (sym (eqb-true r.number n is)) ∙ new_first r rs apart))
     at false is = refl
 
-numbers_are : (rs : List Record) → numbers_of rs ≡ keys_of (map entry_of rs)
+numbers_are : (rs : List Record) → numbers_of rs ≡ keys_of (map directory_entry rs)
 numbers_are [] = refl
 numbers_are (r ∷ rs) = ap (λ ns. r.number ∷ ns) (numbers_are rs)
 
@@ -66,16 +66,17 @@ same_number a b = (
 
 -- as many entries as different numbers
 as_many : (rs : List Record) (m : BTreeMap ℕ Rectangle) → AreApart rs →
-    IsFromIterResult nat_cmp (map entry_of rs) m → length m.entries ≡ length rs
+    IsFromIterResult nat_cmp (map directory_entry rs) m → length m.entries ≡ length rs
 as_many rs m apart made =
-    let keys = keys_of (map entry_of rs) in
-    btree_map_len-from_list nat_cmp_total (map entry_of rs) m made
+    let keys = keys_of (map directory_entry rs) in
+    btree_map_len-from_list nat_cmp_total (map directory_entry rs) m made
     ∙ distinct_count-from_IsDistinct (eq_by_cmp_equiv nat_cmp_total) keys
     (IsDistinct-from_AllPairs same_number keys
     (subst (AllPairs (λ (a b : ℕ). a ≢ b)) (numbers_are rs) (numbers_apart rs apart)))
-    ∙ length-map (map entry_of rs) (λ e. e.0) ∙ length-map rs entry_of
+    ∙ length-map (map directory_entry rs) (λ e. e.0) ∙ length-map rs directory_entry
 
-pub made_gathers : (all : Entries) (m : BTreeMap ℕ Rectangle) → IsFromIterResult nat_cmp all m → Gathers all m.entries
+pub made_gathers : (all : DirectoryEntries) (m : BTreeMap ℕ Rectangle) → IsFromIterResult nat_cmp all m →
+    GathersDirectory all m.entries
 made_gathers all m made rs has apart =
     let of = subst (λ es. IsFromIterResult nat_cmp es m) has made in
     record {

@@ -8,10 +8,10 @@ use Rattle.mr_record.specs.declared.record.Record.{Record}
 use Rattle.mr_record.specs.declared.version.Version.{Version}
 use Rattle.mr_tree.specs.Digest.{by, entry}
 use Rattle.mr_tree.specs.declared.entry.Entry.{Entry}
-use Rattle.mr_tree.specs.View.{entry_of as child_entry}
+use Rattle.mr_tree.specs.View.{child_entry}
 use Rattle.mr_tree.specs.WellFormed.{IsFilledRoot, WellFormed}
 use Rattle.mr_tree.specs.Tree.{records}
-use Rattle.mr_tree.specs.Nodes.{Standing, IsTop, MayFetch, HasSomeCause, tree_under}
+use Rattle.mr_tree.specs.Nodes.{MapModel, IsTop, MayFetch, HasSomeCause, tree_under}
 use Rattle.mr_tree.specs.declared.child.Child.{Child}
 use Rattle.mr_tree.specs.declared.nodes.NodesErr.{NodesErr}
 use Rattle.mr_tree.specs.declared.nodes.NodesErr.TheVariants as errors
@@ -21,56 +21,57 @@ use Rattle.mr_tree.specs.declared.tree.Tree.TheVariants as tree
 use Rattle.mr_tree.specs.declared.tree.Tree.TheViews.{out-Tree}
 use Rattle.mr_tree.proofs.Equations.{records-Leaf, records-Inner}
 use Rattle.mr_pages.specs.Faults.{numbers_of}
-use Rattle.mr_pages.specs.declared.seen.Seen.{Seen}
+use Rattle.mr_pages.specs.declared.visited.Visited.{Visited}
 use Rattle.mr_pages.proofs.AsRead.{numbers_apart, records_apart}
 use Rattle.mr_pages.proofs.Building.{of_images}
 use Rattle.mr_pages.proofs.Lists.{apart_fresh, fresh_apart}
-use Rattle.mr_batch.specs.Directory.{Entries, IsDirectoryOf}
-use Rattle.mr_store.specs.Walk.{CanWalk, IsCounted, GathersAll, HasSeenNone, Walked, Refuses}
-use Rattle.mr_store.specs.Listing.{entry_of, AreApart, ListsAt, Gathers, HasAt, CanList, CanListAll}
+use Rattle.mr_batch.specs.Directory.{DirectoryEntries, IsDirectoryOf}
+use Rattle.mr_store.specs.private.Walk.{CanWalk, IsCounted, GathersAll, HasSeenNone, Walked, StopsWalk}
+use Rattle.mr_store.specs.private.Listing.{directory_entry, AreApart, ListsAt, GathersDirectory, HasAt, CanList, CanListAll}
 use Rattle.mr_store.proofs.Walks.{some_same}
 
 -- ---- the records of a leaf
 
 -- one more
-pub listed_more : (before old : Entries) (rs : List Record) (i : ℕ) (r : Record) → i < length rs →
-    r ≡ get_or rs i r → old ≡ before ++ map entry_of (take i rs) →
-    old ++ entry_of r ∷ [] ≡ before ++ map entry_of (take (i + 1) rs)
+pub listed_more : (before old : DirectoryEntries) (rs : List Record) (i : ℕ) (r : Record) → i < length rs →
+    r ≡ get_or rs i r → old ≡ before ++ map directory_entry (take i rs) →
+    old ++ directory_entry r ∷ [] ≡ before ++ map directory_entry (take (i + 1) rs)
 listed_more before old rs i r within here is =
     let more : take (i + 1) rs ≡ take i rs ++ r ∷ [] =
     take_more rs i r within ∙ ap (λ x. take i rs ++ x ∷ []) (sym here) in
-    ap (λ all. all ++ entry_of r ∷ []) is
-    ∙ append_assoc before (map entry_of (take i rs)) (entry_of r ∷ [])
-    ∙ ap (λ all. before ++ all) (sym (map-append entry_of (take i rs) (r ∷ [])) ∙ ap (map entry_of) (sym more))
+    ap (λ all. all ++ directory_entry r ∷ []) is
+    ∙ append_assoc before (map directory_entry (take i rs)) (directory_entry r ∷ [])
+    ∙ ap (λ all. before ++ all) (sym (map-append directory_entry (take i rs) (r ∷ [])) ∙ ap (map directory_entry)
+    (sym more))
 
-pub listed_leaf : (before : Entries) (rs : List Record) →
-    before ++ map entry_of rs ≡ before ++ map entry_of (records (tree.Leaf rs))
-listed_leaf before rs = ap (λ qs. before ++ map entry_of qs) (sym (records-Leaf rs))
+pub listed_leaf : (before : DirectoryEntries) (rs : List Record) →
+    before ++ map directory_entry rs ≡ before ++ map directory_entry (records (tree.Leaf rs))
+listed_leaf before rs = ap (λ qs. before ++ map directory_entry qs) (sym (records-Leaf rs))
 
-pub listed_inner : (before : Entries) (us : List Tree) →
-    before ++ map entry_of (flat_map records us) ≡ before ++ map entry_of (records (tree.Inner us))
-listed_inner before us = ap (λ qs. before ++ map entry_of qs) (sym (records-Inner us ∙ of_images us))
+pub listed_inner : (before : DirectoryEntries) (us : List Tree) →
+    before ++ map directory_entry (flat_map records us) ≡ before ++ map directory_entry (records (tree.Inner us))
+listed_inner before us = ap (λ qs. before ++ map directory_entry qs) (sym (records-Inner us ∙ of_images us))
 
 -- ---- one after another
 
-module _ {S : Type 0} (entries : S → Entries) where
+module _ {S : Type 0} (entries : S → DirectoryEntries) where
   abbrev pub Lists : S → S → Child → Tree → Type 0
-  Lists s t c u = entries t ≡ entries s ++ map entry_of (records u)
+  Lists s t c u = entries t ≡ entries s ++ map directory_entry (records u)
 
   pub all_listed : (s u : S) (cs : List Child) (ts : List Tree) → GathersAll Lists s u cs ts →
-      entries u ≡ entries s ++ map entry_of (flat_map records ts)
+      entries u ≡ entries s ++ map directory_entry (flat_map records ts)
   unfolding GathersAll
   all_listed s u [] [] same = ap entries same ∙ sym (append-nil (entries s))
   all_listed s u (c ∷ cs) (t ∷ ts) all =
-      all_listed all.0 u cs ts all.2 ∙ ap (λ es. es ++ map entry_of (flat_map records ts)) all.1
-      ∙ append_assoc (entries s) (map entry_of (records t)) (map entry_of (flat_map records ts))
-      ∙ ap (λ es. entries s ++ es) (sym (map-append entry_of (records t) (flat_map records ts)))
+      all_listed all.0 u cs ts all.2 ∙ ap (λ es. es ++ map directory_entry (flat_map records ts)) all.1
+      ∙ append_assoc (entries s) (map directory_entry (records t)) (map directory_entry (flat_map records ts))
+      ∙ ap (λ es. entries s ++ es) (sym (map-append directory_entry (records t) (flat_map records ts)))
   all_listed s u [] (t ∷ ts) all = absurd all
   all_listed s u (c ∷ cs) [] all = absurd all
 
 -- ---- the whole map
 
-pub can_begin : (s : Standing) (root : Child) (seen : Seen) → HasSeenNone seen → CanList s root →
+pub can_begin : (s : MapModel) (root : Child) (seen : Visited) → HasSeenNone seen → CanList s root →
     CanWalk s true seen root
 can_begin s root seen none can = record {
   pages = none.0;
@@ -81,42 +82,43 @@ can_begin s root seen none can = record {
 }
 
 -- where the tree is told, its root has the count that is said
-told_count : (v : Version) (hash : List ℕ → List ℕ) (s : Standing) (c : Child) (t : Tree) → s.version ≡ v →
+told_count : (v : Version) (hash : List ℕ → List ℕ) (s : MapModel) (c : Child) (t : Tree) → s.version ≡ v →
     MayFetch hash s c → IsSome s.tree → s.node c.id ≡ Some t → IsCounted true c (entry (by v hash) t).count
 told_count v hash s c t one may told is root =
     ap (λ (e : Entry). e.count) (subst (λ o. IsSomeAnd o (λ u. child_entry c ≡ entry (by s.version hash) u)) is
     (may.known told) ∙ ap (λ u. entry (by u hash) t) one)
 
-pub lists_at : (v : Version) (hash : List ℕ → List ℕ) (s : Standing) (c : Child) (start all : Entries)
-    (met now : Seen) (f f' : ℕ) → s.version ≡ v → MayFetch hash s c → start ≡ [] → HasSeenNone met →
-    Walked (by v hash) s true c met now f f' (λ t. all ≡ start ++ map entry_of (records t)) → ListsAt s c all
+pub lists_at : (v : Version) (hash : List ℕ → List ℕ) (s : MapModel) (c : Child) (start all : DirectoryEntries)
+    (met now : Visited) (f f' : ℕ) → s.version ≡ v → MayFetch hash s c → start ≡ [] → HasSeenNone met →
+    Walked (by v hash) s true c met now f f' (λ t. all ≡ start ++ map directory_entry (records t)) → ListsAt s c all
 lists_at v hash s c start all met now f f' one may empty none walked told =
     let t = walked.under in
     let is = walked.is (told_count v hash s c t one may told (walked.same told)) in (
       t,
       walked.same told,
-      is.made ∙ ap (λ before. before ++ map entry_of (records t)) empty,
+      is.made ∙ ap (λ before. before ++ map directory_entry (records t)) empty,
       records_apart (records t) (fresh_apart [] (numbers_of (records t)) (walked.met none.0 [] none.1).0),
     )
 
-pub has_at : (s : Standing) (c : Child) (all d : Entries) → ListsAt s c all → Gathers all d → HasAt s c d
+pub has_at : (s : MapModel) (c : Child) (all d : DirectoryEntries) → ListsAt s c all → GathersDirectory all d →
+    HasAt s c d
 has_at s c all d lists gathers told =
     let l = lists told in
     (l.0, l.1, gathers (records l.0) l.2 l.3)
 
-pub miscounted : (s : Standing) (all : Entries) (root : Child) (count a b : ℕ) →
+pub miscounted : (s : MapModel) (all : DirectoryEntries) (root : Child) (count a b : ℕ) →
     (1 ≤ root.id) × (root.id < s.span) →
     b ≡ a → ListsAt s root all → (length all ≡ count → ⊥) →
-    Refuses s a b (CanListAll s root count) (errors.Page root.id)
+    StopsWalk s a b (CanListAll s root count) (errors.Page root.id)
 miscounted s all root count a b id quiet lists other = (
   id,
   quiet,
   λ told can.
       let l = lists told in
-      other (ap length l.2 ∙ length-map (records l.0) entry_of ∙ sym (can.counted l.0 l.1)),
+      other (ap length l.2 ∙ length-map (records l.0) directory_entry ∙ sym (can.counted l.0 l.1)),
 )
 
-module _ (hash : List ℕ → List ℕ) (s : Standing) (top : Top) (r : Child) (is : IsTop hash s top)
+module _ (hash : List ℕ → List ℕ) (s : MapModel) (top : Top) (r : Child) (is : IsTop hash s top)
     (root : top.root ≡ Some r) where
   under : (u : Tree) → s.tree ≡ Some u → s.node r.id ≡ Some u
   under u told =
@@ -137,7 +139,7 @@ module _ (hash : List ℕ → List ℕ) (s : Standing) (top : Top) (r : Child) (
   }
 
   pub all_refuses : (a b : ℕ) (e : NodesErr) → IfSome s.tree (λ u. ∥ WellFormed u ∥₁) →
-      Refuses s a b (CanListAll s r top.count) e → HasSomeCause s a b e
+      StopsWalk s a b (CanListAll s r top.count) e → HasSomeCause s a b e
   all_refuses a b (errors.Page page) wells h = (at s.tree refl wells, h.0, h.1)
     where
       at : (o : Option Tree) → s.tree ≡ o → IfSome o (λ u. ∥ WellFormed u ∥₁) → IsNone o
@@ -151,7 +153,7 @@ module _ (hash : List ℕ → List ℕ) (s : Standing) (top : Top) (r : Child) (
   all_refuses a b errors.Fault wells h = h
   all_refuses a b errors.NoMemory wells h = h
 
-  pub root_listed : (d : Entries) → HasAt s r d → IfSome s.tree (λ t. IsDirectoryOf d (records t))
+  pub root_listed : (d : DirectoryEntries) → HasAt s r d → IfSome s.tree (λ t. IsDirectoryOf d (records t))
   root_listed d below = at s.tree refl
     where
       at : (o : Option Tree) → s.tree ≡ o → IfSome o (λ t. IsDirectoryOf d (records t))

@@ -17,12 +17,12 @@ use Rattle.mr_pages.specs.Stands.{whole_tree}
 use Rattle.mr_pages.specs.Walking.{head_of}
 use Rattle.mr_pages.proofs.Agreement.{spelled_as_read}
 use Rattle.mr_store.specs.Parts.{untold}
-use Rattle.mr_store.specs.Kept.{Entries}
-use Rattle.mr_store.specs.Stored.{told_bytes, placed, read_map, top_in, IsOpen, IsRootOf, IsStored, IsMapOf}
+use Rattle.mr_store.specs.Kept.{CacheEntries}
+use Rattle.mr_store.specs.Stored.{told_bytes, nodes_on_pages, read_map, top_in, IsOpen, IsRootOf, IsStored, IsMapOf}
 use Rattle.mr_pages.proofs.Answered.{tells_read}
 use Rattle.mr_store.specs.Opening.{TellsMap}
-use Rattle.mr_store.specs.Told.{root_on}
-use Rattle.mr_store.specs.Laws.{opened}
+use Rattle.mr_store.specs.private.Told.{root_on}
+use Rattle.mr_store.specs.private.Laws.{opened}
 
 -- ---- the top
 
@@ -33,7 +33,7 @@ root_told v count pages None r = tt
 root_told v count pages (Some c) r = (r.told, r.counted)
 
 module _ (form : Form) (is : IsForm form) (hash : List ℕ → List ℕ) (told : Option Files) (name : List ℕ) (h : MapHead)
-    (es : Entries) (cap : ℕ) where
+    (es : CacheEntries) (cap : ℕ) where
   pub top_is : IsStored form hash told name h es cap →
       IsTop hash (read_map form h (told_bytes told name)) (top_in form.version h)
   top_is s = by_bytes (told_bytes told name) s.open_
@@ -82,25 +82,26 @@ version_is form h (Some bytes) = refl
 
 -- ---- the map
 
-module _ (form : Form) (is : IsForm form) (hash : List ℕ → List ℕ) (h : MapHead) (es : Entries) where
+module _ (form : Form) (is : IsForm form) (hash : List ℕ → List ℕ) (h : MapHead) (es : CacheEntries) where
   map_of : (bytes : List ℕ) → IsOpen form hash h es bytes → IsMapOf form hash (read_map form h (Some bytes)) bytes
   map_of bytes op =
       let r = (opened form is hash h es bytes op).reads in (
-        whole_tree (placed form h bytes),
+        whole_tree (nodes_on_pages form h bytes),
         refl,
         record {
           well = r.well;
           layers = r.layers;
-          stands = spelled_as_read form is hash bytes op.are (whole_tree (placed form h bytes)) h.batch (record {
-            head = head_of h;
-            sealed = op.head;
-            at_batch = refl;
-            count = r.count;
-            placed = placed form h bytes;
-            tree = refl;
-            root = r.root;
-            lies = r.lies;
-          });
+          stands = spelled_as_read form is hash bytes op.are (whole_tree (nodes_on_pages form h bytes)) h.batch
+              (record {
+                head = head_of h;
+                sealed = op.head;
+                at_batch = refl;
+                count = r.count;
+                placed = nodes_on_pages form h bytes;
+                tree = refl;
+                root = r.root;
+                lies = r.lies;
+              });
         },
       )
 

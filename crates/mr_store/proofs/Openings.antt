@@ -18,20 +18,20 @@ use Rattle.mr_pages.specs.File.{File, file_of, form_at, pages_of, version_of}
 use Rattle.mr_pages.specs.Faults.{has, mapfault}
 use Rattle.mr_pages.specs.Stands.{whole_pages}
 use Rattle.mr_pages.specs.Walking.{child_link, head_of}
-use Rattle.mr_pages.specs.Source.{AllKept, IsRootIn, CheckedWhole, Checks, GivesFile, HasFirst, HasPages, IsFront, IsPaged, SaysHead, Settles, on_shelf}
+use Rattle.mr_pages.specs.Source.{AllKept, IsRootIn, CheckedWhole, ChecksFile, GivesFile, HasFirst, HasWholePages, IsFrontOfFile, IsPaged, SaysHead, IfNotFailed, on_shelf}
 use Rattle.mr_pages.proofs.Agreement.{are_whole_pages, is_file}
 use Rattle.mr_pages.proofs.AsRead.{reads_there}
 use Rattle.mr_pages.proofs.Lists.{contains_has}
-use Rattle.mr_store.specs.Kept.{Entries, IsGood}
-use Rattle.mr_store.specs.Stored.{told_bytes, placed, room, IsOpen, IsRootOf, IsStored}
+use Rattle.mr_store.specs.Kept.{CacheEntries, IsGood}
+use Rattle.mr_store.specs.Stored.{told_bytes, nodes_on_pages, room, IsOpen, IsRootOf, IsStored}
 use Rattle.mr_store.specs.Paged.{shelved, stands_for}
-use Rattle.mr_store.specs.Paging.{Holds, IsFileOf, IsPaging, IsUnchecked}
+use Rattle.mr_store.specs.private.Paging.{HoldsPage, IsFileOf, IsPaging, IsUnchecked}
 use Rattle.mr_store.specs.declared.cached_file.CachedFile.{CachedFile}
 use Rattle.mr_store.specs.CachedFile.{page_form, bytes_of, entries_of}
 use Rattle.mr_store.specs.declared.paged.Paged.{Paged}
 use Rattle.mr_outside.specs.declared.shelf.Shelf as shelves
 use Rattle.mr_tree.specs.declared.hash.Hashes as hashes
-use Rattle.mr_record.specs.Bytes.{AreBytes}
+use Rattle.mr_record.specs.private.Bytes.{AreBytes}
 use Rattle.mr_record.specs.declared.version.Version.{Version}
 use Rattle.mr_record.specs.declared.version.Version.TheVariants.{One, Two}
 use Rattle.mr_tree.specs.Digest.{by}
@@ -40,9 +40,9 @@ use Rattle.mr_outside.specs.declared.shelf.ShelfErr.{ShelfErr}
 use Rattle.mr_outside.specs.declared.shelf.ShelfErr.TheVariants as shelf
 use Rattle.mr_pages.specs.declared.rule.MapFault.{MapFault}
 use Rattle.mr_pages.specs.declared.rule.MapRule.TheVariants as rule
-use Rattle.mr_pages.specs.Opening.{of_shelf, pages_in, Fails, SomeBytes, Tells}
+use Rattle.mr_pages.specs.Opening.{of_shelf, pages_in, FailsWithoutFault, SomeBytes, TellsBytes}
 use Rattle.mr_pages.proofs.Answered.{form_by_is, same_file, told_by, told_failed, tells_read}
-use Rattle.mr_store.specs.Opening.{WasChecked, IsFaultOf, HasWhy, IsOfSome, Refused, TellsMap, IsOpened, IsRefused, OpensMap, RefusesMap}
+use Rattle.mr_store.specs.Opening.{WasChecked, IsFaultOf, HasWhy, IsOfSome, Refused, TellsMap, IsOpened, IsOpeningRefused, OpensMap, RefusesMap}
 use Rattle.mr_outside.specs.Told.{OfFile, MayMiss}
 use Rattle.mr_outside.specs.Faults.{Rose}
 use Rattle.mr_pages.specs.declared.error.MapErr.{MapErr}
@@ -66,12 +66,12 @@ root_at v count pages n (Some c) e r i = record {
 
 -- what was checked of a file, by its values
 pub record HasChecked (version : Version) (hash : List ℕ → List ℕ) (pages : ℕ) (file : Option File) (h : MapHead)
-    (es : Entries) : Type 0 where
+    (es : CacheEntries) : Type 0 where
   pub says : SaysHead version pages h
   pub inside : IfSome h.root (IsRootIn pages)
   pub fault : (f : File) → file ≡ Some f → mapfault hash f ≡ None
   pub head : (f : File) → file ≡ Some f → f.head ≡ Ok (head_of h)
-  pub kept : (f : File) → file ≡ Some f → AllKept f (option_map child_link h.root) (Holds pages es)
+  pub kept : (f : File) → file ≡ Some f → AllKept f (option_map child_link h.root) (HoldsPage pages es)
 
 pub checked_of : {S : Type 0} {G : shelves.Ghosts S} (hash : List ℕ → List ℕ) (f : CachedFile S G) (h : MapHead) →
     WasChecked hash f h →
@@ -80,7 +80,7 @@ checked_of hash f h w =
     record { says = w.says; inside = w.inside; fault = w.fault; head = w.head; kept = w.kept }
 
 module _ (form : Form) (is : IsForm form) (hash : List ℕ → List ℕ) (told : Option Files) (name : List ℕ) (pages : ℕ)
-    (first : List ℕ) (es : Entries) (cap : ℕ) (s : IsPaging form hash told name pages first es cap) (h : MapHead)
+    (first : List ℕ) (es : CacheEntries) (cap : ℕ) (s : IsPaging form hash told name pages first es cap) (h : MapHead)
     (w : HasChecked form.version hash pages (option_map (file_of form) (told_bytes told name)) h es) where
   told_open : (bytes : List ℕ) → IsFileOf form pages es bytes →
       HasChecked form.version hash pages (Some (file_of form bytes)) h es → IsOpen form hash h es bytes
@@ -95,7 +95,7 @@ module _ (form : Form) (is : IsForm form) (hash : List ℕ → List ℕ) (told :
         head = head;
         same = f.same;
         all = λ small page on. v.kept file refl page
-            (ap (has page) (sym r.on) ∙ contains_has page (whole_pages (placed form h bytes)) on)
+            (ap (has page) (sym r.on) ∙ contains_has page (whole_pages (nodes_on_pages form h bytes)) on)
             (subst (λ n. n ≤ room + 1) v.says.count small);
       }
 
@@ -117,7 +117,8 @@ module _ (form : Form) (is : IsForm form) (hash : List ℕ → List ℕ) (told :
   }
 
 -- where the file is told, it has so many pages
-pub pages_known : (form : Form) (o : Option (List ℕ)) (pages : ℕ) (es : Entries) → IfSome o (IsFileOf form pages es) →
+pub pages_known : (form : Form) (o : Option (List ℕ)) (pages : ℕ) (es : CacheEntries) → IfSome o
+    (IsFileOf form pages es) →
     (f : File) → option_map (file_of form) o ≡ Some f → f.pages ≡ pages
 pages_known form None pages es has f is = cc
 pages_known form (Some bytes) pages es has f is =
@@ -135,7 +136,7 @@ version_known form (Some bytes) f is =
 pub answers_of : (form : Form) → IsForm form → (hash : List ℕ → List ℕ) → ((xs : List ℕ) → length (hash xs) ≡ 32) →
     (s : Shelved) (name : List ℕ)
     (e : MapErr) → OfFile s.files name ⊤ AreBytes → IsFaultOf form hash s name e →
-    OfFile s.files name (Fails (Err e)) (λ bytes. Tells form hash bytes (Err e))
+    OfFile s.files name (FailsWithoutFault (Err e)) (λ bytes. TellsBytes form hash bytes (Err e))
 answers_of form is hash sized s name errors.Missing are f =
     told_failed form is hash sized s.files name (Err errors.Missing) are tt
 answers_of form is hash sized s name errors.Fault are f =
@@ -146,18 +147,19 @@ answers_of form is hash sized s name (errors.Map x) are f = by_files s.files are
   where
     by_bytes : (o : Option (List ℕ)) → MatchOption o ⊤ AreBytes →
         MatchOption o ⊥ (λ bytes. mapfault hash (file_of form bytes) ≡ Some x) →
-        MatchOption o ⊥ (λ bytes. Tells form hash bytes (Err (errors.Map x)))
+        MatchOption o ⊥ (λ bytes. TellsBytes form hash bytes (Err (errors.Map x)))
     by_bytes None are f = f
     by_bytes (Some bytes) are f = tells_read form is hash sized bytes are (Err (errors.Map x)) f
 
     by_files : (o : Option Files) → OfFile o name ⊤ AreBytes →
         OfFile o name ⊥ (λ bytes. mapfault hash (file_of form bytes) ≡ Some x) →
-        OfFile o name ⊥ (λ bytes. Tells form hash bytes (Err (errors.Map x)))
+        OfFile o name ⊥ (λ bytes. TellsBytes form hash bytes (Err (errors.Map x)))
     by_files None are f = tt
     by_files (Some files) are f = by_bytes (file files name) are f
 
 -- what fails says nothing of any bytes
-pub fails_some : (form : Form) (hash : List ℕ → List ℕ) (e : MapErr) → Fails (Err e) → SomeBytes form hash (Err e)
+pub fails_some : (form : Form) (hash : List ℕ → List ℕ) (e : MapErr) → FailsWithoutFault (Err e) → SomeBytes form hash
+    (Err e)
 fails_some form hash (errors.Map f) fails = absurd fails
 fails_some form hash errors.Missing fails = ([], All-nil (λ b. b < 2 ^ 8), tt)
 fails_some form hash errors.Fault fails = ([], All-nil (λ b. b < 2 ^ 8), tt)
@@ -172,7 +174,7 @@ module _ (form : Form) (is : IsForm form) (hash : List ℕ → List ℕ) (pages 
       same_file form pages bytes
       (sym (ap (λ n. n / form.size) size ∙ mul-div_cancel pages is.some)) even
 
-  pub some_fault : (e : MapErr) → Settles {A = Checked (Unit {0})} (Err e) (GivesFile (on_shelf form 0 pages s name)
+  pub some_fault : (e : MapErr) → IfNotFailed {A = Checked (Unit {0})} (Err e) (GivesFile (on_shelf form 0 pages s name)
       (CheckedWhole form.version hash (λ (m : Unit {0}) (t : Tree). ⊤) pages (Err e))) → SomeBytes form hash (Err e)
   some_fault (errors.Map f) g = (
     g.bytes,
@@ -186,7 +188,8 @@ module _ (form : Form) (is : IsForm form) (hash : List ℕ → List ℕ) (pages 
   pub of_some : (c : Checked (Unit {0})) → GivesFile (on_shelf form 0 pages s name)
       (CheckedWhole form.version hash (λ (m : Unit {0}) (t : Tree). ⊤) pages (Ok c)) → IsOfSome form hash c.head
   of_some c g =
-      let checks = subst (λ h. Checks {M = Unit {0}} hash h (Ok c)) (as_file g.bytes g.size) (g.so.checks refl refl) in
+      let checks = subst (λ h. ChecksFile {M = Unit {0}} hash h (Ok c)) (as_file g.bytes g.size)
+      (g.so.checks refl refl) in
       record { bytes = g.bytes; are = g.are; fault = checks.0; head = checks.1 }
 
 -- the shelf refused
@@ -218,18 +221,18 @@ no_room form hash name before after = record {
 }
 
 -- what settles something counts no fault
-pub quiet_or : (A : Type 0) (e : MapErr) (P : Type 0) → Settles {A = A} (Err e) P → P ⊎ Fails (Err e)
+pub quiet_or : (A : Type 0) (e : MapErr) (P : Type 0) → IfNotFailed {A = A} (Err e) P → P ⊎ FailsWithoutFault (Err e)
 quiet_or A (errors.Map f) P s = inl s
 quiet_or A errors.Missing P s = inr tt
 quiet_or A errors.Fault P s = inr tt
 quiet_or A errors.NoMemory P s = inr tt
 
-pub fault_of : (form : Form) (hash : List ℕ → List ℕ) (s : Shelved) (name : List ℕ) (pages : ℕ) (es : Entries) (e :
+pub fault_of : (form : Form) (hash : List ℕ → List ℕ) (s : Shelved) (name : List ℕ) (pages : ℕ) (es : CacheEntries) (e :
     MapErr) →
     MatchOption s.files ⊤ (λ files. IsSome (file files name)) → IfSome (told_bytes s.files name) (IsFileOf form pages
     es) →
     ((f : File) → option_map (file_of form) (told_bytes s.files name) ≡ Some f → f.pages ≡ pages →
-    Checks {M = Unit {0}} hash f (Err e)) → IsFaultOf form hash s name e
+    ChecksFile {M = Unit {0}} hash f (Err e)) → IsFaultOf form hash s name e
 fault_of form hash s name pages es errors.Missing there f c = tt
 fault_of form hash s name pages es errors.Fault there f c = tt
 fault_of form hash s name pages es errors.NoMemory there f c = tt
@@ -255,11 +258,11 @@ matched (Ok t) A A' B B' f g m = f t m
 matched (Err e) A A' B B' f g m = g e m
 
 of_paged : (form : Form) (told : Option Files) (name : List ℕ) (pages : ℕ) (P : List ℕ → Type 0) (Q : Type 0) →
-    IsPaged form pages told name → ((bytes : List ℕ) → HasPages form pages bytes → P bytes) → OfFile told name Q P
+    IsPaged form pages told name → ((bytes : List ℕ) → HasWholePages form pages bytes → P bytes) → OfFile told name Q P
 of_paged form None name pages P Q h f = tt
 of_paged form (Some files) name pages P Q h f = here (file files name) h.there h.file_
   where
-    here : (o : Option (List ℕ)) → IsSome o → IfSome o (HasPages form pages) → MatchOption o Q P
+    here : (o : Option (List ℕ)) → IsSome o → IfSome o (HasWholePages form pages) → MatchOption o Q P
     here None there h = let none : IsSome {T = List ℕ} None = there in cc
     here (Some bytes) there h = f bytes h
 
@@ -296,7 +299,7 @@ misses told name before after none rose = subst (λ o. MayMiss o name before aft
 
 -- pages that were counted, and of which page 0 was read, while none is kept
 pub paging_of : (form : Form) (hash : List ℕ → List ℕ) (told : Option Files) (name : List ℕ) (pages : ℕ)
-    (first : List ℕ) (es : Entries) (cap : ℕ) → es ≡ [] → cap ≡ room → 1 ≤ pages → pages ≤ page_limit →
+    (first : List ℕ) (es : CacheEntries) (cap : ℕ) → es ≡ [] → cap ≡ room → 1 ≤ pages → pages ≤ page_limit →
     IsPaged form pages told name → HasFirst form told name first → IsPaging form hash told name pages first es cap
 paging_of form hash told name pages first es cap none size some few paged headed = record {
   some = some;
@@ -308,7 +311,7 @@ paging_of form hash told name pages first es cap none size some few paged headed
   file_ = of_bytes (told_bytes told name) paged.file_;
 }
   where
-    of_bytes : (o : Option (List ℕ)) → IfSome o (HasPages form pages) → IfSome o (IsFileOf form pages es)
+    of_bytes : (o : Option (List ℕ)) → IfSome o (HasWholePages form pages) → IfSome o (IsFileOf form pages es)
     of_bytes None h = tt
     of_bytes (Some bytes) h = record {
       are = h.are;
@@ -347,18 +350,20 @@ few_pages One n a b some few = omega (arith, some, few)
 few_pages Two n a b some few = omega (arith, some, few)
 
 module _ (told : Option Files) (name room : List ℕ) (l : Layout) (is : l ≡ layout_by (version_of room))
-    (front : OfFile told name ⊥ (λ bytes. IsFront bytes room)) where
+    (front : OfFile told name ⊥ (λ bytes. IsFrontOfFile bytes room)) where
   -- so is what is told in its form
   pub in_its_form : (Q : Form → List ℕ → Type 0) → OfFile told name ⊥ (Q (form_of l)) →
       OfFile told name ⊥ (λ bytes. Q (form_at bytes) bytes)
   in_its_form Q q = by_files told front q
     where
-      here : (o : Option (List ℕ)) → MatchOption o ⊥ (λ bytes. IsFront bytes room) → MatchOption o ⊥ (Q (form_of l)) →
+      here : (o : Option (List ℕ)) → MatchOption o ⊥ (λ bytes. IsFrontOfFile bytes room) → MatchOption o ⊥
+          (Q (form_of l)) →
           MatchOption o ⊥ (λ bytes. Q (form_at bytes) bytes)
       here None f h = h
       here (Some bytes) f h = subst (λ form. Q form bytes) (ap form_of is ∙ ap form_by f.version) h
 
-      by_files : (o : Option Files) → OfFile o name ⊥ (λ bytes. IsFront bytes room) → OfFile o name ⊥ (Q (form_of l)) →
+      by_files : (o : Option Files) → OfFile o name ⊥ (λ bytes. IsFrontOfFile bytes room) → OfFile o name ⊥
+          (Q (form_of l)) →
           OfFile o name ⊥ (λ bytes. Q (form_at bytes) bytes)
       by_files None f h = tt
       by_files (Some files) f h = here (file files name) f h
@@ -374,7 +379,7 @@ module _ (told : Option Files) (name room : List ℕ) (l : Layout) (is : l ≡ l
       v = version_of room
 
       here : (o : Option (List ℕ)) → IsSome o → MatchOption o ⊥ (λ bytes. page_size ≤ length bytes) →
-          MatchOption o ⊥ (λ bytes. IsFront bytes room) → IfSome o (HasPages (form_by v) pages) →
+          MatchOption o ⊥ (λ bytes. IsFrontOfFile bytes room) → IfSome o (HasWholePages (form_by v) pages) →
           MatchOption o absent (λ bytes. after ≤ before + pages_in bytes)
       here None there large f has = let none : IsSome {T = List ℕ} None = there in cc
       here (Some bytes) there large f has =
@@ -382,7 +387,7 @@ module _ (told : Option Files) (name room : List ℕ) (l : Layout) (is : l ≡ l
           f.version (few_pages v (length bytes) after before large (omega (arith, few, has.count)))
 
       by_files : (o : Option Files) → OfFile o name ⊥ (λ bytes. page_size ≤ length bytes) →
-          OfFile o name ⊥ (λ bytes. IsFront bytes room) → IsPaged (form_by v) pages o name →
+          OfFile o name ⊥ (λ bytes. IsFrontOfFile bytes room) → IsPaged (form_by v) pages o name →
           OfFile o name absent (λ bytes. after ≤ before + pages_in bytes)
       by_files None large f paged = tt
       by_files (Some files) large f paged = here (file files name) paged.there large f paged.file_
@@ -393,10 +398,10 @@ module _ (hash : List ℕ → List ℕ) (name room : List ℕ) (l : Layout) (pag
     (faults : middle.faults ≡ before.faults) (more : before.reads ≤ middle.reads)
     (reads : middle.reads ≤ before.reads + 1)
     (large : OfFile before.files name ⊥ (λ bytes. page_size ≤ length bytes))
-    (front : OfFile before.files name ⊥ (λ bytes. IsFront bytes room))
+    (front : OfFile before.files name ⊥ (λ bytes. IsFrontOfFile bytes room))
     (paged : IsPaged (form_of l) pages before.files name) (limit : pages ≤ page_limit) where
   pub refuses_from : ((xs : List ℕ) → length (hash xs) ≡ 32) → OfFile before.files name ⊤ AreBytes →
-      (after : Shelved) (e : MapErr) → IsRefused hash name l pages middle after e →
+      (after : Shelved) (e : MapErr) → IsOpeningRefused hash name l pages middle after e →
       RefusesMap hash name before after e
   refuses_from sized are after e r =
       let v = version_of room in
@@ -418,7 +423,7 @@ module _ (hash : List ℕ → List ℕ) (name room : List ℕ) (l : Layout) (pag
 module _ {S H : Type 0} {G : shelves.Ghosts S} {K : hashes.Ghosts H} (hash : List ℕ → List ℕ) where
   abbrev pub Answered : (n : List ℕ) (l : Layout) (k : ℕ) (s : S) → Result (Paged S H G K) (S × MapErr) → Type 0
   Answered n l k s r = MatchResult r (IsOpened hash n l k (G.state s))
-      (λ x. IsRefused hash n l k (G.state s) (G.state x.0) x.1)
+      (λ x. IsOpeningRefused hash n l k (G.state s) (G.state x.0) x.1)
 
   pub answered_at : (n n' : List ℕ) (l l' : Layout) (k k' : ℕ) (s s' : S) (r : Result (Paged S H G K) (S × MapErr)) →
       n ≡ n' → l ≡ l' → k ≡ k' → s ≡ s' → Answered n l k s r → Answered n' l' k' s' r
@@ -431,7 +436,7 @@ module _ {S H : Type 0} {G : shelves.Ghosts S} {K : hashes.Ghosts H} (hash : Lis
       (faults : middle.faults ≡ before.faults) (more : before.reads ≤ middle.reads)
       (reads : middle.reads ≤ before.reads + 1)
       (large : OfFile before.files name ⊥ (λ bytes. page_size ≤ length bytes))
-      (front : OfFile before.files name ⊥ (λ bytes. IsFront bytes room))
+      (front : OfFile before.files name ⊥ (λ bytes. IsFrontOfFile bytes room))
       (paged : IsPaged (form_of l) pages before.files name) where
     pub opens_from : (p : Paged S H G K) → IsOpened hash name l pages middle p → OpensMap hash name before p
     opens_from p o = record {

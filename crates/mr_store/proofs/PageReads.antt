@@ -14,18 +14,18 @@ use Rattle.mr_tree.specs.declared.nodes.NodesErr.TheVariants as errors
 use Rattle.mr_tree.specs.declared.tree.Tree.TheOpen.{Empty, Leaf, Inner}
 use Rattle.mr_outside.specs.declared.shelf.ShelfErr.{ShelfErr}
 use Rattle.mr_outside.specs.declared.shelf.ShelfErr.TheVariants as shelf
-use Rattle.mr_pages.specs.Page.{Node, Form, level_of, entry_of}
+use Rattle.mr_pages.specs.Page.{Node, Form, level_of, node_entry}
 use Rattle.mr_pages.specs.PageBytes.{SpellsNode}
 use Rattle.mr_pages.specs.Source.{IsPage, TellsPage}
 use Rattle.mr_pages.specs.Faults.{of_level}
-use Rattle.mr_pages.specs.Walking.{child_link, page_node, Shows}
+use Rattle.mr_pages.specs.Walking.{child_link, page_node, ShowsWanted}
 use Rattle.mr_tree.specs.Digest.{Scheme, by}
 use Rattle.mr_pages.proofs.Judged.{level_same}
 use Rattle.mr_pages.proofs.ViewPages.{node_tells}
 use Rattle.mr_pages.proofs.Visits.{shape_of}
-use Rattle.mr_store.specs.Told.{digest_known}
+use Rattle.mr_store.specs.private.Told.{digest_known}
 use Rattle.mr_store.specs.Kept.{AreInside}
-use Rattle.mr_store.specs.Again.{outside_in, outside_of, unless_outside, judged_node, judged, Judges, IsGiven, IsRead, IsSaid, TellsNode, TellsAgain, HasNode, Refuses}
+use Rattle.mr_store.specs.Again.{outside_in, outside_of, unless_outside, judged_node, judged, ShowsJudged, IsGiven, IsChildInFile, IsSaid, TellsNode, TellsAgain, HasNode, RefusesAsNodes}
 
 -- ---- the node
 
@@ -38,7 +38,7 @@ at_level level m n e = here (level_of m == level) e
 
 -- what is shown is what the page spells
 pub shown_is : (shown : Bool) (n : view.Node) (level : ℕ) (o : Option Node) (m : Node) →
-    Shows shown n (of_level level o) →
+    ShowsWanted shown n (of_level level o) →
     shown ≡ true → o ≡ Some m → page_node n ≡ m
 shown_is true n level o m s yes' e = at_level level m n (ap (of_level level) (sym e) ∙ s)
 shown_is false n level o m s yes' e = cc
@@ -46,11 +46,11 @@ shown_is false n level o m s yes' e = cc
 pub digest_shown : (hash : Scheme) (pages : ℕ) (c : Child) (n : view.Node) (m : Node) (found : List ℕ) →
     page_node n ≡ m → IsSaid hash pages c m → found ≡ hash.of (view.preimage_of hash.version n) → c.digest ≡ found
 digest_shown hash pages c n m found e said is =
-    sym said.digest ∙ ap (λ k. (entry_of hash k).digest) (sym e) ∙ sym (digest_known hash n) ∙ sym is
+    sym said.digest ∙ ap (λ k. (node_entry hash k).digest) (sym e) ∙ sym (digest_known hash n) ∙ sym is
 
 pub read_of : (form : Form) (hash : List ℕ → List ℕ) (pages : ℕ) (c : Child) (n : view.Node) (page found : List ℕ) →
     view.IsView n → SpellsNode form c.level page (page_node n) → found ≡ hash (view.preimage_of form.version n) →
-    c.digest ≡ found → AreInside pages n → IsRead (by form.version hash) pages c n
+    c.digest ≡ found → AreInside pages n → IsChildInFile (by form.version hash) pages c n
 read_of form hash pages c n page found v is digest same inside = record {
   shape = shape_of form.version n v is.fits (node_tells form.version n is.fits);
   told = node_tells form.version n is.fits;
@@ -162,18 +162,19 @@ module _ (pages : ℕ) where
 
 module _ (form : Form) (hash : List ℕ → List ℕ) (pages : ℕ) (c : Child) (page : List ℕ) where
   -- it spells no node of the child's level
-  pub none_judged : (shown : Bool) (n : view.Node) → Shows shown n (of_level c.level (form.node_in page)) →
+  pub none_judged : (shown : Bool) (n : view.Node) → ShowsWanted shown n (of_level c.level (form.node_in page)) →
       shown ≡ false → judged form hash pages c page ≡ Err (errors.Page c.id)
   none_judged true n s e = cc
   none_judged false n s e = ap (judged_node (by form.version hash) pages c) s
 
-  wanted : (shown : Bool) (n : view.Node) (o : Option Node) → Shows shown n o → shown ≡ true → o ≡ Some (page_node n)
+  wanted : (shown : Bool) (n : view.Node) (o : Option Node) → ShowsWanted shown n o → shown ≡ true → o ≡ Some
+      (page_node n)
   wanted true n o s e = s
   wanted false n o s e = cc
 
   -- it spells the node of a view
   module _ (shown : Bool) (n : view.Node) (found : List ℕ)
-      (shows : Shows shown n (of_level c.level (form.node_in page))) (is : shown ≡ true)
+      (shows : ShowsWanted shown n (of_level c.level (form.node_in page))) (is : shown ≡ true)
       (digest : found ≡ hash (view.preimage_of form.version n)) where
     at_test : (b : Bool) → bytes_eq c.digest found ≡ b → judged form hash pages c page
         ≡ (if b then unless_outside (page_node n) (outside_of pages (page_node n))
@@ -195,7 +196,7 @@ module _ (form : Form) (hash : List ℕ → List ℕ) (pages : ℕ) (c : Child) 
 
   -- what is answered of a page that was read
   pub given_by : {A : Type 0} (r : Result A NodesErr) (n : view.Node) → IsPage form page →
-      Judges r n (judged form hash pages c page) → IfErr r (IsGiven form hash pages c)
+      ShowsJudged r n (judged form hash pages c page) → IfErr r (IsGiven form hash pages c)
   given_by (Ok a) n is j = tt
   given_by (Err (errors.Changed p held found)) n is j = record { page = page; is = is; gives = j }
   given_by (Err (errors.Page p)) n is j = record { page = page; is = is; gives = j }
@@ -206,7 +207,7 @@ module _ (form : Form) (hash : List ℕ → List ℕ) (pages : ℕ) (c : Child) 
 
 -- nothing is said of a page by a read that failed
 pub failed_given : (form : Form) (hash : List ℕ → List ℕ) (pages : ℕ) (c : Child) (error : ShelfErr) (e : NodesErr) →
-    Refuses error e → IsGiven form hash pages c e
+    RefusesAsNodes error e → IsGiven form hash pages c e
 failed_given form hash pages c shelf.Missing e r = subst (IsGiven form hash pages c) (sym r) tt
 failed_given form hash pages c shelf.Fault e r = subst (IsGiven form hash pages c) (sym r) tt
 failed_given form hash pages c shelf.NoMemory e r = subst (IsGiven form hash pages c) (sym r) tt

@@ -16,11 +16,11 @@ use Rattle.mr_pages.specs.declared.node.Node as owned_type
 use Rattle.mr_pages.specs.Page.{Form}
 use Rattle.mr_pages.specs.File.{file_of}
 use Rattle.mr_pages.specs.Walking.{page_node}
-use Rattle.mr_pages.specs.Source.{told_bytes, HasPages, IsPaged, MayKeep}
+use Rattle.mr_pages.specs.Source.{told_bytes, HasWholePages, IsPaged, MayKeep}
 use Rattle.mr_pages.proofs.Lists.{all_has}
-use Rattle.mr_store.specs.declared.kept.Kept.{Kept}
-use Rattle.mr_store.specs.Kept.{Entries, room, node_of, AreInside, IsKeptOf, Gains}
-use Rattle.mr_store.specs.Paging.{Holds, IsGoodEntry, IsFileOf, IsPaging, IsUnchecked}
+use Rattle.mr_store.specs.declared.cached_node.CachedNode.{CachedNode}
+use Rattle.mr_store.specs.Kept.{CacheEntries, room, node_of, AreInside, IsKeptOf, GainsNode}
+use Rattle.mr_store.specs.private.Paging.{HoldsPage, IsGoodEntry, IsFileOf, IsPaging, IsUnchecked}
 use Rattle.mr_store.specs.declared.cached_file.CachedFile.{CachedFile}
 use Rattle.mr_store.specs.CachedFile.{state_of, name_of, page_form, entries_of, OnlyKeeps}
 use Rattle.mr_outside.specs.declared.shelf.Shelf.{Ghosts}
@@ -32,18 +32,18 @@ use Rattle.std.specs.String.{string_bytes}
 
 -- where the files are told, it has so many pages
 pub paged : (form : Form) (hash : List ℕ → List ℕ) (told : Option Files) (name : List ℕ) (pages : ℕ) (first : List ℕ)
-    (es : Entries) (size : ℕ) → IsPaging form hash told name pages first es size → IsPaged form pages told name
+    (es : CacheEntries) (size : ℕ) → IsPaging form hash told name pages first es size → IsPaged form pages told name
 paged form hash told name pages first es size s =
     record { there = s.there; file_ = of_bytes (told_bytes told name) s.file_ }
   where
-    of_bytes : (o : Option (List ℕ)) → IfSome o (IsFileOf form pages es) → IfSome o (HasPages form pages)
+    of_bytes : (o : Option (List ℕ)) → IfSome o (IsFileOf form pages es) → IfSome o (HasWholePages form pages)
     of_bytes None f = tt
     of_bytes (Some bytes) f = record { are = f.are; even = f.even; count = f.count }
 
 -- ---- what is kept
 
 module _ (form : Form) (hash : List ℕ → List ℕ) (told : Option Files) (name : List ℕ) (pages : ℕ) (first : List ℕ)
-    (c d : LruCache ℕ Kept) (s : IsPaging form hash told name pages first c.entries c.cap) (child : Child) (n :
+    (c d : LruCache ℕ CachedNode) (s : IsPaging form hash told name pages first c.entries c.cap) (child : Child) (n :
     owned_type.Node)
     (faults reads : ℕ)
     (may : MayKeep hash (record {
@@ -53,7 +53,7 @@ module _ (form : Form) (hash : List ℕ → List ℕ) (told : Option Files) (nam
       faults = faults;
       reads = reads;
     }) child n) where
-  good_entry : (e : ℕ × Kept) → IsKeptOf child (node_of n) e → IsGoodEntry (by form.version hash) pages e
+  good_entry : (e : ℕ × CachedNode) → IsKeptOf child (node_of n) e → IsGoodEntry (by form.version hash) pages e
   good_entry e k = record {
     low = subst (λ p. 1 ≤ p) (sym k.page) may.low;
     within = subst (λ p. p < pages) (sym k.page) may.place;
@@ -66,7 +66,7 @@ module _ (form : Form) (hash : List ℕ → List ℕ) (told : Option Files) (nam
     };
   }
 
-  grown_file : Gains c.cap c.entries d.entries child (node_of n) → (o : Option (List ℕ)) →
+  grown_file : GainsNode c.cap c.entries d.entries child (node_of n) → (o : Option (List ℕ)) →
       IfSome (option_map (file_of form) o) (λ f. f.node child.id ≡ Some (page_node (node_of n))) →
       IfSome o (IsFileOf form pages c.entries) → IfSome o (IsFileOf form pages d.entries)
   grown_file g None t f = tt
@@ -80,7 +80,7 @@ module _ (form : Form) (hash : List ℕ → List ℕ) (told : Option Files) (nam
     ];
   }
 
-  grown : Gains c.cap c.entries d.entries child (node_of n) → d.cap ≡ c.cap →
+  grown : GainsNode c.cap c.entries d.entries child (node_of n) → d.cap ≡ c.cap →
       IsPaging form hash told name pages first d.entries d.cap
   grown g same = record {
     some = s.some;
@@ -93,15 +93,15 @@ module _ (form : Form) (hash : List ℕ → List ℕ) (told : Option Files) (nam
   }
 
   pub still_paging : {A E : Type 0} (r : Result A E) →
-      OnOk r (Gains c.cap c.entries d.entries child (node_of n)) → OnErr r (d ≡ c) → d.cap ≡ c.cap →
+      OnOk r (GainsNode c.cap c.entries d.entries child (node_of n)) → OnErr r (d ≡ c) → d.cap ≡ c.cap →
       IsPaging form hash told name pages first d.entries d.cap
   still_paging (Ok a) g e same = grown g same
   still_paging (Err x) g e same =
-      subst (λ (m : LruCache ℕ Kept). IsPaging form hash told name pages first m.entries m.cap) (sym e) s
+      subst (λ (m : LruCache ℕ CachedNode). IsPaging form hash told name pages first m.entries m.cap) (sym e) s
 
   -- ---- there is room for all pages of a small file
 
-  none_keys : (es : Entries) → lookup (nat_eq child.id) es ≡ None →
+  none_keys : (es : CacheEntries) → lookup (nat_eq child.id) es ≡ None →
       AllByRecursion (λ k. (child.id == k) ≡ false) (keys_of es)
   none_keys [] e = tt
   none_keys (x ∷ es) e = here (child.id == x.0) refl (none_keys es)
@@ -109,12 +109,13 @@ module _ (form : Form) (hash : List ℕ → List ℕ) (told : Option Files) (nam
       here : (b : Bool) → (child.id == x.0) ≡ b →
           (lookup (nat_eq child.id) es ≡ None → AllByRecursion (λ k. (child.id == k) ≡ false) (keys_of es)) →
           AllByRecursion (λ k. (child.id == k) ≡ false) (keys_of (x ∷ es))
-      here true t on = let h : ◌≡◌ {A = Option Kept} (Some x.1) None = rw t at e in cc
+      here true t on = let h : ◌≡◌ {A = Option CachedNode} (Some x.1) None = rw t at e in cc
       here false t on = (t, on (rw t at e))
 
-  keys_are : (P : ℕ → Type 0) → ((e : ℕ × Kept) → Contains c.entries e → P e.0) →
+  keys_are : (P : ℕ → Type 0) → ((e : ℕ × CachedNode) → Contains c.entries e → P e.0) →
       AllByRecursion P (keys_of c.entries)
-  keys_are P f = all_map (λ (e : ℕ × Kept). e.0) P c.entries (all_from (λ (e : ℕ × Kept). P e.0) c.entries f)
+  keys_are P f = all_map (λ (e : ℕ × CachedNode). e.0) P c.entries
+      (all_from (λ (e : ℕ × CachedNode). P e.0) c.entries f)
 
   many : IsDistinct ◌==◌ (keys_of c.entries) → lookup (nat_eq child.id) c.entries ≡ None →
       length c.entries + 2 ≤ pages
@@ -128,23 +129,23 @@ module _ (form : Form) (hash : List ℕ → List ℕ) (told : Option Files) (nam
       let all : length (0 ∷ child.id ∷ ks) ≤ pages = length-le_from_distinct_below (0 ∷ child.id ∷ ks) pages
       ((ne_eqb 0 child.id (zero_less child.id may.low), low), (none_keys c.entries none, distinct))
       (all_has (λ k. k < pages) (0 ∷ child.id ∷ ks) (omega (arith, s.some), (may.place, high))) in
-      omega (arith, all, length-map c.entries (λ (e : ℕ × Kept). e.0))
+      omega (arith, all, length-map c.entries (λ (e : ℕ × CachedNode). e.0))
     where
       zero_less : (k : ℕ) → 1 ≤ k → 0 ≢ k
       zero_less k h e = omega (arith, h, e)
 
-  roomy : IsValid nat_eq c → pages ≤ room + 1 → (o : Option Kept) → lookup (nat_eq child.id) c.entries ≡ o →
+  roomy : IsValid nat_eq c → pages ≤ room + 1 → (o : Option CachedNode) → lookup (nat_eq child.id) c.entries ≡ o →
       IsSome (lookup (nat_eq child.id) c.entries) ⊎ (length c.entries < c.cap)
   roomy valid small None e = inr (omega (arith, many valid.0 e, small, s.cap))
-  roomy valid small (Some k) e = inl (subst (IsSome {T = Kept}) (sym e) refl)
+  roomy valid small (Some k) e = inl (subst (IsSome {T = CachedNode}) (sym e) refl)
 
   pub keeps_more : {A E : Type 0} (r : Result A E) → IsValid nat_eq c →
-      OnOk r (Gains c.cap c.entries d.entries child (node_of n)) → OnErr r (d ≡ c) →
-      (page : ℕ) → Holds pages c.entries page → Holds pages d.entries page
+      OnOk r (GainsNode c.cap c.entries d.entries child (node_of n)) → OnErr r (d ≡ c) →
+      (page : ℕ) → HoldsPage pages c.entries page → HoldsPage pages d.entries page
   keeps_more (Ok a) valid g e page h = λ small.
       g.none_lost (roomy valid small (lookup (nat_eq child.id) c.entries) refl) page (h small)
   keeps_more (Err x) valid g e page h =
-      subst (λ (m : LruCache ℕ Kept). Holds pages m.entries page) (sym e) h
+      subst (λ (m : LruCache ℕ CachedNode). HoldsPage pages m.entries page) (sym e) h
 
 -- ---- a file with its cache in which a node was kept
 

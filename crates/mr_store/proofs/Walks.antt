@@ -18,7 +18,7 @@ use Rattle.mr_tree.specs.declared.entry.Entry.{Entry}
 use Rattle.mr_tree.specs.WellFormed.{HasOneLevel, IsFilled}
 use Rattle.mr_tree.specs.View as view
 use Rattle.mr_tree.specs.View.{IsInner}
-use Rattle.mr_tree.specs.Nodes.{Standing, IsEntry, IsNodeOf, MayFetch, Shows, HasCause, HasSomeCause, IsId, subtrees}
+use Rattle.mr_tree.specs.Nodes.{MapModel, IsEntry, IsNodeOf, MayFetch, ShowsNode, HasFetchCause, HasSomeCause, IsId, subtrees}
 use Rattle.mr_tree.specs.declared.child.Child.{Child}
 use Rattle.mr_tree.specs.declared.nodes.NodesErr.{NodesErr}
 use Rattle.mr_tree.specs.declared.nodes.NodesErr.TheVariants as errors
@@ -29,16 +29,16 @@ use Rattle.mr_tree.specs.declared.tree.Tree.TheFolds.{every-Tree}
 use Rattle.mr_tree.proofs.Equations.{entry_level, entry-Leaf, entry-Inner, records-Leaf, records-Inner}
 use Rattle.mr_tree.proofs.Induction.{every-Leaf, every-Inner}
 use Rattle.mr_tree.proofs.Subtrees.{subtrees-Leaf, subtrees-Inner}
-use Rattle.mr_pages.specs.Faults.{numbers_of, repeats, same_rect, least}
-use Rattle.mr_pages.specs.Judging.{Fills, has_said, fits_entry}
-use Rattle.mr_pages.specs.Walking.{child_link, Saw, Counts}
-use Rattle.mr_pages.specs.declared.seen.Seen.{Seen}
+use Rattle.mr_pages.specs.Faults.{numbers_of, repeats, same_rect, least_fill}
+use Rattle.mr_pages.specs.private.Judging.{fills_node, has_said, fits_entry}
+use Rattle.mr_pages.specs.Walking.{child_link, Saw, MeetsNumbers}
+use Rattle.mr_pages.specs.declared.visited.Visited.{Visited}
 use Rattle.mr_pages.proofs.Building.{FilledAs, leaf_there, inner_there, filled_leaf, filled_inner, first_is, one_of, leaf_filled, inner_filled, filled_below, of_images}
 use Rattle.mr_pages.proofs.Fits.{first_of_both, second_of_both, level_known, rect_known, mask_known, count_known}
 use Rattle.mr_pages.proofs.Lists.{Fresh, repeats_fresh, fresh_append, all_append, all_weaker, all_right, fresh_left, fresh_right, fresh_repeats}
 use Rattle.mr_pages.proofs.PageLaws.{both_true}
 use Rattle.mr_pages.proofs.Rules.{same_rect_is, same_rect_self}
-use Rattle.mr_store.specs.Walk.{Suits, IsFine, IsCounted, IsFull, CanWalk, Adds, GathersAll, Walked, WalkedAll, Refuses, IsTwice}
+use Rattle.mr_store.specs.private.Walk.{SuitsEntry, IsFine, IsCounted, IsFull, CanWalk, AddsNumbers, GathersAll, Walked, WalkedAll, StopsWalk, IsTwice}
 
 -- ---- lists
 
@@ -69,12 +69,12 @@ some_of (Some x) P h = refl
 
 -- ---- what is told of the node
 
-pub told_leaf : (s : Standing) (o : Option Tree) (rs : List Record) → IsSome o →
+pub told_leaf : (s : MapModel) (o : Option Tree) (rs : List Record) → IsSome o →
     IfSome o (λ t. IsNodeOf s t (Leaf rs)) → o ≡ Some (tree.Leaf rs)
 told_leaf s None rs some node = let none : IsSome {T = Tree} None = some in cc
 told_leaf s (Some t) rs some node = ap Some node
 
-pub told_inner : (s : Standing) (o : Option Tree) (cs : List Child) (us : List Tree) → IsSome o →
+pub told_inner : (s : MapModel) (o : Option Tree) (cs : List Child) (us : List Tree) → IsSome o →
     IfSome o (λ t. IsNodeOf s t (Inner cs)) → map (λ (d : Child). s.node d.id) cs ≡ map Some us →
     o ≡ Some (tree.Inner us)
 told_inner s None cs us some node same = let none : IsSome {T = Tree} None = some in cc
@@ -96,11 +96,11 @@ has_count : (root : Bool) (a b : ℕ) → (root || a == b) ≡ true → (root �
 has_count true a b e counted = sym (counted refl)
 has_count false a b e counted = eqb-true a b e
 
-pub suits_of : (v : Version) (hash : List ℕ → List ℕ) (s : Standing) (root : Bool) (c : Child) (n : view.Node) →
-    s.version ≡ v → Shows hash s c n → view.IsView n → fits_entry v root c n ≡ true →
-    IsCounted root c (view.count_over v n) → Suits (by v hash) root c n
+pub suits_of : (v : Version) (hash : List ℕ → List ℕ) (s : MapModel) (root : Bool) (c : Child) (n : view.Node) →
+    s.version ≡ v → ShowsNode hash s c n → view.IsView n → fits_entry v root c n ≡ true →
+    IsCounted root c (view.count_over v n) → SuitsEntry (by v hash) root c n
 suits_of v hash s root c n one shows is fit counted =
-    let said = first_of_both (has_said v root c n) (Fills root n) fit in
+    let said = first_of_both (has_said v root c n) (fills_node root n) fit in
     let sums = second_of_both (same_rect (view.rect_of n) (Some c.rect)) _ said in
     record {
       fits = is;
@@ -116,25 +116,25 @@ suits_of v hash s root c n one shows is fit counted =
             (second_of_both (view.mask_over v n == c.mask) _ sums) counted)) i;
         digest = (sym shows.digest ∙ ap (λ u. hash (view.preimage_of u n)) one) i;
       };
-      full = ltb-false _ _ (not_true _ (second_of_both (has_said v root c n) (Fills root n) fit));
+      full = ltb-false _ _ (not_true _ (second_of_both (has_said v root c n) (fills_node root n) fit));
     }
 
-entries_told : (scheme : Scheme) (s : Standing) (cs : List Child) (ts : List Tree) →
+entries_told : (scheme : Scheme) (s : MapModel) (cs : List Child) (ts : List Tree) →
     map (λ (d : Child). s.node d.id) cs ≡ map Some ts →
-    AllByRecursion (λ (d : Child). IsSomeAnd (s.node d.id) (λ t. view.entry_of d ≡ entry scheme t)) cs →
-    map view.entry_of cs ≡ map (entry scheme) ts
+    AllByRecursion (λ (d : Child). IsSomeAnd (s.node d.id) (λ t. view.child_entry d ≡ entry scheme t)) cs →
+    map view.child_entry cs ≡ map (entry scheme) ts
 entries_told scheme s [] [] e known = refl
 entries_told scheme s [] (t ∷ ts) e known = cc
 entries_told scheme s (c ∷ cs) [] e known = cc
 entries_told scheme s (c ∷ cs) (t ∷ ts) e known =
-    let one = subst (λ o. IsSomeAnd o (λ u. view.entry_of c ≡ entry scheme u))
+    let one = subst (λ o. IsSomeAnd o (λ u. view.child_entry c ≡ entry scheme u))
     (first_same (s.node c.id) (Some t) (map (λ (d : Child). s.node d.id) cs) (map Some ts) e) known.0 in
     let rest = entries_told scheme s cs ts
     (rest_same (s.node c.id) (Some t) (map (λ (d : Child). s.node d.id) cs) (map Some ts) e) known.1 in
     λ i. one i ∷ rest i
 
-told_entry : (scheme : Scheme) (s : Standing) (t : Tree) (n : view.Node) → IsNodeOf s t n →
-    AllByRecursion (λ (d : Child). IsSomeAnd (s.node d.id) (λ u. view.entry_of d ≡ entry scheme u))
+told_entry : (scheme : Scheme) (s : MapModel) (t : Tree) (n : view.Node) → IsNodeOf s t n →
+    AllByRecursion (λ (d : Child). IsSomeAnd (s.node d.id) (λ u. view.child_entry d ≡ entry scheme u))
     (view.children_in n) → entry scheme t ≡ view.entry_over scheme n
 told_entry scheme s t Empty is known = absurd is
 told_entry scheme s t (Leaf rs) is known = ap (entry scheme) is ∙ entry-Leaf scheme rs
@@ -142,7 +142,7 @@ told_entry scheme s t (Inner cs) is known =
     ap (entry scheme) is.1 ∙ entry-Inner scheme is.0
     ∙ ap (λ es. entry_step scheme (Inner es)) (sym (entries_told scheme s cs is.0 is.2 known))
 
-all_known : (hash : List ℕ → List ℕ) (s : Standing) → IsSome s.tree → (cs : List Child) →
+all_known : (hash : List ℕ → List ℕ) (s : MapModel) → IsSome s.tree → (cs : List Child) →
     AllByRecursion (MayFetch hash s) cs → AllByRecursion (IsEntry hash s) cs
 all_known hash s told [] may = tt
 all_known hash s told (c ∷ cs) may = (may.0.known told, all_known hash s told cs may.1)
@@ -152,15 +152,15 @@ either_true : (a b : Bool) → b ≡ true → (a || b) ≡ true
 either_true true b e = refl
 either_true false b e = e
 
-said_told : (v : Version) (hash : List ℕ → List ℕ) (s : Standing) (root : Bool) (c : Child) (n : view.Node) →
-    s.version ≡ v → IsSome s.tree → MayFetch hash s c → Shows hash s c n → has_said v root c n ≡ true
+said_told : (v : Version) (hash : List ℕ → List ℕ) (s : MapModel) (root : Bool) (c : Child) (n : view.Node) →
+    s.version ≡ v → IsSome s.tree → MayFetch hash s c → ShowsNode hash s c n → has_said v root c n ≡ true
 said_told v hash s root c n one told may shows = at (s.node c.id) (may.known told) shows.node
   where
-    at : (o : Option Tree) → IsSomeAnd o (λ t. view.entry_of c ≡ entry (by s.version hash) t) →
+    at : (o : Option Tree) → IsSomeAnd o (λ t. view.child_entry c ≡ entry (by s.version hash) t) →
         IfSome o (λ t. IsNodeOf s t n) → has_said v root c n ≡ true
     at None known node = absurd known
     at (Some t) known node =
-        let same : view.entry_of c ≡ view.entry_over (by v hash) n =
+        let same : view.child_entry c ≡ view.entry_over (by v hash) n =
         known ∙ told_entry (by s.version hash) s t n node
         (all_known hash s told (view.children_in n)
         (recursion_from_All (MayFetch hash s) (view.children_in n) shows.children))
@@ -174,8 +174,8 @@ said_told v hash s root c n one told may shows = at (s.node c.id) (may.known tol
         (either_true root (view.count_over v n == c.count)
         (eq-eqb (view.count_over v n) c.count (sym (ap (λ (e : Entry). e.count) same ∙ count_known (by v hash) n)))))
 
-filled_told : (root : Bool) (s : Standing) (t : Tree) (n : view.Node) → IsNodeOf s t n → FilledAs root t →
-    Fills root n ≡ true
+filled_told : (root : Bool) (s : MapModel) (t : Tree) (n : view.Node) → IsNodeOf s t n → FilledAs root t →
+    fills_node root n ≡ true
 filled_told root s t Empty is f = absurd is
 filled_told root s t (Leaf rs) is f =
     ap not (le-ltb _ _ (leaf_filled root rs (subst (FilledAs root) is f)))
@@ -185,25 +185,25 @@ filled_told root s t (Inner cs) is f =
     ∙ sym (length-map cs child_link) in
     ap not (le-ltb _ _ (inner_filled root (map child_link cs) is.0 count (subst (FilledAs root) is.1 f)))
 
-full_told : (hash : List ℕ → List ℕ) (s : Standing) (root : Bool) (c : Child) (n : view.Node) → IsSome s.tree →
-    MayFetch hash s c → Shows hash s c n → IsFull s root c → Fills root n ≡ true
+full_told : (hash : List ℕ → List ℕ) (s : MapModel) (root : Bool) (c : Child) (n : view.Node) → IsSome s.tree →
+    MayFetch hash s c → ShowsNode hash s c n → IsFull s root c → fills_node root n ≡ true
 full_told hash s root c n told may shows full = at (s.node c.id) refl (may.known told) shows.node
   where
-    at : (o : Option Tree) → s.node c.id ≡ o → IsSomeAnd o (λ t. view.entry_of c ≡ entry (by s.version hash) t) →
-        IfSome o (λ t. IsNodeOf s t n) → Fills root n ≡ true
+    at : (o : Option Tree) → s.node c.id ≡ o → IsSomeAnd o (λ t. view.child_entry c ≡ entry (by s.version hash) t) →
+        IfSome o (λ t. IsNodeOf s t n) → fills_node root n ≡ true
     at None e known node = absurd known
     at (Some t) e known node = filled_told root s t n node (full t e)
 
-fit_told : (v : Version) (hash : List ℕ → List ℕ) (s : Standing) (root : Bool) (c : Child) (n : view.Node) →
-    s.version ≡ v → IsSome s.tree → MayFetch hash s c → Shows hash s c n → IsFull s root c →
+fit_told : (v : Version) (hash : List ℕ → List ℕ) (s : MapModel) (root : Bool) (c : Child) (n : view.Node) →
+    s.version ≡ v → IsSome s.tree → MayFetch hash s c → ShowsNode hash s c n → IsFull s root c →
     fits_entry v root c n ≡ true
 fit_told v hash s root c n one told may shows full =
-    both_true (has_said v root c n) (Fills root n) (said_told v hash s root c n one told may shows)
+    both_true (has_said v root c n) (fills_node root n) (said_told v hash s root c n one told may shows)
     (full_told hash s root c n told may shows full)
 
 -- ---- a leaf
 
-fine_leaf : (v : Version) (root : Bool) (rs : List Record) → least root (Leaf rs) ≤ length rs → length rs ≤ 16 →
+fine_leaf : (v : Version) (root : Bool) (rs : List Record) → least_fill root (Leaf rs) ≤ length rs → length rs ≤ 16 →
     All IsRecord rs → All (HasLayer v) rs → IsFine v root (tree.Leaf rs)
 fine_leaf v root rs full few each layers = record {
   one_level = every-Leaf HasOneLevel rs tt;
@@ -216,15 +216,15 @@ fine_leaf v root rs full few each layers = record {
 pub next_count-≤ : (n : ℕ) → next_count n ≤ n + 1
 next_count-≤ n = omega arith
 
-pub leaf_walked : (x : Scheme) (hash : List ℕ → List ℕ) (s : Standing) (root : Bool) (child : Child)
-    (rs : List Record) (before after : Seen) (f f' : ℕ) (made : Tree → Type 0) → MayFetch hash s child →
-    Shows hash s child (Leaf rs) →
-    (IsCounted root child (view.count_over x.version (Leaf rs)) → Suits x root child (Leaf rs)) →
-    f' ≡ next_count f → Adds before after rs → (Suits x root child (Leaf rs) → made (tree.Leaf rs)) →
+pub leaf_walked : (x : Scheme) (hash : List ℕ → List ℕ) (s : MapModel) (root : Bool) (child : Child)
+    (rs : List Record) (before after : Visited) (f f' : ℕ) (made : Tree → Type 0) → MayFetch hash s child →
+    ShowsNode hash s child (Leaf rs) →
+    (IsCounted root child (view.count_over x.version (Leaf rs)) → SuitsEntry x root child (Leaf rs)) →
+    f' ≡ next_count f → AddsNumbers before after rs → (SuitsEntry x root child (Leaf rs) → made (tree.Leaf rs)) →
     Walked x s root child before after f f' made
 leaf_walked x hash s root child rs before after f f' made may shows suits count met is = record {
   under = tree.Leaf rs;
-  met = subst (Adds before after) (sym (records-Leaf rs)) met;
+  met = subst (AddsNumbers before after) (sym (records-Leaf rs)) met;
   same = λ told. told_leaf s (s.node child.id) rs (some_of (s.node child.id) _ (may.known told)) shows.node;
   once = omega (arith, count, next_count-≤ f, ap length (subtrees-Leaf rs));
   is = λ counted.
@@ -240,15 +240,16 @@ leaf_walked x hash s root child rs before after f f' made may shows suits count 
 
 -- ---- an inner node
 
-levels_of : (x : Scheme) (n : ℕ) (cs : List Child) (us : List Tree) → map view.entry_of cs ≡ map (entry x) us →
+levels_of : (x : Scheme) (n : ℕ) (cs : List Child) (us : List Tree) → map view.child_entry cs ≡ map (entry x) us →
     AllByRecursion (λ (c : Child). c.level + 1 ≡ n + 1) cs → AllByRecursion (λ t. level t ≡ n) us
 levels_of x n cs [] e all = tt
 levels_of x n [] (u ∷ us) e all = absurd (no_first (entry x u) (map (entry x) us) (sym e))
 levels_of x n (c ∷ cs) (u ∷ us) e all =
-    let one = first_same (view.entry_of c) (entry x u) (map view.entry_of cs) (map (entry x) us) e in
+    let one = first_same (view.child_entry c) (entry x u) (map view.child_entry cs) (map (entry x) us) e in
     let same : c.level ≡ level u = ap (λ (y : Entry). y.level) one ∙ entry_level x u in (
       omega (arith, same, all.0),
-      levels_of x n cs us (rest_same (view.entry_of c) (entry x u) (map view.entry_of cs) (map (entry x) us) e) all.1,
+      levels_of x n cs us (rest_same (view.child_entry c) (entry x u) (map view.child_entry cs) (map (entry x) us) e)
+          all.1,
     )
 
 records_fine : (v : Version) (us : List Tree) → AllByRecursion (IsFine v false) us → All IsRecord (flat_map records us)
@@ -263,14 +264,15 @@ layers_fine v (u ∷ us) fine =
     All-append (HasLayer v) (records u) (flat_map records us) fine.0.layers (layers_fine v us fine.1)
 
 fine_inner : (x : Scheme) (root : Bool) (cs : List Child) (us : List Tree) → IsInner cs →
-    map view.entry_of cs ≡ map (entry x) us →
-    least root (Inner (map child_link cs)) ≤ length (map child_link cs) → AllByRecursion (IsFine x.version false) us →
+    map view.child_entry cs ≡ map (entry x) us →
+    least_fill root (Inner (map child_link cs)) ≤ length (map child_link cs) → AllByRecursion
+    (IsFine x.version false) us →
     IsFine x.version root (tree.Inner us)
 fine_inner x root cs us fits known full fine =
     let v = x.version in
     let n = first_level (map (λ (c : Child). c.level) cs) in
     let count : length us ≡ length cs =
-    sym (length-map us (entry x)) ∙ sym (ap length known) ∙ length-map cs view.entry_of in
+    sym (length-map us (entry x)) ∙ sym (ap length known) ∙ length-map cs view.child_entry in
     let links : length (map child_link cs) ≡ length cs = length-map cs child_link in
     let some : 0 < length us = omega (arith, count, fits.some) in
     let there = all_weaker (IsFine v false) (λ t. t ≢ tree.Empty) (λ t f. f.there) us fine in
@@ -288,19 +290,19 @@ fine_inner x root cs us fits known full fine =
       layers = subst (All (HasLayer v)) (sym (records-Inner us ∙ of_images us)) (layers_fine v us fine);
     }
 
-pub inner_walked : (x : Scheme) (hash : List ℕ → List ℕ) (s : Standing) (root : Bool) (child : Child)
-    (children : List Child) (before after : Seen) (f f' : ℕ) (made : Tree → Type 0) (made_all : List Tree → Type 0) →
-    MayFetch hash s child → Shows hash s child (Inner children) →
-    (IsCounted root child (view.count_over x.version (Inner children)) → Suits x root child (Inner children)) →
+pub inner_walked : (x : Scheme) (hash : List ℕ → List ℕ) (s : MapModel) (root : Bool) (child : Child)
+    (children : List Child) (before after : Visited) (f f' : ℕ) (made : Tree → Type 0) (made_all : List Tree → Type 0) →
+    MayFetch hash s child → ShowsNode hash s child (Inner children) →
+    (IsCounted root child (view.count_over x.version (Inner children)) → SuitsEntry x root child (Inner children)) →
     WalkedAll x s children before after (f + 1) f' made_all →
-    (Suits x root child (Inner children) → (us : List Tree) → made_all us → made (tree.Inner us)) →
+    (SuitsEntry x root child (Inner children) → (us : List Tree) → made_all us → made (tree.Inner us)) →
     Walked x s root child before after f f' made
 inner_walked x hash s root child children before after f f' made made_all may shows suits all is =
     let us = all.below in
     let nodes = ap length (subtrees-Inner us) ∙ length-append (flat_map subtrees us) (tree.Inner us ∷ []) in
     record {
       under = tree.Inner us;
-      met = subst (Adds before after) (sym (records-Inner us ∙ of_images us)) all.met;
+      met = subst (AddsNumbers before after) (sym (records-Inner us ∙ of_images us)) all.met;
       same = λ told. told_inner s (s.node child.id) children us (some_of (s.node child.id) _ (may.known told))
           shows.node (all.same told);
       once = omega (arith, nodes, all.once);
@@ -319,10 +321,10 @@ inner_walked x hash s root child children before after f f' made made_all may sh
 -- ---- children one after another
 
 -- the numbers of some records were met, none of them twice
-pub adds_of : (before after : Seen) (rs qs : List Record) (twice : Bool) → qs ≡ rs → twice ≡ false →
-    ((pages : ℕ) (ps ns : List ℕ) → Saw pages before ps ns → Counts pages ps ns (numbers_of qs) twice after) →
-    Adds before after rs
-adds_of before after rs qs twice same off told = subst (Adds before after) same (λ pages ns saw.
+pub adds_of : (before after : Visited) (rs qs : List Record) (twice : Bool) → qs ≡ rs → twice ≡ false →
+    ((pages : ℕ) (ps ns : List ℕ) → Saw pages before ps ns → MeetsNumbers pages ps ns (numbers_of qs) twice after) →
+    AddsNumbers before after rs
+adds_of before after rs qs twice same off told = subst (AddsNumbers before after) same (λ pages ns saw.
     let met = told pages [] ns saw in
     (repeats_fresh ns (numbers_of qs) (sym met.0 ∙ off), OnFalse_at off met.1))
 
@@ -336,7 +338,7 @@ gathers_more g s t u (d ∷ cs) (w ∷ ts) c one all h =
 gathers_more g s t u [] (w ∷ ts) c one all h = absurd all
 gathers_more g s t u (d ∷ cs) [] c one all h = absurd all
 
-none_walked : (x : Scheme) (s : Standing) (seen : Seen) (f f' : ℕ) (made : List Tree → Type 0) → f' ≤ f →
+none_walked : (x : Scheme) (s : MapModel) (seen : Visited) (f f' : ℕ) (made : List Tree → Type 0) → f' ≤ f →
     made [] → WalkedAll x s [] seen seen f f' made
 none_walked x s seen f f' made few is = record {
   below = [];
@@ -348,7 +350,8 @@ none_walked x s seen f f' made few is = record {
   made = is;
 }
 
-pub adds_more : (a b c : Seen) (xs ys : List Record) → Adds a b xs → Adds b c ys → Adds a c (xs ++ ys)
+pub adds_more : (a b c : Visited) (xs ys : List Record) → AddsNumbers a b xs → AddsNumbers b c ys → AddsNumbers a c
+    (xs ++ ys)
 adds_more a b c xs ys f g = λ pages ns saw.
     let p = f pages ns saw in
     let q = g pages (ns ++ numbers_of xs) p.1 in
@@ -362,7 +365,7 @@ pub flat_more : {A : Type 0} (f : Tree → List A) (us : List Tree) (t : Tree) �
 flat_more f us t =
     ap (λ xs. flat_map f us ++ xs) (sym (append-nil (f t))) ∙ sym (flat_map-append f us (t ∷ []))
 
-pub begun : {S : Type 0} (x : Scheme) (s : Standing) (seen : Seen) (into : S) (g : S → S → Child → Tree → Type 0)
+pub begun : {S : Type 0} (x : Scheme) (s : MapModel) (seen : Visited) (into : S) (g : S → S → Child → Tree → Type 0)
     (f f' : ℕ) → f' ≤ f → WalkedAll x s [] seen seen f f' (GathersAll g into into [])
 unfolding GathersAll
 begun x s seen into g f f' few = none_walked x s seen f f' (GathersAll g into into []) few refl
@@ -371,7 +374,7 @@ begun x s seen into g f f' few = none_walked x s seen f f' (GathersAll g into in
 below_root : {A : Type 0} → (false ≡ true) → A
 below_root e = absurd cc
 
-pub next_walked : (x : Scheme) (s s' : Standing) (cs : List Child) (d : Child) (i : ℕ) (a b e : Seen) (f g h : ℕ)
+pub next_walked : (x : Scheme) (s s' : MapModel) (cs : List Child) (d : Child) (i : ℕ) (a b e : Visited) (f g h : ℕ)
     (made made' : List Tree → Type 0) (one : Tree → Type 0) → s' ≡ s → i < length cs → d ≡ get_or cs i d →
     WalkedAll x s (take i cs) a b f g made → Walked x s' false d b e g h one →
     ((us : List Tree) (t : Tree) → made us → one t → made' (us ++ t ∷ [])) →
@@ -382,14 +385,14 @@ next_walked x s s' cs d i a b e f g h made made' one same within here all next m
     let nodes = λ (c : Child). s.node c.id in
     let list : take (i + 1) cs ≡ take i cs ++ d ∷ [] =
     take_more cs i d within ∙ ap (λ y. take i cs ++ y ∷ []) (sym here) in
-    let told = subst (λ (y : Standing). IsSome y.tree → y.node d.id ≡ Some t) same next.same in
+    let told = subst (λ (y : MapModel). IsSome y.tree → y.node d.id ≡ Some t) same next.same in
     let below = next.is below_root in
     record {
       below = us ++ t ∷ [];
-      known = ap (map view.entry_of) list ∙ map-append view.entry_of (take i cs) (d ∷ [])
+      known = ap (map view.child_entry) list ∙ map-append view.child_entry (take i cs) (d ∷ [])
           ∙ (λ k. all.known k ++ below.known k ∷ []) ∙ sym (map-append (entry x) us (t ∷ []));
       fine = all_append (IsFine x.version false) us (t ∷ []) all.fine (below.fine, tt);
-      met = subst (Adds a e) (flat_more records us t)
+      met = subst (AddsNumbers a e) (flat_more records us t)
           (adds_more a b e (flat_map records us) (records t) all.met next.met);
       same = λ is. ap (map nodes) list ∙ map-append nodes (take i cs) (d ∷ [])
           ∙ (λ k. all.same is k ++ told is k ∷ []) ∙ sym (map-append Some us (t ∷ []));
@@ -405,8 +408,8 @@ next_walked x s s' cs d i a b e f g h made made' one same within here all next m
 -- ---- why it stops
 
 -- what less is known of
-pub refuses_as : (s : Standing) (a b : ℕ) (P Q : Type 0) (e : NodesErr) → (IsSome s.tree → Q → P) →
-    Refuses s a b P e → Refuses s a b Q e
+pub refuses_as : (s : MapModel) (a b : ℕ) (P Q : Type 0) (e : NodesErr) → (IsSome s.tree → Q → P) →
+    StopsWalk s a b P e → StopsWalk s a b Q e
 refuses_as s a b P Q (errors.Page page) f h = (h.0, h.1, λ told q. h.2 told (f told q))
 refuses_as s a b P Q (errors.Changed page held found) f h = h
 refuses_as s a b P Q (errors.Outside page) f h = h
@@ -415,14 +418,14 @@ refuses_as s a b P Q errors.Fault f h = h
 refuses_as s a b P Q errors.NoMemory f h = h
 
 -- a later call
-pub refuses_along : (P : Standing → Type 0) (Q : Type 0) (s s' : Standing) (a b c : ℕ) (e : NodesErr) → s' ≡ s → b ≡ a →
-    (IsSome s.tree → Q → P s) → Refuses s' b c (P s') e → Refuses s a c Q e
+pub refuses_along : (P : MapModel → Type 0) (Q : Type 0) (s s' : MapModel) (a b c : ℕ) (e : NodesErr) → s' ≡ s → b ≡ a →
+    (IsSome s.tree → Q → P s) → StopsWalk s' b c (P s') e → StopsWalk s a c Q e
 refuses_along P Q s s' a b c e same quiet f h =
-    refuses_as s a c (P s) Q e f (subst (λ x. Refuses x a c (P x) e) same
-    (subst (λ n. Refuses s' n c (P s') e) quiet h))
+    refuses_as s a c (P s) Q e f (subst (λ x. StopsWalk x a c (P x) e) same
+    (subst (λ n. StopsWalk s' n c (P s') e) quiet h))
 
-pub fetch_refuses : (hash : List ℕ → List ℕ) (s : Standing) (c : Child) (a b : ℕ) (P : Type 0) (e : NodesErr) →
-    MayFetch hash s c → HasCause s c a b e → Refuses s a b P e
+pub fetch_refuses : (hash : List ℕ → List ℕ) (s : MapModel) (c : Child) (a b : ℕ) (P : Type 0) (e : NodesErr) →
+    MayFetch hash s c → HasFetchCause s c a b e → StopsWalk s a b P e
 fetch_refuses hash s c a b P (errors.Changed page held found) may h =
     (h.0, (omega (arith, may.positive, h.1), omega (arith, may.within, h.1)), h.3, h.4)
 fetch_refuses hash s c a b P (errors.Page page) may h =
@@ -436,21 +439,21 @@ fetch_refuses hash s c a b P errors.Missing may h = h
 fetch_refuses hash s c a b P errors.Fault may h = h
 fetch_refuses hash s c a b P errors.NoMemory may h = h
 
-pub unfit_refuses : (v : Version) (hash : List ℕ → List ℕ) (s : Standing) (root : Bool) (c : Child) (n : view.Node)
-    (a b : ℕ) → s.version ≡ v → MayFetch hash s c → Shows hash s c n → b ≡ a → fits_entry v root c n ≡ false →
-    Refuses s a b (IsFull s root c) (errors.Page c.id)
+pub unfit_refuses : (v : Version) (hash : List ℕ → List ℕ) (s : MapModel) (root : Bool) (c : Child) (n : view.Node)
+    (a b : ℕ) → s.version ≡ v → MayFetch hash s c → ShowsNode hash s c n → b ≡ a → fits_entry v root c n ≡ false →
+    StopsWalk s a b (IsFull s root c) (errors.Page c.id)
 unfit_refuses v hash s root c n a b one may shows quiet unfit = (
   (may.positive, may.within),
   quiet,
   λ told full. both (fits_entry v root c n) (fit_told v hash s root c n one told may shows full) unfit,
 )
 
-pub memory_refuses : (s : Standing) (a b : ℕ) (P : Type 0) (e : NodesErr) → e ≡ errors.NoMemory → Refuses s a b P e
-memory_refuses s a b P e is = subst (Refuses s a b P) (sym is) tt
+pub memory_refuses : (s : MapModel) (a b : ℕ) (P : Type 0) (e : NodesErr) → e ≡ errors.NoMemory → StopsWalk s a b P e
+memory_refuses s a b P e is = subst (StopsWalk s a b P) (sym is) tt
 
-pub twice_refuses : (hash : List ℕ → List ℕ) (s : Standing) (root : Bool) (c : Child) (rs : List Record)
-    (before : Seen) (a b : ℕ) (e : NodesErr) → MayFetch hash s c → Shows hash s c (Leaf rs) → b ≡ a →
-    IsTwice c.id before rs e → Refuses s a b (CanWalk s root before c) e
+pub twice_refuses : (hash : List ℕ → List ℕ) (s : MapModel) (root : Bool) (c : Child) (rs : List Record)
+    (before : Visited) (a b : ℕ) (e : NodesErr) → MayFetch hash s c → ShowsNode hash s c (Leaf rs) → b ≡ a →
+    IsTwice c.id before rs e → StopsWalk s a b (CanWalk s root before c) e
 twice_refuses hash s root c rs before a b (errors.Page page) may shows quiet twice = (
   (omega (arith, may.positive, twice.0), omega (arith, may.within, twice.0)),
   quiet,
@@ -468,8 +471,8 @@ twice_refuses hash s root c rs before a b errors.NoMemory may shows quiet twice 
 
 -- ---- what is known of a child that comes next
 
-pub may_next : (hash : List ℕ → List ℕ) (s s' : Standing) (child d : Child) (children : List Child) (i : ℕ) → s' ≡ s →
-    Shows hash s child (Inner children) → i < length children → d ≡ get_or children i d → MayFetch hash s' d
+pub may_next : (hash : List ℕ → List ℕ) (s s' : MapModel) (child d : Child) (children : List Child) (i : ℕ) → s' ≡ s →
+    ShowsNode hash s child (Inner children) → i < length children → d ≡ get_or children i d → MayFetch hash s' d
 may_next hash s s' child d children i same shows within is =
     subst (λ x. MayFetch hash x d) (sym same) (subst (MayFetch hash s) (sym is) (shows.children i d within))
 
@@ -513,16 +516,16 @@ in_row root ns us vs ts t is full fresh =
           (numbers_of (records t) ++ numbers_of (flat_map records vs)) (subst (Fresh ns) numbers fresh));
     }
 
-module _ (x : Scheme) (hash : List ℕ → List ℕ) (s : Standing) (root : Bool) (child d : Child) (children : List Child)
-    (i : ℕ) (before now : Seen) (f f' : ℕ) (made : List Tree → Type 0) (told : IsSome s.tree)
-    (may : MayFetch hash s child) (shows : Shows hash s child (Inner children)) (within : i < length children)
+module _ (x : Scheme) (hash : List ℕ → List ℕ) (s : MapModel) (root : Bool) (child d : Child) (children : List Child)
+    (i : ℕ) (before now : Visited) (f f' : ℕ) (made : List Tree → Type 0) (told : IsSome s.tree)
+    (may : MayFetch hash s child) (shows : ShowsNode hash s child (Inner children)) (within : i < length children)
     (is : d ≡ get_or children i d) (all : WalkedAll x s (take i children) before now f f' made)
     (can : CanWalk s root before child) where
   row : (t : Tree) → s.node d.id ≡ Some t → InRow root can.ns all.below t
   row t e = at (s.node child.id) refl (may.known told) shows.node
     where
       at : (o : Option Tree) → s.node child.id ≡ o →
-          IsSomeAnd o (λ u. view.entry_of child ≡ entry (by s.version hash) u) →
+          IsSomeAnd o (λ u. view.child_entry child ≡ entry (by s.version hash) u) →
           IfSome o (λ u. IsNodeOf s u (Inner children)) → InRow root can.ns all.below t
       at None p known node = absurd known
       at (Some u) p known node =

@@ -10,13 +10,13 @@ use Rattle.mr_record.specs.declared.version.Version.{Version}
 use Rattle.mr_tree.specs.Tree.{records}
 use Rattle.mr_tree.specs.Digest.{Scheme, by, entry}
 use Rattle.mr_record.specs.Version.{told}
-use Rattle.mr_tree.specs.View.{MayTell, entry_of}
+use Rattle.mr_tree.specs.View.{MayTell, child_entry}
 use Rattle.mr_tree.specs.declared.entry.Entry.{Entry}
 use Rattle.mr_tree.specs.WellFormed.{IsFilledRoot, WellFormed, HasLayers}
-use Rattle.mr_tree.specs.Nodes.{Standing, IsTop, MayFetch, HasSomeCause, tree_under, subtrees}
+use Rattle.mr_tree.specs.Nodes.{MapModel, IsTop, MayFetch, HasSomeCause, tree_under, subtrees}
 use Rattle.mr_tree.specs.declared.nodes.NodesErr.{NodesErr}
 use Rattle.mr_tree.specs.declared.nodes.NodesErr.TheVariants as errors
-use Rattle.mr_tree.specs.Snapshot.{tree_at, trees, standing, standing_of, AreLinked, IsPlaced, IsSnapshot, IsRooted}
+use Rattle.mr_tree.specs.Snapshot.{tree_at, trees, snapshot_model, tree_model, AreLinked, IsPlaced, IsSnapshot, IsRooted}
 use Rattle.mr_tree.specs.declared.child.Child.{Child}
 use Rattle.mr_tree.specs.declared.nodes.Top.{Top}
 use Rattle.mr_tree.specs.declared.stored.Stored.{Stored}
@@ -28,13 +28,13 @@ use Rattle.mr_tree.proofs.Induction.{every-Empty}
 use Rattle.mr_tree.proofs.Told.{count_told}
 use Rattle.mr_tree.proofs.Reading.{rooted_empty, snapshot_of}
 use Rattle.mr_pages.specs.Faults.{numbers_of}
-use Rattle.mr_pages.specs.Numbers.{count_of}
+use Rattle.mr_pages.specs.private.Numbers.{count_kept}
 use Rattle.mr_pages.specs.Walking.{Saw}
-use Rattle.mr_pages.specs.declared.seen.Seen.{Seen}
+use Rattle.mr_pages.specs.declared.visited.Visited.{Visited}
 use Rattle.mr_pages.proofs.AsRead.{records_apart, numbers_apart}
 use Rattle.mr_pages.proofs.Lists.{Fresh, fresh_apart, apart_fresh}
-use Rattle.mr_store.specs.Walk.{CanWalk, IsMadeOf, Walked, Refuses, nodes_at}
-use Rattle.mr_store.specs.Stored.{IsSaid, StandsFor}
+use Rattle.mr_store.specs.private.Walk.{CanWalk, IsMadeOf, Walked, StopsWalk, nodes_at}
+use Rattle.mr_store.specs.Stored.{IsSaid, IsSnapshotOf}
 use Rattle.mr_store.proofs.Walks.{some_same}
 
 -- ---- before the first node
@@ -42,12 +42,12 @@ use Rattle.mr_store.proofs.Walks.{some_same}
 pub none_linked : (x : Scheme) (ns : List Stored) → ns ≡ [] → AreLinked x ns
 none_linked x ns e = subst (AreLinked x) (sym e) (record { each = All-nil _; over = refl })
 
--- the standing of a tree is that of the map, where this is the map's tree
-stands_as : (hash : List ℕ → List ℕ) (s : Standing) (top : Top) (u t : Tree) → IsTop hash s top → u ≡ t →
-    standing_of top.version top.batch u ≡ standing_of s.version s.batch t
-stands_as hash s top u t is same = λ i. standing_of (is.version i) (is.batch i) (same i)
+-- the model of a tree is that of the map, where this is the map's tree
+stands_as : (hash : List ℕ → List ℕ) (s : MapModel) (top : Top) (u t : Tree) → IsTop hash s top → u ≡ t →
+    tree_model top.version top.batch u ≡ tree_model s.version s.batch t
+stands_as hash s top u t is same = λ i. tree_model (is.version i) (is.batch i) (same i)
 
-told_root : (hash : List ℕ → List ℕ) (s : Standing) (top : Top) (o : Option Child) (t : Tree) → IsTop hash s top →
+told_root : (hash : List ℕ → List ℕ) (s : MapModel) (top : Top) (o : Option Child) (t : Tree) → IsTop hash s top →
     top.root ≡ o → s.tree ≡ Some t → tree_under s o ≡ Some t
 told_root hash s top o t is root told =
     subst (λ r. tree_under s r ≡ Some t) root
@@ -69,7 +69,7 @@ empty_well = record {
   few = omega (arith, ap length records-Empty);
 }
 
-module _ (hash : List ℕ → List ℕ) (s : Standing) (top : Top) (ns : List Stored)
+module _ (hash : List ℕ → List ℕ) (s : MapModel) (top : Top) (ns : List Stored)
     (is : IsTop hash s top) (root : top.root ≡ None) (none : ns ≡ []) where
   abbrev empty_top : Top
   empty_top = record { version = top.version; batch = top.batch; count = top.count; root = None }
@@ -83,26 +83,26 @@ module _ (hash : List ℕ → List ℕ) (s : Standing) (top : Top) (ns : List St
       snapshot_of (by top.version hash) top.batch top.count tree.Empty empty_well (empty_layers top.version) no_records
       ns None (rooted_empty (by top.version hash) ns tree.Empty none refl)
 
-  pub empty_stands : StandsFor s ns empty_top
+  pub empty_stands : IsSnapshotOf s ns empty_top
   empty_stands t told =
       stands_as hash s top tree.Empty t is
       (some_same tree.Empty t (told_root hash s top None t is root told))
 
-  pub empty_said : IsSaid hash top (standing ns empty_top)
+  pub empty_said : IsSaid hash top (snapshot_model ns empty_top)
   empty_said = record {
     version = refl;
     batch = refl;
     tree = tree.Empty;
     told = refl;
     count = sym no_records;
-    root = subst (λ o. IfSome o (λ c. entry (by top.version hash) tree.Empty ≡ entry_of c)) (sym root) tt;
+    root = subst (λ o. IfSome o (λ c. entry (by top.version hash) tree.Empty ≡ child_entry c)) (sym root) tt;
   }
 
 -- ---- a map with a root
 
-module _ (hash : List ℕ → List ℕ) (s : Standing) (top : Top) (r c : Child) (old ns : List Stored)
-    (before after : Seen) (pages f f' : ℕ) (is : IsTop hash s top) (root : top.root ≡ Some r) (none : old ≡ [])
-    (start : Saw pages before [] []) (same_entry : entry_of c ≡ entry_of r)
+module _ (hash : List ℕ → List ℕ) (s : MapModel) (top : Top) (r c : Child) (old ns : List Stored)
+    (before after : Visited) (pages f f' : ℕ) (is : IsTop hash s top) (root : top.root ≡ Some r) (none : old ≡ [])
+    (start : Saw pages before [] []) (same_entry : child_entry c ≡ child_entry r)
     (walked : Walked (by top.version hash) s true r before after f f'
     (λ u. AreLinked (by top.version hash) old → IsPlaced (by top.version hash) old ns c u (subtrees u))) where
   abbrev x : Scheme
@@ -117,7 +117,7 @@ module _ (hash : List ℕ → List ℕ) (s : Standing) (top : Top) (r c : Child)
   met : Saw pages after [] (numbers_of (records t))
   met = (walked.met pages [] start).1
 
-  pub counted : count_of after.numbers ≡ length (records t)
+  pub counted : count_kept after.numbers ≡ length (records t)
   counted = met.met.count ∙ length-map (records t) (λ (y : Record). y.number)
 
   may : MayFetch hash s r
@@ -133,7 +133,7 @@ module _ (hash : List ℕ → List ℕ) (s : Standing) (top : Top) (r c : Child)
       some_same t u (sym (walked.same (subst (IsSome {T = Tree}) (sym told_) refl))
       ∙ told_root hash s top (Some r) u is root told_)
 
-  module _ (same : top.count ≡ count_of after.numbers) where
+  module _ (same : top.count ≡ count_kept after.numbers) where
     has_count : r.count ≡ (entry x t).count
     has_count =
         said ∙ ap (told top.version) (same ∙ counted) ∙ sym (entry_count x t ∙ count_told top.version t)
@@ -172,17 +172,17 @@ module _ (hash : List ℕ → List ℕ) (s : Standing) (top : Top) (r c : Child)
     pub whole_snapshot : IsSnapshot hash ns whole_top
     whole_snapshot = snapshot_of x top.batch top.count t well built.fine.layers (same ∙ counted) ns (Some c) rooted
 
-    pub whole_stands : StandsFor s ns whole_top
+    pub whole_stands : IsSnapshotOf s ns whole_top
     whole_stands u is_told = stands_as hash s top (tree_at (trees ns) c.id) u is (here ∙ told_tree u is_told)
 
-    pub whole_said : IsSaid hash top (standing ns whole_top)
+    pub whole_said : IsSaid hash top (snapshot_model ns whole_top)
     whole_said = record {
       version = refl;
       batch = refl;
       tree = tree_at (trees ns) c.id;
       told = refl;
       count = ap (λ u. length (records u)) here ∙ sym (same ∙ counted);
-      root = subst (λ o. IfSome o (λ d. entry x (tree_at (trees ns) c.id) ≡ entry_of d)) (sym root)
+      root = subst (λ o. IfSome o (λ d. entry x (tree_at (trees ns) c.id) ≡ child_entry d)) (sym root)
           (sym placed.link.entry ∙ same_entry);
     }
 
@@ -190,7 +190,7 @@ module _ (hash : List ℕ → List ℕ) (s : Standing) (top : Top) (r c : Child)
     once_each = omega (arith, walked.once, ap (λ u. length (subtrees u)) here)
 
   -- another number of records is met only where the tree is not told
-  pub miscounted : (top.count ≡ count_of after.numbers → ⊥) → IsNone s.tree
+  pub miscounted : (top.count ≡ count_kept after.numbers → ⊥) → IsNone s.tree
   miscounted other = at s.tree refl is.count
     where
       at : (o : Option Tree) → s.tree ≡ o → IfSome o (λ u. top.count ≡ length (records u)) → IsNone o
@@ -200,7 +200,7 @@ module _ (hash : List ℕ → List ℕ) (s : Standing) (top : Top) (r c : Child)
 
 -- ---- why it stops
 
-module _ (hash : List ℕ → List ℕ) (s : Standing) (top : Top) (r : Child) (before : Seen) (pages : ℕ)
+module _ (hash : List ℕ → List ℕ) (s : MapModel) (top : Top) (r : Child) (before : Visited) (pages : ℕ)
     (is : IsTop hash s top) (root : top.root ≡ Some r) (start : Saw pages before [] []) where
   can_start : (u : Tree) → s.tree ≡ Some u → WellFormed u → CanWalk s true before r
   can_start u told well = record {
@@ -216,7 +216,7 @@ module _ (hash : List ℕ → List ℕ) (s : Standing) (top : Top) (r : Child) (
       same v e = some_same u v (sym (told_root hash s top (Some r) u is root told) ∙ e)
 
   pub refuses_all : (a b : ℕ) (e : NodesErr) → IfSome s.tree (λ u. ∥ WellFormed u ∥₁) →
-      Refuses s a b (CanWalk s true before r) e → HasSomeCause s a b e
+      StopsWalk s a b (CanWalk s true before r) e → HasSomeCause s a b e
   refuses_all a b (errors.Page page) wells h = (at s.tree refl wells, h.0, h.1)
     where
       at : (o : Option Tree) → s.tree ≡ o → IfSome o (λ u. ∥ WellFormed u ∥₁) → IsNone o
@@ -236,7 +236,7 @@ pub none_fetched : (o : Option Tree) (f : ℕ) → IfSome o (λ t. f ≤ f + len
 none_fetched None f = tt
 none_fetched (Some t) f = omega arith
 
-pub root_fetched : (hash : List ℕ → List ℕ) (s : Standing) (top : Top) (r : Child) (f f' : ℕ) → IsTop hash s top →
+pub root_fetched : (hash : List ℕ → List ℕ) (s : MapModel) (top : Top) (r : Child) (f f' : ℕ) → IsTop hash s top →
     top.root ≡ Some r → (IsSome s.tree → f' ≤ f + nodes_at (s.node r.id)) →
     IfSome s.tree (λ t. f' ≤ f + length (subtrees t))
 unfolding nodes_at

@@ -13,7 +13,7 @@ use Rattle.mr_tree.specs.declared.nodes.NodesErr.{NodesErr}
 use Rattle.mr_tree.specs.declared.nodes.NodesErr.TheVariants as errors
 use Rattle.mr_tree.specs.Digest.{Scheme, by}
 use Rattle.mr_tree.specs.declared.tree.Tree.TheOpen.{Empty, Leaf, Inner}
-use Rattle.mr_pages.specs.Page.{Link, Node, Form, level_of, entry_of}
+use Rattle.mr_pages.specs.Page.{Link, Node, Form, level_of, node_entry}
 use Rattle.mr_pages.specs.File.{file_of}
 use Rattle.mr_pages.specs.Faults.{of_level}
 use Rattle.mr_pages.specs.Source.{IsPage}
@@ -49,9 +49,9 @@ unless_outside m (Some page) = Err (errors.Outside page)
 abbrev pub judged_node : Scheme → (pages : ℕ) → Child → Option Node → Result Node NodesErr
 judged_node s pages c None = Err (errors.Page c.id)
 judged_node s pages c (Some m) =
-    if bytes_eq c.digest (entry_of s m).digest
+    if bytes_eq c.digest (node_entry s m).digest
     then unless_outside m (outside_of pages m)
-    else Err (errors.Changed c.id c.digest (entry_of s m).digest)
+    else Err (errors.Changed c.id c.digest (node_entry s m).digest)
 
 -- What the bytes of a page in a file of so many pages give as the node of the child: the node of
 -- the child's level that they spell, or why it is refused.
@@ -61,9 +61,10 @@ judged form hash pages c page =
     judged_node (by form.version hash) pages c (of_level c.level (form.node_in page))
 
 -- just that is answered, and a node is shown
-abbrev pub Judges : {A : Type 0} → Result A NodesErr → view.Node → Result Node NodesErr → Type 0
-Judges (Ok _) n gives = gives ≡ Ok (page_node n)
-Judges (Err e) n gives = gives ≡ Err e
+abbrev pub ShowsJudged : {A : Type 0} → Result A NodesErr → view.Node → Result Node NodesErr →
+    Type 0
+ShowsJudged (Ok _) n gives = gives ≡ Ok (page_node n)
+ShowsJudged (Err e) n gives = gives ≡ Err e
 
 -- some bytes of a page are refused just so
 pub record GivenBySome (form : Form) (hash : List ℕ → List ℕ) (pages : ℕ) (c : Child)
@@ -83,7 +84,7 @@ IsGiven form hash pages c e = GivenBySome form hash pages c e
 
 -- the view shows a node of the version with the level and the digest of the child, whose children
 -- are in the file
-pub record IsRead (s : Scheme) (pages : ℕ) (c : Child) (n : view.Node) : Type 0 where
+pub record IsChildInFile (s : Scheme) (pages : ℕ) (c : Child) (n : view.Node) : Type 0 where
   pub shape : HasShape n
   pub level : view.level_of n ≡ c.level
   pub told : AreTold s.version n
@@ -93,7 +94,7 @@ pub record IsRead (s : Scheme) (pages : ℕ) (c : Child) (n : view.Node) : Type 
 -- a page's node is what is said of the child
 pub record IsSaid (s : Scheme) (pages : ℕ) (c : Child) (m : Node) : Type 0 where
   pub level : level_of m ≡ c.level
-  pub digest : (entry_of s m).digest ≡ c.digest
+  pub digest : (node_entry s m).digest ≡ c.digest
   pub inside : (n : view.Node) → page_node n ≡ m → AreInside pages n
 
 -- the node is shown, unless the shelf or the memory failed
@@ -130,12 +131,12 @@ IsBlamed pages c errors.Fault = ⊥
 IsBlamed pages c errors.NoMemory = ⊥
 
 -- why it is not shown; what was read is blamed only where a read was counted, and no fault
-abbrev pub IsRefused : (pages : ℕ) → List ℕ → Child → Shelved → Shelved → NodesErr → Type 0
-IsRefused pages name c before after errors.Missing =
+abbrev pub IsFetchRefused : (pages : ℕ) → List ℕ → Child → Shelved → Shelved → NodesErr → Type 0
+IsFetchRefused pages name c before after errors.Missing =
     MayMiss before.files name before.faults after.faults
-IsRefused pages name c before after errors.Fault = Rose before.faults after.faults
-IsRefused pages name c before after errors.NoMemory = ⊤
-IsRefused pages name c before after e = IsBlamed pages c e
+IsFetchRefused pages name c before after errors.Fault = Rose before.faults after.faults
+IsFetchRefused pages name c before after errors.NoMemory = ⊤
+IsFetchRefused pages name c before after e = IsBlamed pages c e
     × (after.reads ≡ next_count before.reads) × (after.faults ≡ before.faults)
 
 -- at most one read is counted, and no count falls
@@ -146,10 +147,10 @@ pub record ReadsOne (before after : Shelved) : Type 0 where
   pub one : after.reads ≤ next_count before.reads
 
 -- a shelf's refusal in a fetch's own words
-abbrev pub Refuses : ShelfErr → NodesErr → Type 0
-Refuses shelf.Missing e = e ≡ errors.Missing
-Refuses shelf.Fault e = e ≡ errors.Fault
-Refuses shelf.NoMemory e = e ≡ errors.NoMemory
+abbrev pub RefusesAsNodes : ShelfErr → NodesErr → Type 0
+RefusesAsNodes shelf.Missing e = e ≡ errors.Missing
+RefusesAsNodes shelf.Fault e = e ≡ errors.Fault
+RefusesAsNodes shelf.NoMemory e = e ≡ errors.NoMemory
 
 -- what was read is blamed only where a read was counted, or where their count stands at its last
 -- value

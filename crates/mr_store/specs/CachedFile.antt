@@ -12,7 +12,7 @@ use Rattle.mr_pages.specs.Page.{Form}
 use Rattle.mr_pages.specs.PageBytes.{form_of}
 use Rattle.mr_pages.specs.Source.{told_bytes, IsPage, TellsPage}
 use Rattle.mr_store.specs.declared.cached_file.CachedFile.{CachedFile}
-use Rattle.mr_store.specs.declared.kept.Kept.{Kept}
+use Rattle.mr_store.specs.declared.cached_node.CachedNode.{CachedNode}
 use Rattle.mr_store.specs.Kept as cache
 use Rattle.mr_store.specs.Again as again
 
@@ -42,12 +42,12 @@ module _ {S : Type 0} {G : Ghosts S} where
 
   -- ---- the nodes that are kept
 
-  abbrev pub entries_of : CachedFile S G → cache.Entries
+  abbrev pub entries_of : CachedFile S G → cache.CacheEntries
   entries_of f = f.cache.entries
 
   -- all that are kept can be shown
   abbrev pub AreShown : CachedFile S G → Type 0
-  AreShown f = (e : ℕ × Kept) → Contains (entries_of f) e → cache.IsShown e.1
+  AreShown f = (e : ℕ × CachedNode) → Contains (entries_of f) e → cache.IsShown e.1
 
   -- the page of the child is kept, with its level and its digest
   abbrev pub IsHeld : CachedFile S G → Child → Type 0
@@ -87,7 +87,7 @@ module _ {S : Type 0} {G : Ghosts S} where
   -- the view shows a node of the file's version with the level and the digest of the child, whose
   -- children are in the file
   abbrev pub IsRead : (List ℕ → List ℕ) → CachedFile S G → Child → view.Node → Type 0
-  IsRead hash f c n = again.IsRead (scheme_of hash f) f.pages c n
+  IsRead hash f c n = again.IsChildInFile (scheme_of hash f) f.pages c n
 
   -- where the file is told, and the node on the child's page is what is said of it, that is shown
   abbrev pub TellsNode : {A : Type 0} → (List ℕ → List ℕ) → CachedFile S G → Child →
@@ -105,4 +105,4 @@ module _ {S : Type 0} {G : Ghosts S} where
 
   -- why the child's node is not shown: what was read is blamed only where a read was counted
   abbrev pub IsRefused : Child → CachedFile S G → CachedFile S G → NodesErr → Type 0
-  IsRefused c f f' e = again.IsRefused f.pages (name_of f) c (state_of f) (state_of f') e
+  IsRefused c f f' e = again.IsFetchRefused f.pages (name_of f) c (state_of f) (state_of f') e

@@ -8,7 +8,7 @@ use Rattle.mr_tree.specs.Snapshot.{HasShape}
 use Rattle.mr_tree.specs.declared.child.Child.{Child}
 use Rattle.mr_pages.specs.declared.node.Node as owned_type
 use Rattle.mr_pages.specs.Walking.{owned}
-use Rattle.mr_store.specs.declared.kept.Kept.{Kept}
+use Rattle.mr_store.specs.declared.cached_node.CachedNode.{CachedNode}
 
 abbrev pub node_of : owned_type.Node → Node
 node_of = owned
@@ -18,16 +18,16 @@ abbrev pub room : ℕ
 room = 256
 
 -- the pages with what is kept of them
-abbrev pub Entries : Type 0
-Entries = List (ℕ × Kept)
+abbrev pub CacheEntries : Type 0
+CacheEntries = List (ℕ × CachedNode)
 
 -- the page is kept with the level and the digest of the child
-pub record IsThat (c : Child) (k : Kept) : Type 0 where
+pub record IsThat (c : Child) (k : CachedNode) : Type 0 where
   pub level : k.level ≡ c.level
   pub digest : k.digest ≡ c.digest
 
 -- the page of the child is kept, with its level and its digest
-abbrev pub IsHeld : Entries → Child → Type 0
+abbrev pub IsHeld : CacheEntries → Child → Type 0
 IsHeld es c = IsSomeAnd (lookup (nat_eq c.id) es) (IsThat c)
 
 -- each child's page is in a file of so many pages, and not page 0
@@ -35,13 +35,13 @@ abbrev pub AreInside : ℕ → Node → Type 0
 AreInside pages n = All (λ (c : Child). (1 ≤ c.id) × (c.id < pages)) (children_in n)
 
 -- what is kept can be shown
-pub record IsShown (k : Kept) : Type 0 where
+pub record IsShown (k : CachedNode) : Type 0 where
   pub shape : HasShape (node_of k.node)
   pub level : level_of (node_of k.node) ≡ k.level
 
 -- what is kept is a node of the version with this level and this digest, whose children are in the
 -- file
-pub record IsGood (s : Scheme) (pages : ℕ) (k : Kept) : Type 0 where
+pub record IsGood (s : Scheme) (pages : ℕ) (k : CachedNode) : Type 0 where
   pub shape : HasShape (node_of k.node)
   pub level : level_of (node_of k.node) ≡ k.level
   pub told : AreTold s.version (node_of k.node)
@@ -49,31 +49,31 @@ pub record IsGood (s : Scheme) (pages : ℕ) (k : Kept) : Type 0 where
   pub inside : AreInside pages (node_of k.node)
 
 -- the node of the child was found there
-pub record IsFound (es : Entries) (c : Child) (n : Node) : Type 0 where
-  pub kept : Kept
+pub record IsFound (es : CacheEntries) (c : Child) (n : Node) : Type 0 where
+  pub kept : CachedNode
   pub there : lookup (nat_eq c.id) es ≡ Some kept
   pub that : IsThat c kept
   pub node : n ≡ node_of kept.node
 
-abbrev pub Finds : Entries → Child → Bool → Node → Type 0
-Finds es c true n = IsFound es c n
-Finds es c false n = ¬ (IsHeld es c)
+abbrev pub FindsNode : CacheEntries → Child → Bool → Node → Type 0
+FindsNode es c true n = IsFound es c n
+FindsNode es c false n = ¬ (IsHeld es c)
 
 -- nothing is kept that was not before, and no page is dropped
-pub record Stays (before after : Entries) : Type 0 where
-  pub none_new : (e : ℕ × Kept) → Contains after e → Contains before e
+pub record KeepsEntries (before after : CacheEntries) : Type 0 where
+  pub none_new : (e : ℕ × CachedNode) → Contains after e → Contains before e
   pub none_lost : (page : ℕ) → IsSome (lookup (nat_eq page) before) →
       IsSome (lookup (nat_eq page) after)
 
 -- the node of the child is what is kept
-pub record IsKeptOf (c : Child) (n : Node) (e : ℕ × Kept) : Type 0 where
+pub record IsKeptOf (c : Child) (n : Node) (e : ℕ × CachedNode) : Type 0 where
   pub page : e.0 ≡ c.id
   pub that : IsThat c e.1
   pub node : node_of e.1.node ≡ n
 
 -- the node of the child was put there
-pub record Gains (room : ℕ) (before after : Entries) (c : Child) (n : Node) : Type 0 where
-  pub each : (e : ℕ × Kept) → Contains after e → Contains before e ⊎ IsKeptOf c n e
+pub record GainsNode (room : ℕ) (before after : CacheEntries) (c : Child) (n : Node) : Type 0 where
+  pub each : (e : ℕ × CachedNode) → Contains after e → Contains before e ⊎ IsKeptOf c n e
   pub put : IsSome (lookup (nat_eq c.id) after)
   pub held : IsHeld after c
   -- no page is dropped where it was there before, or there is room
@@ -82,21 +82,21 @@ pub record Gains (room : ℕ) (before after : Entries) (c : Child) (n : Node) : 
       IsSome (lookup (nat_eq page) after)
 
 -- nothing is kept that was not before, and of this page nothing
-pub record Forgets (page : ℕ) (before after : Entries) : Type 0 where
-  pub none_new : (e : ℕ × Kept) → Contains after e → Contains before e
-  pub gone : (e : ℕ × Kept) → Contains after e → e.0 ≢ page
+pub record Forgets (page : ℕ) (before after : CacheEntries) : Type 0 where
+  pub none_new : (e : ℕ × CachedNode) → Contains after e → Contains before e
+  pub gone : (e : ℕ × CachedNode) → Contains after e → e.0 ≢ page
 
 -- ---- the order of the last use, and what is dropped
 
 -- the pages that are kept, the one that was used last first, once this one is used
-abbrev pub used : (page : ℕ) → Entries → Entries
+abbrev pub used : (page : ℕ) → CacheEntries → CacheEntries
 used page es = promoted (nat_eq page) es
 
 -- The node of the child was put: it is now the one that was used last, and takes the place of what
 -- was kept of its page. Where nothing was, and the cache is full, the one that was used longest ago
 -- is dropped, and no other.
-pub record Puts (room : ℕ) (before after : Entries) (c : Child) (n : Node) : Type 0 where
-  pub kept : Kept
+pub record PutsNode (room : ℕ) (before after : CacheEntries) (c : Child) (n : Node) : Type 0 where
+  pub kept : CachedNode
   pub that : IsThat c kept
   pub node : node_of kept.node ≡ n
   pub entries : after ≡ put_entries nat_eq (lru_cache before room) c.id kept

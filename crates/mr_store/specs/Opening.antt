@@ -4,9 +4,9 @@ use Rattle.mr_outside.specs.Faults.{Rose}
 use Rattle.mr_outside.specs.State.{Shelved}
 use Rattle.mr_outside.specs.Told.{OfFile, MayMiss}
 use Rattle.mr_outside.specs.declared.shelf.Shelf as shelf
-use Rattle.mr_record.specs.Bytes.{AreBytes}
+use Rattle.mr_record.specs.private.Bytes.{AreBytes}
 use Rattle.mr_tree.specs.declared.hash.Hashes as hashes
-use Rattle.mr_tree.specs.Nodes.{Standing}
+use Rattle.mr_tree.specs.Nodes.{MapModel}
 use Rattle.mr_tree.specs.declared.tree.Tree.{Tree}
 use Rattle.mr_pages.specs.declared.error.MapErr.{MapErr}
 use Rattle.mr_pages.specs.declared.error.MapErr.TheVariants as errors
@@ -18,12 +18,12 @@ use Rattle.mr_pages.specs.File.{File, file_of, form_at}
 use Rattle.mr_pages.specs.Faults.{mapfault}
 use Rattle.mr_pages.specs.Source.{SaysHead, IsRootIn, AllKept, SaysOnce}
 use Rattle.mr_pages.specs.Walking.{child_link, head_of}
-use Rattle.mr_pages.specs.Opening.{pages_in, Fails, SomeBytes, SomeFile, Tells}
+use Rattle.mr_pages.specs.Opening.{pages_in, FailsWithoutFault, SomeBytes, SomeFile, TellsBytes}
 use Rattle.mr_store.specs.declared.cached_file.CachedFile.{CachedFile}
 use Rattle.mr_store.specs.declared.paged.Paged.{Paged}
 use Rattle.mr_store.specs.CachedFile.{state_of, name_of, page_form, entries_of}
 use Rattle.mr_store.specs.Paged.{shelved, stands_for}
-use Rattle.mr_store.specs.Paging.{sourced, Holds}
+use Rattle.mr_store.specs.private.Paging.{sourced, HoldsPage}
 
 -- how many pages a file of these bytes has
 abbrev pub page_total : List ℕ → ℕ
@@ -37,7 +37,7 @@ pub record WasChecked {S : Type 0} {G : shelf.Ghosts S} (hash : List ℕ → Lis
   pub fault : (g : File) → (sourced f).file ≡ Some g → mapfault hash g ≡ None
   pub head : (g : File) → (sourced f).file ≡ Some g → g.head ≡ Ok (head_of h)
   pub kept : (g : File) → (sourced f).file ≡ Some g →
-      AllKept g (option_map child_link h.root) (Holds f.pages (entries_of f))
+      AllKept g (option_map child_link h.root) (HoldsPage f.pages (entries_of f))
 
 -- the fault is that of the file, where this is told
 abbrev pub IsFaultOf : Form → (List ℕ → List ℕ) → Shelved → List ℕ → MapErr → Type 0
@@ -49,7 +49,7 @@ IsFaultOf form hash s name _ = ⊤
 pub record HasWhy (name : List ℕ) (before after : Shelved) (e : MapErr) : Type 0 where
   pub missing : e ≡ errors.Missing → MayMiss before.files name before.faults after.faults
   pub failed : e ≡ errors.Fault → Rose before.faults after.faults
-  pub quiet : (after.faults ≡ before.faults) ⊎ Fails (Err e)
+  pub quiet : (after.faults ≡ before.faults) ⊎ FailsWithoutFault (Err e)
   -- and no rule of a page that is read again
   pub once : SaysOnce e
 
@@ -68,12 +68,12 @@ pub record Refused (form : Form) (hash : List ℕ → List ℕ) (name : List ℕ
   pub why : HasWhy name before after e
 
 -- what is told of a map that was opened and stands for this, where its file has these bytes
-abbrev pub TellsMap : Form → (List ℕ → List ℕ) → Standing → List ℕ → Type 0
+abbrev pub TellsMap : Form → (List ℕ → List ℕ) → MapModel → List ℕ → Type 0
 TellsMap form hash s bytes = (t : Tree) × (s.tree ≡ Some t)
-    × Tells form hash bytes (Ok (record { tree = t; version = s.version; batch = s.batch }))
+    × TellsBytes form hash bytes (Ok (record { tree = t; version = s.version; batch = s.batch }))
 
 -- no map was opened in a file of so many pages of this layout, whose page 0 was read before
-pub record IsRefused (hash : List ℕ → List ℕ) (name : List ℕ) (layout : Layout) (pages : ℕ)
+pub record IsOpeningRefused (hash : List ℕ → List ℕ) (name : List ℕ) (layout : Layout) (pages : ℕ)
     (before after : Shelved) (e : MapErr) : Type 0 where
   pub refused : Refused (form_of layout) hash name before after e
   pub files : after.files ≡ before.files
@@ -84,7 +84,7 @@ pub record IsRefused (hash : List ℕ → List ℕ) (name : List ℕ) (layout : 
 -- the same of a file with its cache
 abbrev pub RefusesFile : {S : Type 0} {G : shelf.Ghosts S} → (List ℕ → List ℕ) →
     CachedFile S G → (after : Shelved) → MapErr → Type 0
-RefusesFile hash f after e = IsRefused hash (name_of f) f.layout f.pages (state_of f) after e
+RefusesFile hash f after e = IsOpeningRefused hash (name_of f) f.layout f.pages (state_of f) after e
 
 module _ {S H : Type 0} {G : shelf.Ghosts S} {K : hashes.Ghosts H} where
   -- one was opened there: reads rose by the pages behind page 0 at most, and no fault was counted
@@ -127,8 +127,8 @@ module _ {S H : Type 0} {G : shelf.Ghosts S} {K : hashes.Ghosts H} where
 -- why a file was not opened, which is read in the version that its bytes tell
 pub record RefusesFront (hash : List ℕ → List ℕ) (name : List ℕ) (before after : Shelved)
     (e : MapErr) : Type 0 where
-  pub answers : OfFile before.files name (Fails (Err e))
-      (λ bytes. Tells (form_at bytes) hash bytes (Err e))
+  pub answers : OfFile before.files name (FailsWithoutFault (Err e))
+      (λ bytes. TellsBytes (form_at bytes) hash bytes (Err e))
   -- told or not, a fault is the first of some bytes
   pub some : SomeFile hash (Err e)
   pub why : HasWhy name before after e
@@ -137,8 +137,8 @@ pub record RefusesFront (hash : List ℕ → List ℕ) (name : List ℕ) (before
 -- cause.
 pub record RefusesMap (hash : List ℕ → List ℕ) (name : List ℕ) (before after : Shelved)
     (e : MapErr) : Type 0 where
-  pub answers : OfFile before.files name (Fails (Err e))
-      (λ bytes. Tells (form_at bytes) hash bytes (Err e))
+  pub answers : OfFile before.files name (FailsWithoutFault (Err e))
+      (λ bytes. TellsBytes (form_at bytes) hash bytes (Err e))
   -- told or not, a fault is the first of some bytes
   pub some : SomeFile hash (Err e)
   pub why : HasWhy name before after e

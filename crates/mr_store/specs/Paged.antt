@@ -4,7 +4,7 @@ use Rattle.mr_outside.specs.Faults.{last_count}
 use Rattle.mr_outside.specs.State.{Shelved}
 use Rattle.mr_outside.specs.declared.shelf.Shelf as shelf
 use Rattle.mr_tree.specs.declared.hash.Hashes as hashes
-use Rattle.mr_tree.specs.Nodes.{Standing}
+use Rattle.mr_tree.specs.Nodes.{MapModel}
 use Rattle.mr_store.specs.declared.paged.Paged.{Paged}
 use Rattle.mr_store.specs.CachedFile.{IsSameFile, state_of}
 use Rattle.mr_store.specs.Stored.{map_on}
@@ -20,7 +20,7 @@ module _ {S H : Type 0} {G : shelf.Ghosts S} {K : hashes.Ghosts H} where
   shelved p = state_of p.file
 
   -- what the map stands for
-  abbrev pub stands_for : Paged S H G K → Standing
+  abbrev pub stands_for : Paged S H G K → MapModel
   stands_for p = map_on p.file p.head
 
   -- the map and the files are as before

@@ -2,7 +2,7 @@
 use Rattle.std.specs.Prelude.{ℕ, List, [], ◌∷◌, ◌++◌, Option, Some, None, option_map, nat_eq}
 use Rattle.std.specs.Map.{lookup}
 use Rattle.mr_record.specs.declared.version.Version.{Version}
-use Rattle.mr_tree.specs.Nodes.{Standing}
+use Rattle.mr_tree.specs.Nodes.{MapModel}
 use Rattle.mr_tree.specs.declared.tree.Tree.{Tree}
 use Rattle.mr_pages.specs.Stands.{Placed, Row, Leaf, Inner, no_more, first, tree_of, whole_tree}
 
@@ -25,8 +25,8 @@ abbrev pub tree_on : List (ℕ × Placed) → ℕ → Option Tree
 tree_on ps page = option_map tree_of (lookup (nat_eq page) ps)
 
 -- what a map of so many pages stands for, whose tree stands on these
-abbrev pub stood : Version → (batch span : ℕ) → Option Placed → Standing
-stood v batch span po = record {
+abbrev pub placed_model : Version → (batch span : ℕ) → Option Placed → MapModel
+placed_model v batch span po = record {
   version = v;
   batch = batch;
   span = span;
@@ -35,7 +35,7 @@ stood v batch span po = record {
 }
 
 -- the same of a map that is not told
-abbrev pub untold : Version → (batch span : ℕ) → Standing
+abbrev pub untold : Version → (batch span : ℕ) → MapModel
 untold v batch span = record {
   version = v;
   batch = batch;

@@ -3,14 +3,14 @@ use Rattle.std.specs.Prelude.{◌≡◌, ℕ, ◌+◌, ◌<◌, ◌≤◌, ◌�
 use Rattle.std.specs.Map.{lookup}
 use Rattle.mr_outside.specs.Files.{Files, file}
 use Rattle.mr_outside.specs.declared.shelf.Shelf.{Ghosts}
-use Rattle.mr_record.specs.Bytes.{AreBytes}
+use Rattle.mr_record.specs.private.Bytes.{AreBytes}
 use Rattle.mr_record.specs.declared.version.Version.{Version}
 use Rattle.mr_record.specs.Version as version
 use Rattle.mr_tree.specs.Limits.{count_limit, level_limit}
 use Rattle.mr_tree.specs.Digest.{by, entry}
-use Rattle.mr_tree.specs.Nodes.{Standing}
-use Rattle.mr_tree.specs.View.{MayTell, entry_of}
-use Rattle.mr_tree.specs.Snapshot.{standing, standing_of}
+use Rattle.mr_tree.specs.Nodes.{MapModel}
+use Rattle.mr_tree.specs.View.{MayTell, child_entry}
+use Rattle.mr_tree.specs.Snapshot.{snapshot_model, tree_model}
 use Rattle.mr_tree.specs.declared.nodes.Top.{Top}
 use Rattle.mr_tree.specs.declared.stored.Stored.{Stored}
 use Rattle.mr_tree.specs.declared.tree.Tree.{Tree}
@@ -23,12 +23,12 @@ use Rattle.mr_pages.specs.Page.{Link, Form, page_limit}
 use Rattle.mr_pages.specs.File.{file_of}
 use Rattle.mr_pages.specs.Stands.{Placed, whole_pages}
 use Rattle.mr_pages.specs.Faults.{mapfault}
-use Rattle.mr_pages.specs.Spelled.{placed_at}
+use Rattle.mr_pages.specs.private.Spelled.{placed_at}
 use Rattle.mr_pages.specs.Walking.{child_link, page_node, head_of}
-use Rattle.mr_store.specs.Parts.{stood, untold}
-use Rattle.mr_store.specs.Kept.{Entries, IsGood, node_of}
+use Rattle.mr_store.specs.Parts.{placed_model, untold}
+use Rattle.mr_store.specs.Kept.{CacheEntries, IsGood, node_of}
 pub use Rattle.mr_store.specs.Kept.{room}
-use Rattle.mr_store.specs.declared.kept.Kept.{Kept}
+use Rattle.mr_store.specs.declared.cached_node.CachedNode.{CachedNode}
 use Rattle.mr_store.specs.declared.cached_file.CachedFile.{CachedFile}
 use Rattle.mr_store.specs.CachedFile.{state_of, name_of, page_form, bytes_of, entries_of}
 
@@ -36,24 +36,26 @@ abbrev pub root_link : MapHead → Option Link
 root_link h = option_map child_link h.root
 
 -- the nodes of the map on the pages of a file of these bytes
-abbrev pub placed : Form → MapHead → List ℕ → Option Placed
-placed form h bytes = placed_at (file_of form bytes).node (root_link h)
+abbrev pub nodes_on_pages : Form → MapHead → List ℕ → Option Placed
+nodes_on_pages form h bytes = placed_at (file_of form bytes).node (root_link h)
 
 -- what such a file stands for, where its bytes are told, or else
-abbrev pub read_map : Form → MapHead → Option (List ℕ) → Standing
+abbrev pub read_map : Form → MapHead → Option (List ℕ) → MapModel
 read_map form h None = untold form.version h.batch h.pages
-read_map form h (Some bytes) = stood form.version h.batch h.pages (placed form h bytes)
+read_map form h (Some bytes) = placed_model form.version h.batch h.pages
+    (nodes_on_pages form h bytes)
 
 -- where the file's bytes are told: they have no fault, page 0 says this, and each page that is kept
 -- holds what is kept of it; where the cache has room for all nodes, all are kept
-pub record IsOpen (form : Form) (hash : List ℕ → List ℕ) (h : MapHead) (es : Entries)
+pub record IsOpen (form : Form) (hash : List ℕ → List ℕ) (h : MapHead) (es : CacheEntries)
     (bytes : List ℕ) : Type 0 where
   pub are : AreBytes bytes
   pub fault : mapfault hash (file_of form bytes) ≡ None
   pub head : (file_of form bytes).head ≡ Ok (head_of h)
-  pub same : (e : ℕ × Kept) → Contains es e →
+  pub same : (e : ℕ × CachedNode) → Contains es e →
       (file_of form bytes).node e.0 ≡ Some (page_node (node_of e.1.node))
-  pub all : h.pages ≤ room + 1 → (page : ℕ) → Contains (whole_pages (placed form h bytes)) page →
+  pub all : h.pages ≤ room + 1 → (page : ℕ) → Contains (whole_pages (nodes_on_pages form h bytes))
+      page →
       IsSome (lookup (nat_eq page) es)
 
 -- the root's page is in a file of so many pages, and of its node nothing is told that its version
@@ -67,13 +69,13 @@ pub record IsRootOf (v : Version) (count pages : ℕ) (c : Child) : Type 0 where
 
 -- what is known of an opened map, whether or not its file is told
 pub record IsStored (form : Form) (hash : List ℕ → List ℕ) (told : Option Files) (name : List ℕ)
-    (h : MapHead) (es : Entries) (size : ℕ) : Type 0 where
+    (h : MapHead) (es : CacheEntries) (size : ℕ) : Type 0 where
   pub few : h.count ≤ count_limit
   pub paged : h.pages ≤ page_limit
   pub none : (h.count ≡ 0) ↔ IsNone h.root
   pub root : IfSome h.root (IsRootOf form.version h.count h.pages)
   pub cap : size ≡ room
-  pub good : (e : ℕ × Kept) → Contains es e → IsGood (by form.version hash) h.pages e.1
+  pub good : (e : ℕ × CachedNode) → Contains es e → IsGood (by form.version hash) h.pages e.1
   -- a file that is told is there
   pub there : MatchOption told ⊤ (λ files. IsSome (file files name))
   pub open_ : IfSome (told_bytes told name) (IsOpen form hash h es)
@@ -85,13 +87,13 @@ pub record IsStore {S : Type 0} {G : Ghosts S} (hash : List ℕ → List ℕ) (f
   pub is : IsStored (page_form f) hash (state_of f).files (name_of f) h (entries_of f) f.cache.cap
 
 -- the map that stands on the pages of a file, whose page 0 says this
-abbrev pub map_on : {S : Type 0} {G : Ghosts S} → CachedFile S G → MapHead → Standing
+abbrev pub map_on : {S : Type 0} {G : Ghosts S} → CachedFile S G → MapHead → MapModel
 map_on f h = read_map (page_form f) h (bytes_of f)
 
 -- the snapshot with these nodes and this head is of the map, where its tree is told
-abbrev pub StandsFor : Standing → List Stored → Top → Type 0
-StandsFor s nodes top = (t : Tree) → s.tree ≡ Some t →
-    standing nodes top ≡ standing_of s.version s.batch t
+abbrev pub IsSnapshotOf : MapModel → List Stored → Top → Type 0
+IsSnapshotOf s nodes top = (t : Tree) → s.tree ≡ Some t →
+    snapshot_model nodes top ≡ tree_model s.version s.batch t
 
 -- what page 0 says of the map
 abbrev pub top_in : Version → MapHead → Top
@@ -99,15 +101,15 @@ top_in v h = record { version = v; batch = h.batch; count = h.count; root = h.ro
 
 -- the tree in memory is of a map that says this of itself: at its batch, with as many records as it
 -- says, and with the level, rectangle and digest that it says of its root node
-pub record IsSaid (hash : List ℕ → List ℕ) (top : Top) (s : Standing) : Type 0 where
+pub record IsSaid (hash : List ℕ → List ℕ) (top : Top) (s : MapModel) : Type 0 where
   pub version : s.version ≡ top.version
   pub batch : s.batch ≡ top.batch
   pub tree : Tree
   pub told : s.tree ≡ Some tree
   pub count : length (records tree) ≡ top.count
-  pub root : IfSome top.root (λ c. entry (by s.version hash) tree ≡ entry_of c)
+  pub root : IfSome top.root (λ c. entry (by s.version hash) tree ≡ child_entry c)
 
 -- the file of these bytes stands for the map
-abbrev pub IsMapOf : Form → (List ℕ → List ℕ) → Standing → List ℕ → Type 0
+abbrev pub IsMapOf : Form → (List ℕ → List ℕ) → MapModel → List ℕ → Type 0
 IsMapOf form hash s bytes =
     (t : Tree) × (s.tree ≡ Some t) × IsMap form hash bytes t s.batch

@@ -2,10 +2,10 @@
 
 ghost use Rattle.std.specs.Prelude.{◌≡◌, ℕ, true, false, [], nat_eq, IfOk, OnOk, OnErr, Contains};
 ghost use Rattle.std.specs.Map.{remove_entry};
-ghost use Rattle.mr_store.specs.declared.kept.Kept.{Kept};
-ghost use Rattle.mr_store.specs.Kept.{node_of, room, IsShown, Finds, Forgets, Stays, Gains, used, Puts};
+ghost use Rattle.mr_store.specs.declared.cached_node.CachedNode.{CachedNode};
+ghost use Rattle.mr_store.specs.Kept.{node_of, room, IsShown, FindsNode, Forgets, KeepsEntries, GainsNode, used, PutsNode};
 
-use crate::kept::{Kept, show};
+use crate::cached_node::{CachedNode, show};
 use crate::reading::are_same;
 use lru::LruCache;
 use mr_pages::Node;
@@ -17,7 +17,7 @@ use std::num::NonZeroUsize;
 const ROOM: usize = 256;
 
 // A cache of node pages in which none is kept yet.
-pub(crate) fn empty_cache(alloc: Global) -> Result<LruCache<u32, Kept>, AllocError>
+pub(crate) fn empty_cache(alloc: Global) -> Result<LruCache<u32, CachedNode>, AllocError>
     ensures entries { IfOk result (λ c. c.entries ≡ []) }
     ensures cap { IfOk result (λ c. c.cap ≡ room) }
 {
@@ -28,9 +28,9 @@ pub(crate) fn empty_cache(alloc: Global) -> Result<LruCache<u32, Kept>, AllocErr
 }
 
 // Shows the node of the child, if its page is kept with its level and its digest.
-pub(crate) fn find(cache: &LruCache<u32, Kept>, child: &Child, into: &mut NodeView) -> bool
-    requires { (e : ℕ × Kept) → Contains cache.now.entries e → IsShown e.1 }
-    ensures { Finds cache.now.entries child.now result into.new }
+pub(crate) fn find(cache: &LruCache<u32, CachedNode>, child: &Child, into: &mut NodeView) -> bool
+    requires { (e : ℕ × CachedNode) → Contains cache.now.entries e → IsShown e.1 }
+    ensures { FindsNode cache.now.entries child.now result into.new }
 {
     match cache.peek(&child.id) {
         None => false,
@@ -48,8 +48,8 @@ pub(crate) fn find(cache: &LruCache<u32, Kept>, child: &Child, into: &mut NodeVi
 }
 
 // What is kept of a page becomes the last that would be dropped.
-pub(crate) fn touch(cache: &mut LruCache<u32, Kept>, page: u32)
-    ensures stays { Stays cache.old.entries cache.new.entries }
+pub(crate) fn touch(cache: &mut LruCache<u32, CachedNode>, page: u32)
+    ensures stays { KeepsEntries cache.old.entries cache.new.entries }
     ensures uses { cache.new.entries ≡ used page cache.old.entries }
     ensures cap { cache.new.cap ≡ cache.old.cap }
 {
@@ -59,18 +59,18 @@ pub(crate) fn touch(cache: &mut LruCache<u32, Kept>, page: u32)
 // Keeps the node of the child. Where the cache is full, what was not used for the longest time is
 // dropped.
 pub(crate) fn put(
-    cache: &mut LruCache<u32, Kept>,
+    cache: &mut LruCache<u32, CachedNode>,
     child: &Child,
     node: Node,
 ) -> Result<(), AllocError>
     ensures gains { OnOk result
-        (Gains cache.old.cap cache.old.entries cache.new.entries child.now (node_of node)) }
+        (GainsNode cache.old.cap cache.old.entries cache.new.entries child.now (node_of node)) }
     ensures puts { OnOk result
-        (Puts cache.old.cap cache.old.entries cache.new.entries child.now (node_of node)) }
+        (PutsNode cache.old.cap cache.old.entries cache.new.entries child.now (node_of node)) }
     ensures same { OnErr result (cache.new ≡ cache.old) }
     ensures cap { cache.new.cap ≡ cache.old.cap }
 {
-    let kept = Kept {
+    let kept = CachedNode {
         level: child.level,
         digest: child.digest,
         node,
@@ -80,7 +80,7 @@ pub(crate) fn put(
 }
 
 // Keeps nothing of a page any more.
-pub(crate) fn forget(cache: &mut LruCache<u32, Kept>, page: u32)
+pub(crate) fn forget(cache: &mut LruCache<u32, CachedNode>, page: u32)
     ensures exact { cache.new.entries ≡ remove_entry (nat_eq page) cache.old.entries }
     ensures forgets { Forgets page cache.old.entries cache.new.entries }
     ensures cap { cache.new.cap ≡ cache.old.cap }

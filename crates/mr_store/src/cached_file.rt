@@ -7,8 +7,8 @@ ghost use Rattle.mr_pages.specs.PageBytes.{layout_by, IsLayout};
 ghost use Rattle.mr_pages.specs.Source.{IsPage, TellsPage};
 
 use crate::cache::{empty_cache, find, forget, put, touch};
-use crate::kept::Kept;
-use crate::reading::{judge, refusal};
+use crate::cached_node::CachedNode;
+use crate::reading::{check_page, refusal};
 use lru::LruCache;
 use mr_outside::{Shelf, ShelfErr};
 use mr_pages::{Layout, Node, SECOND_SIZE, free_on, page_into};
@@ -23,14 +23,14 @@ pub struct CachedFile<S: Shelf> {
     pub layout: Layout,
     /// How many pages there are, page 0 included.
     pub pages: u32,
-    pub cache: LruCache<u32, Kept>,
+    pub cache: LruCache<u32, CachedNode>,
     ghost fits: { IsLayout layout },
     ghost sized: { layout.size ≡ (layout_by layout.version).size },
 }
 
 impl<S: Shelf> CachedFile<S> {
     ghost use Rattle.mr_store.specs.Again.{ReadsOne};
-    ghost use Rattle.mr_store.specs.Kept.{node_of, room, Finds, Forgets, Gains, Puts, Stays, used};
+    ghost use Rattle.mr_store.specs.Kept.{node_of, room, FindsNode, Forgets, GainsNode, PutsNode, KeepsEntries, used};
     ghost use Rattle.mr_store.specs.CachedFile.{state_of, name_of, page_form, entries_of, OfBytes, AreShown, IsHeld, OnlyReads, OnlyKeeps, GivesFree, IsRead, TellsNode, HasNode, IsGiven, IsRefused};
 
     /// A file of which no node is kept yet. Where there is no memory, the shelf is handed back.
@@ -82,7 +82,7 @@ impl<S: Shelf> CachedFile<S> {
         requires size { length into.old ≡ self.old.layout.size }
         ensures told { OnOk result (OfBytes self.old ⊥
             (TellsPage (page_form self.old) page into.new)) }
-        ensures is { OnOk result (IsPage (page_form self.old) into.new) }
+        ensures page { OnOk result (IsPage (page_form self.old) into.new) }
         ensures causes { ShelfCauses (name_of self.old) (state_of self.old) (state_of self.new)
             result }
         ensures reads { CountsRead (state_of self.old) (state_of self.new) result }
@@ -128,7 +128,7 @@ impl<S: Shelf> CachedFile<S> {
         let mut room = [0; SECOND_SIZE];
         let (bytes, _) = room.split_at_mut(layout.size);
         match self.read_page(child.id, bytes) {
-            Ok(()) => judge::<H>(layout, bytes, pages, child, into),
+            Ok(()) => check_page::<H>(layout, bytes, pages, child, into),
             Err(error) => Err(refusal(error)),
         }
     }
@@ -136,7 +136,7 @@ impl<S: Shelf> CachedFile<S> {
     /// Shows the node of the child, if its page is kept with its level and its digest.
     pub fn find(&self, child: &Child, into: &mut NodeView) -> bool
         requires { AreShown self.now }
-        ensures { Finds (entries_of self.now) child.now result into.new }
+        ensures { FindsNode (entries_of self.now) child.now result into.new }
     {
         find(&self.cache, child, into)
     }
@@ -144,7 +144,7 @@ impl<S: Shelf> CachedFile<S> {
     /// What is kept of a page becomes the last that would be dropped.
     pub fn touch(&mut self, page: u32)
         ensures uses { entries_of self.new ≡ used page (entries_of self.old) }
-        ensures stays { Stays (entries_of self.old) (entries_of self.new) }
+        ensures stays { KeepsEntries (entries_of self.old) (entries_of self.new) }
         ensures only { OnlyKeeps self.old self.new }
     {
         touch(&mut self.cache, page);
@@ -153,8 +153,8 @@ impl<S: Shelf> CachedFile<S> {
     /// Does both.
     pub fn recall(&mut self, child: &Child, into: &mut NodeView) -> bool
         requires { AreShown self.old }
-        ensures finds { Finds (entries_of self.old) child.now result into.new }
-        ensures stays { Stays (entries_of self.old) (entries_of self.new) }
+        ensures finds { FindsNode (entries_of self.old) child.now result into.new }
+        ensures stays { KeepsEntries (entries_of self.old) (entries_of self.new) }
         ensures same { result ≡ false → self.new.cache ≡ self.old.cache }
         ensures caches { result ≡ true → IsHeld self.new child.now }
         ensures uses { result ≡ true →
@@ -171,9 +171,9 @@ impl<S: Shelf> CachedFile<S> {
     /// Keeps a node as that of the child. Where the cache is full, what was not used for the
     /// longest time is dropped, and nothing else.
     pub fn keep(&mut self, child: &Child, node: Node) -> Result<(), AllocError>
-        ensures gains { OnOk result (Gains self.old.cache.cap (entries_of self.old)
+        ensures gains { OnOk result (GainsNode self.old.cache.cap (entries_of self.old)
             (entries_of self.new) child.now (node_of node)) }
-        ensures puts { OnOk result (Puts self.old.cache.cap (entries_of self.old)
+        ensures puts { OnOk result (PutsNode self.old.cache.cap (entries_of self.old)
             (entries_of self.new) child.now (node_of node)) }
         ensures same { OnErr result (self.new.cache ≡ self.old.cache) }
         ensures only { OnlyKeeps self.old self.new }
@@ -188,9 +188,9 @@ impl<S: Shelf> CachedFile<S> {
         child: &Child,
         view: &NodeView,
     ) -> Result<(), AllocError>
-        ensures gains { OnOk result (Gains self.old.cache.cap (entries_of self.old)
+        ensures gains { OnOk result (GainsNode self.old.cache.cap (entries_of self.old)
             (entries_of self.new) child.now view.now) }
-        ensures puts { OnOk result (Puts self.old.cache.cap (entries_of self.old)
+        ensures puts { OnOk result (PutsNode self.old.cache.cap (entries_of self.old)
             (entries_of self.new) child.now view.now) }
         ensures same { OnErr result (self.new.cache ≡ self.old.cache) }
         ensures only { OnlyKeeps self.old self.new }

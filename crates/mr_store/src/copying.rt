@@ -2,14 +2,14 @@
 
 ghost use Rattle.std.specs.Prelude.{◌≡◌, ◌≤◌, ◌+◌, length, IfOk, IfErr, IfSome, OnOk, Some};
 ghost use Rattle.mr_tree.specs.Nodes.{HasSomeCause, IsTop, TellsRefusal, subtrees};
-ghost use Rattle.mr_tree.specs.Snapshot.{AreLinked, IsPlaced, standing, tree_of};
+ghost use Rattle.mr_tree.specs.Snapshot.{AreLinked, IsPlaced, snapshot_model, tree_of};
 ghost use Rattle.mr_tree.specs.declared.nodes.NodesErr.TheVariants as errors;
-ghost use Rattle.mr_store.specs.Copying.{IsPut};
-ghost use Rattle.mr_store.specs.Stored.{IsSaid, StandsFor};
+ghost use Rattle.mr_store.specs.private.Copying.{IsPut};
+ghost use Rattle.mr_store.specs.Stored.{IsSaid, IsSnapshotOf};
 
 use crate::walk::{Gather, walk};
 use mr_outside::Items;
-use mr_pages::Seen;
+use mr_pages::Visited;
 use mr_record::Record;
 use mr_tree::{Child, NodeView, Nodes, NodesErr, Snapshot, Stored, Top};
 use std::alloc::Global;
@@ -58,18 +58,19 @@ fn copied_from<N: Nodes>(
     requires top { IsTop N.Hash.of (N.stands nodes.old) top.now }
     requires root { top.now.root ≡ Some root.now }
     ensures kept { N.kept nodes.old nodes.new }
-    ensures stands { IfOk result (λ p. StandsFor (N.stands nodes.old) p.nodes.items p.top) }
-    ensures says { IfOk result (λ p. IsSaid N.Hash.of top.now (standing p.nodes.items p.top)) }
+    ensures stands { IfOk result (λ p. IsSnapshotOf (N.stands nodes.old) p.nodes.items p.top) }
+    ensures says { IfOk result (λ p. IsSaid N.Hash.of top.now
+        (snapshot_model p.nodes.items p.top)) }
     ensures fetched { IfSome (N.stands nodes.old).tree (λ t. N.fetches nodes.new ≤
         N.fetches nodes.old + length (subtrees t)) }
-    ensures once { IfOk result (λ p. N.fetches nodes.new
+    ensures fetches_at_most { IfOk result (λ p. N.fetches nodes.new
         ≤ N.fetches nodes.old + length (subtrees (tree_of p.nodes.items p.top))) }
     ensures quiet { OnOk result (N.faults nodes.new ≡ N.faults nodes.old) }
     ensures answered { TellsRefusal (λ e. e) (N.refusal nodes.old) (N.refusal nodes.new) result }
     ensures cause { IfErr result (HasSomeCause (N.stands nodes.old)
         (N.faults nodes.old) (N.faults nodes.new)) }
 {
-    let mut seen = Seen::new(alloc, pages)?;
+    let mut seen = Visited::new(alloc, pages)?;
     let mut into = Copies {
         alloc,
         nodes: Vec::new(alloc),
@@ -108,11 +109,12 @@ pub(crate) fn copied<N: Nodes>(
 ) -> Result<Snapshot<N::Hash>, NodesErr>
     requires top { IsTop N.Hash.of (N.stands nodes.old) top.now }
     ensures kept { N.kept nodes.old nodes.new }
-    ensures stands { IfOk result (λ p. StandsFor (N.stands nodes.old) p.nodes.items p.top) }
-    ensures says { IfOk result (λ p. IsSaid N.Hash.of top.now (standing p.nodes.items p.top)) }
+    ensures stands { IfOk result (λ p. IsSnapshotOf (N.stands nodes.old) p.nodes.items p.top) }
+    ensures says { IfOk result (λ p. IsSaid N.Hash.of top.now
+        (snapshot_model p.nodes.items p.top)) }
     ensures fetched { IfSome (N.stands nodes.old).tree (λ t. N.fetches nodes.new ≤
         N.fetches nodes.old + length (subtrees t)) }
-    ensures once { IfOk result (λ p. N.fetches nodes.new
+    ensures fetches_at_most { IfOk result (λ p. N.fetches nodes.new
         ≤ N.fetches nodes.old + length (subtrees (tree_of p.nodes.items p.top))) }
     ensures quiet { OnOk result (N.faults nodes.new ≡ N.faults nodes.old) }
     ensures answered { TellsRefusal (λ e. e) (N.refusal nodes.old) (N.refusal nodes.new) result }

@@ -4,9 +4,9 @@
 
 mod cache;
 mod cached_file;
+mod cached_node;
 mod copying;
 mod fetching;
-mod kept;
 mod listing;
 mod memory;
 mod opening;
@@ -16,7 +16,7 @@ mod reading;
 mod walk;
 
 pub use cached_file::CachedFile;
-pub use kept::Kept;
+pub use cached_node::CachedNode;
 pub use listing::directory;
 pub use paged::Paged;
 pub use paging::Paging;

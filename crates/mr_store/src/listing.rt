@@ -7,13 +7,13 @@ ghost use Rattle.mr_tree.specs.Tree.{records as records_in};
 ghost use Rattle.mr_tree.specs.declared.nodes.NodesErr.TheVariants as errors;
 ghost use Rattle.mr_tree.specs.Nodes.{MayFetch, HasSomeCause, TellsRefusal, subtrees};
 ghost use Rattle.mr_batch.specs.Directory.{IsDirectoryOf};
-ghost use Rattle.mr_store.specs.Walk.{HasSeenNone, Refuses, nodes_at};
-ghost use Rattle.mr_store.specs.Listing.{entry_of, ListsAt, Gathers, HasAt, CanList, CanListAll};
+ghost use Rattle.mr_store.specs.private.Walk.{HasSeenNone, StopsWalk, nodes_at};
+ghost use Rattle.mr_store.specs.private.Listing.{directory_entry, ListsAt, GathersDirectory, HasAt, CanList, CanListAll};
 
 use crate::walk::{Gather, walk};
 use mr_batch::Directory;
 use mr_geom::Rect;
-use mr_pages::Seen;
+use mr_pages::Visited;
 use mr_record::{Record, Version};
 use mr_tree::{COUNT_LIMIT, Child, LEAF_LIMIT, NodeView, Nodes, NodesErr};
 use std::alloc::{AllocError, Global};
@@ -27,7 +27,7 @@ struct Entries {
 
 // Lists the number and the rectangle of each of these records.
 fn list_records(all: &mut Vec<(u64, Rect)>, records: &[Record]) -> Result<(), AllocError>
-    ensures { OnOk result (all.new.items ≡ all.old.items ++ map entry_of records.now) }
+    ensures { OnOk result (all.new.items ≡ all.old.items ++ map directory_entry records.now) }
 {
     for one in records {
         all.push((one.number, one.rect))?;
@@ -36,7 +36,8 @@ fn list_records(all: &mut Vec<(u64, Rect)>, records: &[Record]) -> Result<(), Al
 }
 
 impl Gather for Entries {
-    ghost gathers = { λ x s t c u. t.all.items ≡ s.all.items ++ map entry_of (records_in u) };
+    ghost gathers = { λ x s t c u. t.all.items ≡ s.all.items ++ map directory_entry
+        (records_in u) };
 
     fn leaf(&mut self, _child: &Child, records: &[Record]) -> Result<u32, NodesErr> {
         list_records(&mut self.all, records)?;
@@ -50,12 +51,12 @@ impl Gather for Entries {
 }
 
 // What a walk over a map of so many records has seen before it begins.
-fn unseen(alloc: Global, count: u64) -> Result<Seen, NodesErr>
+fn unseen(alloc: Global, count: u64) -> Result<Visited, NodesErr>
     ensures none { IfOk result HasSeenNone }
     ensures memory { IfErr result (λ e. e ≡ errors.NoMemory) }
 {
     let leaves = count.min(COUNT_LIMIT) / LEAF_LIMIT as u64 + 1;
-    Ok(Seen::new(alloc, leaves as u32)?)
+    Ok(Visited::new(alloc, leaves as u32)?)
 }
 
 // Room for so many records.
@@ -82,7 +83,7 @@ fn listed<N: Nodes>(
         ≤ N.fetches nodes.old + nodes_at ((N.stands nodes.old).node root.now.id) }
     ensures quiet { OnOk result (N.faults nodes.new ≡ N.faults nodes.old) }
     ensures answered { TellsRefusal (λ e. e) (N.refusal nodes.old) (N.refusal nodes.new) result }
-    ensures cause { IfErr result (Refuses (N.stands nodes.old) (N.faults nodes.old)
+    ensures cause { IfErr result (StopsWalk (N.stands nodes.old) (N.faults nodes.old)
         (N.faults nodes.new) (CanList (N.stands nodes.old) root.now)) }
 {
     let mut seen = unseen(alloc, count)?;
@@ -105,7 +106,7 @@ fn collected(alloc: Global, all: Vec<(u64, Rect)>) -> Result<BTreeMap<u64, Rect>
 
 // The same as a directory.
 fn gathered(alloc: Global, all: Vec<(u64, Rect)>) -> Result<Directory, NodesErr>
-    ensures lists { IfOk result (Gathers all.items) }
+    ensures lists { IfOk result (GathersDirectory all.items) }
     ensures memory { IfErr result (λ e. e ≡ errors.NoMemory) }
 {
     Ok(Directory::over(collected(alloc, all)?))
@@ -139,7 +140,7 @@ fn list_all<N: Nodes>(
         ≤ N.fetches nodes.old + nodes_at ((N.stands nodes.old).node root.now.id) }
     ensures quiet { OnOk result (N.faults nodes.new ≡ N.faults nodes.old) }
     ensures answered { TellsRefusal (λ e. e) (N.refusal nodes.old) (N.refusal nodes.new) result }
-    ensures cause { IfErr result (Refuses (N.stands nodes.old) (N.faults nodes.old)
+    ensures cause { IfErr result (StopsWalk (N.stands nodes.old) (N.faults nodes.old)
         (N.faults nodes.new) (CanListAll (N.stands nodes.old) root.now count)) }
 {
     let all = listed(alloc, version, nodes, root, count)?;

@@ -2,9 +2,9 @@
 
 ghost use Rattle.std.specs.Prelude.{◌≡◌, ◌≤◌, ◌+◌, length, IfOk, IfErr, IfSome, OnOk};
 ghost use Rattle.mr_tree.specs.Nodes.{HasSomeCause, TellsRefusal, subtrees};
-ghost use Rattle.mr_tree.specs.Snapshot.{standing, tree_of};
+ghost use Rattle.mr_tree.specs.Snapshot.{snapshot_model, tree_of};
 ghost use Rattle.mr_store.specs.Paged.{shelved, stands_for, Keeps};
-ghost use Rattle.mr_store.specs.Stored.{top_in, IsSaid, StandsFor};
+ghost use Rattle.mr_store.specs.Stored.{top_in, IsSaid, IsSnapshotOf};
 
 use crate::copying::copied;
 use crate::paged::Paged;
@@ -34,15 +34,16 @@ impl<S: Shelf, H: Hash32> Paged<S, H> {
     /// it tells.
     pub fn snapshot(&mut self) -> Result<Snapshot<H>, NodesErr>
         ensures kept { Keeps self.old self.new }
-        ensures stands { IfOk result (λ p. StandsFor (stands_for self.old) p.nodes.items p.top) }
+        ensures stands { IfOk result (λ p. IsSnapshotOf (stands_for self.old) p.nodes.items p.top) }
         // Told or not, it is of the map that page 0 told of.
         ensures says { IfOk result (λ p. IsSaid H.of
-            (top_in self.old.file.layout.version self.old.head) (standing p.nodes.items p.top)) }
+            (top_in self.old.file.layout.version self.old.head)
+            (snapshot_model p.nodes.items p.top)) }
         // There are no more fetches than nodes.
         ensures fetched { IfSome (stands_for self.old).tree
             (λ t. self.new.fetches ≤ self.old.fetches + length (subtrees t)) }
         // Told or not, there are no more of them than nodes of the map in memory.
-        ensures once { IfOk result (λ p. self.new.fetches
+        ensures fetches_at_most { IfOk result (λ p. self.new.fetches
             ≤ self.old.fetches + length (subtrees (tree_of p.nodes.items p.top))) }
         ensures cause { IfErr result (HasSomeCause (stands_for self.old)
             (shelved self.old).faults (shelved self.new).faults) }

@@ -2,14 +2,14 @@
 
 ghost use Rattle.std.specs.Prelude.{◌≡◌, ◌≤◌, ◌+◌, ℕ, List, ⊤, length, IfOk, IfErr, None, OnOk, OnErr, MatchResult};
 ghost use Rattle.mr_outside.specs.Told.{OfFile};
-ghost use Rattle.mr_record.specs.Bytes.{AreBytes};
+ghost use Rattle.mr_record.specs.private.Bytes.{AreBytes};
 ghost use Rattle.mr_pages.specs.Page.{page_limit};
 ghost use Rattle.mr_pages.specs.PageBytes.{page_size, layout_by, form_of, IsLayout};
 ghost use Rattle.mr_pages.specs.File.{version_of};
 ghost use Rattle.mr_pages.specs.Opening.{pages_in};
-ghost use Rattle.mr_pages.specs.Source.{IsPaged, IsFront};
+ghost use Rattle.mr_pages.specs.Source.{IsPaged, IsFrontOfFile};
 ghost use Rattle.mr_store.specs.CachedFile.{name_of, page_form, OfBytes};
-ghost use Rattle.mr_store.specs.Opening.{WasChecked, TellsMap, IsOpened, IsRefused, OpensFile, RefusesFile, OpensMap, RefusesFront, RefusesMap};
+ghost use Rattle.mr_store.specs.Opening.{WasChecked, TellsMap, IsOpened, IsOpeningRefused, OpensFile, RefusesFile, OpensMap, RefusesFront, RefusesMap};
 ghost use Rattle.mr_store.specs.Paged.{stands_for};
 
 use crate::cached_file::CachedFile;
@@ -58,10 +58,10 @@ fn read_first<H: Hashes, S: Shelf>(
         (λ bytes. page_size ≤ length bytes)) }
     ensures paged { IfOk result (λ f. IsPaged (form_of f.layout) f.pages (S.state shelf.old).files
         name.now) }
-    ensures some { IfOk result (λ f. 1 ≤ f.pages) }
-    ensures few { IfOk result (λ f. f.pages ≤ page_limit) }
+    ensures not_empty { IfOk result (λ f. 1 ≤ f.pages) }
+    ensures at_most { IfOk result (λ f. f.pages ≤ page_limit) }
     ensures front { OnOk result (OfFile (S.state shelf.old).files name.now ⊥
-        (λ bytes. IsFront bytes room.new)) }
+        (λ bytes. IsFrontOfFile bytes room.new)) }
     ensures refused { IfErr result
         (RefusesFront H.of name.now (S.state shelf.old) (S.state shelf.new)) }
     ensures files { (S.state shelf.new).files ≡ (S.state shelf.old).files }
@@ -152,10 +152,11 @@ fn opened<S: Shelf, H: Hash32>(
     requires paged { IsPaged (form_of front.layout) front.pages (S.state shelf).files name.now }
     requires some { 1 ≤ front.pages }
     requires few { front.pages ≤ page_limit }
-    requires front { OfFile (S.state shelf).files name.now ⊥ (λ bytes. IsFront bytes room.now) }
+    requires front { OfFile (S.state shelf).files name.now ⊥
+        (λ bytes. IsFrontOfFile bytes room.now) }
     ensures opened { MatchResult result
         (IsOpened H.of name.now front.layout front.pages (S.state shelf))
-        (λ r. IsRefused H.of name.now front.layout front.pages (S.state shelf)
+        (λ r. IsOpeningRefused H.of name.now front.layout front.pages (S.state shelf)
         (S.state r.0) r.1) }
     ensures unrefused { IfOk result (λ p. p.refusal ≡ None) }
 {

@@ -2,8 +2,8 @@
 
 ghost use Rattle.std.specs.Prelude.{◌≡◌, ◌≤◌, ◌+◌, length, Some, IfOk, IfErr, OnOk, OnErr, IsOk};
 ghost use Rattle.mr_outside.specs.Faults.{next_count};
-ghost use Rattle.mr_tree.specs.Nodes.{MayFetch, Shows, HasCause};
-ghost use Rattle.mr_store.specs.Kept.{room, used, Puts};
+ghost use Rattle.mr_tree.specs.Nodes.{MayFetch, ShowsNode, HasFetchCause};
+ghost use Rattle.mr_store.specs.Kept.{room, used, PutsNode};
 ghost use Rattle.mr_store.specs.Again.{ReadsOne, Reread};
 ghost use Rattle.mr_outside.specs.Reading.{piece_count};
 ghost use Rattle.mr_outside.specs.Causes.{ShelfCauses};
@@ -35,7 +35,7 @@ pub struct Paged<S: Shelf, H: Hash32> {
 
 impl<S: Shelf, H: Hash32> Nodes for Paged<S, H> {
     ghost use Rattle.mr_store.specs.Paged.{shelved, stands_for, Keeps};
-    ghost use Rattle.mr_store.specs.Laws.{keeps_self, keeps_on, keeps_stands, is_well_formed, is_layered, has_ids};
+    ghost use Rattle.mr_store.specs.private.Laws.{keeps_self, keeps_on, keeps_stands, is_well_formed, is_layered, has_ids};
 
     type Hash = H;
 
@@ -62,8 +62,8 @@ impl<S: Shelf, H: Hash32> Nodes for Paged<S, H> {
         requires { MayFetch H.of (stands_for self.old) child.now }
         ensures kept { Keeps self.old self.new }
         ensures counted { self.new.fetches ≡ next_count self.old.fetches }
-        ensures shows { OnOk result (Shows H.of (stands_for self.old) child.now into.new) }
-        ensures cause { IfErr result (HasCause (stands_for self.old) child.now
+        ensures shows { OnOk result (ShowsNode H.of (stands_for self.old) child.now into.new) }
+        ensures cause { IfErr result (HasFetchCause (stands_for self.old) child.now
             (shelved self.old).faults (shelved self.new).faults) }
         ensures quiet { OnOk result ((shelved self.new).faults ≡ (shelved self.old).faults) }
         ensures refused { IfErr result (λ e. self.new.refusal ≡ Some e) }
@@ -81,10 +81,10 @@ impl<S: Shelf, H: Hash32> Nodes for Paged<S, H> {
         // So is all else, but for what was used longest ago, where the cache is full.
         ensures uses { IsHeld self.old.file child.now →
             entries_of self.new.file ≡ used child.now.id (entries_of self.old.file) }
-        ensures puts { ¬ (IsHeld self.old.file child.now) → OnOk result (Puts room
+        ensures puts { ¬ (IsHeld self.old.file child.now) → OnOk result (PutsNode room
             (entries_of self.old.file) (entries_of self.new.file) child.now into.new) }
         ensures leaves { OnErr result (entries_of self.new.file ≡ entries_of self.old.file) }
-        ensures few { length (entries_of self.new.file) ≤ room }
+        ensures length_at_most { length (entries_of self.new.file) ≤ room }
     {
         self.fetches = self.fetches.saturating_add(1);
         let result = show_node::<H, S>(self.alloc, &mut self.file, &self.head, child, into);

@@ -5,8 +5,8 @@ ghost use Rattle.std.proofs.Props.{props};
 ghost use Rattle.mr_tree.specs.declared.tree.Tree.{Tree};
 ghost use Rattle.mr_pages.specs.Source.{MayKeep, AreMade, Stay};
 ghost use Rattle.mr_store.specs.CachedFile.{entries_of};
-ghost use Rattle.mr_store.specs.Paging.{sourced, Holds, IsUnchecked};
-ghost use Rattle.mr_store.specs.Kept.{node_of, Puts};
+ghost use Rattle.mr_store.specs.private.Paging.{sourced, HoldsPage, IsUnchecked};
+ghost use Rattle.mr_store.specs.Kept.{node_of, PutsNode};
 
 use crate::cached_file::CachedFile;
 use mr_outside::{Shelf, ShelfErr};
@@ -31,7 +31,7 @@ impl<S: Shelf, H: Hashes> Source for Paging<'_, S, H> {
 
     ghost state = { λ s. sourced s.file };
 
-    ghost keeps = { λ s page. Holds s.file.pages (entries_of s.file) page };
+    ghost keeps = { λ s page. HoldsPage s.file.pages (entries_of s.file) page };
 
     ghost makes = { λ made t. ⊤ };
 
@@ -71,11 +71,11 @@ impl<S: Shelf, H: Hashes> Source for Paging<'_, S, H> {
         ensures made { IfOk result (λ m. (ts : List Tree) →
             AreMade (λ one t. ⊤) _below.items ts → ⊤) }
         ensures kept { OnOk result
-            (Holds self.new.file.pages (entries_of self.new.file) child.now.id) }
-        ensures puts { OnOk result (Puts self.old.file.cache.cap (entries_of self.old.file)
+            (HoldsPage self.new.file.pages (entries_of self.new.file) child.now.id) }
+        ensures puts { OnOk result (PutsNode self.old.file.cache.cap (entries_of self.old.file)
             (entries_of self.new.file) child.now (node_of node)) }
-        ensures stay { Stay (Holds self.old.file.pages (entries_of self.old.file))
-            (Holds self.new.file.pages (entries_of self.new.file)) }
+        ensures stay { Stay (HoldsPage self.old.file.pages (entries_of self.old.file))
+            (HoldsPage self.new.file.pages (entries_of self.new.file)) }
     {
         let _len = self.file.cache.len();
         self.file.keep(child, node)

@@ -6,7 +6,7 @@ ghost use Rattle.mr_pages.specs.Page as pages_spec;
 ghost use Rattle.mr_pages.specs.PageBytes.{form_of, IsLayout};
 ghost use Rattle.mr_pages.specs.Walking.{page_node};
 ghost use Rattle.mr_store.specs.Kept.{AreInside};
-ghost use Rattle.mr_store.specs.Again.{outside_of, judged, Judges, Outside, IsRead, IsSaid, TellsNode, IsBlamed, Refuses};
+ghost use Rattle.mr_store.specs.Again.{outside_of, judged, ShowsJudged, Outside, IsChildInFile, IsSaid, TellsNode, IsBlamed, RefusesAsNodes};
 
 use mr_outside::ShelfErr;
 use mr_pages::{Layout, digest_on, node_on};
@@ -34,7 +34,7 @@ fn outside(view: &NodeView, pages: u32) -> Option<u32>
 }
 
 // The node that a page of a file of so many pages spells, if it is what is said of the child.
-pub(crate) fn judge<H: Hashes>(
+pub(crate) fn check_page<H: Hashes>(
     layout: Layout,
     page: &[u8],
     pages: u32,
@@ -42,9 +42,9 @@ pub(crate) fn judge<H: Hashes>(
     into: &mut NodeView,
 ) -> Result<(), NodesErr>
     requires { IsLayout layout }
-    ensures exact { Judges result into.new
+    ensures exact { ShowsJudged result into.new
         (judged (form_of layout) H.of pages child.now page.now) }
-    ensures read { OnOk result (IsRead (by layout.version H.of) pages child.now into.new) }
+    ensures read { OnOk result (IsChildInFile (by layout.version H.of) pages child.now into.new) }
     ensures told { (m : pages_spec.Node) → (form_of layout).node_in page.now ≡ Some m →
         IsSaid (by layout.version H.of) pages child.now m → TellsNode m result into.new }
     ensures spelled { OnOk result
@@ -71,7 +71,7 @@ pub(crate) fn judge<H: Hashes>(
 
 // The same cause in a fetch's own words.
 pub(crate) fn refusal(error: ShelfErr) -> NodesErr
-    ensures { Refuses error result }
+    ensures { RefusesAsNodes error result }
 {
     match error {
         ShelfErr::Missing => NodesErr::Missing,

@@ -3,16 +3,16 @@
 ghost use Rattle.std.specs.Prelude.{◌≡◌, ◌≤◌, ◌+◌, Bool, List, map, length, IfOk, IfErr, IsSome, OnOk};
 ghost use Rattle.mr_outside.specs.Faults.{next_count};
 ghost use Rattle.mr_tree.specs.Digest.{Scheme, by};
-ghost use Rattle.mr_tree.specs.Nodes.{MayFetch, Shows, TellsRefusal};
-ghost use Rattle.mr_tree.specs.View.{count_over, entry_of};
+ghost use Rattle.mr_tree.specs.Nodes.{MayFetch, ShowsNode, TellsRefusal};
+ghost use Rattle.mr_tree.specs.View.{count_over, child_entry};
 ghost use Rattle.mr_tree.specs.declared.child.Child as types;
 ghost use Rattle.mr_tree.specs.declared.nodes.NodesErr.TheVariants as errors;
 ghost use Rattle.mr_tree.specs.declared.tree.Tree as trees;
 ghost use Rattle.mr_tree.specs.declared.tree.Tree.TheVariants as tree;
 ghost use Rattle.mr_tree.specs.declared.tree.Tree.TheOpen.{Leaf, Inner};
-ghost use Rattle.mr_store.specs.Walk.{Suits, IsCounted, IsFull, CanWalk, Adds, moved, nodes_at, GathersAll, Walked, Refuses, IsTwice};
+ghost use Rattle.mr_store.specs.private.Walk.{SuitsEntry, IsCounted, IsFull, CanWalk, AddsNumbers, moved, nodes_at, GathersAll, Walked, StopsWalk, IsTwice};
 
-use mr_pages::{Seen, is_fit};
+use mr_pages::{Visited, is_fit};
 use mr_record::{Record, Version};
 use mr_tree::{Child, NodeView, Nodes, NodesErr, is_view};
 use std::alloc::Global;
@@ -26,7 +26,7 @@ pub(crate) trait Gather {
     /// Adds a leaf with these records, and answers where it is found.
     fn leaf(&mut self, child: &Child, records: &[Record]) -> Result<u32, NodesErr>
         ensures gathers { IfOk result (λ id. (x : Scheme) (root : Bool) →
-            Suits x root child.now (Leaf records.now) →
+            SuitsEntry x root child.now (Leaf records.now) →
             gathers x self.old self.new (moved id child.now) (tree.Leaf records.now)) }
         ensures memory { IfErr result (λ e. e ≡ errors.NoMemory) };
 
@@ -34,8 +34,9 @@ pub(crate) trait Gather {
     /// where it is found.
     fn inner(&mut self, child: &Child, children: Vec<Child>) -> Result<u32, NodesErr>
         ensures gathers { IfOk result (λ id. (x : Scheme) (before : Self) (root : Bool)
-            (cs : List types.Child) (ts : List trees.Tree) → Suits x root child.now (Inner cs) →
-            map entry_of children.items ≡ map entry_of cs →
+            (cs : List types.Child) (ts : List trees.Tree) → SuitsEntry x root child.now
+            (Inner cs) →
+            map child_entry children.items ≡ map child_entry cs →
             GathersAll (gathers x) before self.old children.items ts →
             gathers x before self.new (moved id child.now) (tree.Inner ts)) }
         ensures memory { IfErr result (λ e. e ≡ errors.NoMemory) };
@@ -53,12 +54,12 @@ fn look<N: Nodes>(
     requires may { MayFetch N.Hash.of (N.stands nodes.old) child.now }
     ensures kept { N.kept nodes.old nodes.new }
     ensures counted { N.fetches nodes.new ≡ next_count (N.fetches nodes.old) }
-    ensures shows { OnOk result (Shows N.Hash.of (N.stands nodes.old) child.now view.new) }
+    ensures shows { OnOk result (ShowsNode N.Hash.of (N.stands nodes.old) child.now view.new) }
     ensures suits { OnOk result (IsCounted root child.now (count_over version view.new) →
-        Suits (by version N.Hash.of) root child.now view.new) }
+        SuitsEntry (by version N.Hash.of) root child.now view.new) }
     ensures quiet { OnOk result (N.faults nodes.new ≡ N.faults nodes.old) }
     ensures answered { TellsRefusal (λ e. e) (N.refusal nodes.old) (N.refusal nodes.new) result }
-    ensures cause { IfErr result (Refuses (N.stands nodes.old) (N.faults nodes.old)
+    ensures cause { IfErr result (StopsWalk (N.stands nodes.old) (N.faults nodes.old)
         (N.faults nodes.new) (IsFull (N.stands nodes.old) root child.now)) }
 {
     nodes.fetch(child, view)?;
@@ -70,8 +71,8 @@ fn look<N: Nodes>(
 }
 
 // Meets the records of a leaf on this page, none of whose numbers was met before.
-fn meet(page: u32, records: &[Record], seen: &mut Seen) -> Result<(), NodesErr>
-    ensures adds { OnOk result (Adds seen.old seen.new records.now) }
+fn meet(page: u32, records: &[Record], seen: &mut Visited) -> Result<(), NodesErr>
+    ensures adds { OnOk result (AddsNumbers seen.old seen.new records.now) }
     ensures twice { IfErr result (IsTwice page seen.old records.now) }
 {
     match seen.meet(records) {
@@ -99,14 +100,14 @@ fn moved_to(id: u32, child: &Child) -> Child
 fn walk_leaf<G: Gather>(
     child: &Child,
     records: &[Record],
-    seen: &mut Seen,
+    seen: &mut Visited,
     into: &mut G,
 ) -> Result<Child, NodesErr>
     ensures gathers { IfOk result (λ c. (x : Scheme) (root : Bool) →
-        Suits x root child.now (Leaf records.now) →
+        SuitsEntry x root child.now (Leaf records.now) →
         G.gathers x into.old into.new c (tree.Leaf records.now)) }
-    ensures same { IfOk result (λ c. entry_of c ≡ entry_of child.now) }
-    ensures adds { OnOk result (Adds seen.old seen.new records.now) }
+    ensures same { IfOk result (λ c. child_entry c ≡ child_entry child.now) }
+    ensures adds { OnOk result (AddsNumbers seen.old seen.new records.now) }
     ensures twice { IfErr result (IsTwice child.now.id seen.old records.now) }
 {
     meet(child.id, records, seen)?;
@@ -123,7 +124,7 @@ pub(crate) fn walk<N: Nodes, G: Gather>(
     child: &Child,
     root: bool,
     view: &mut NodeView,
-    seen: &mut Seen,
+    seen: &mut Visited,
     into: &mut G,
 ) -> Result<Child, NodesErr>
     requires version { (N.stands nodes.old).version ≡ version }
@@ -132,12 +133,12 @@ pub(crate) fn walk<N: Nodes, G: Gather>(
     ensures walked { IfOk result (λ c. Walked (by version N.Hash.of) (N.stands nodes.old) root
         child.now seen.old seen.new (N.fetches nodes.old) (N.fetches nodes.new)
         (G.gathers (by version N.Hash.of) into.old into.new c)) }
-    ensures same { IfOk result (λ c. entry_of c ≡ entry_of child.now) }
+    ensures same { IfOk result (λ c. child_entry c ≡ child_entry child.now) }
     ensures fetched { IsSome (N.stands nodes.old).tree → N.fetches nodes.new ≤
         N.fetches nodes.old + nodes_at ((N.stands nodes.old).node child.now.id) }
     ensures quiet { OnOk result (N.faults nodes.new ≡ N.faults nodes.old) }
     ensures answered { TellsRefusal (λ e. e) (N.refusal nodes.old) (N.refusal nodes.new) result }
-    ensures cause { IfErr result (Refuses (N.stands nodes.old) (N.faults nodes.old)
+    ensures cause { IfErr result (StopsWalk (N.stands nodes.old) (N.faults nodes.old)
         (N.faults nodes.new) (CanWalk (N.stands nodes.old) root seen.old child.now)) }
 {
     look(version, nodes, child, root, view)?;

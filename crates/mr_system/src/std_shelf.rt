@@ -6,7 +6,7 @@ ghost use Rattle.mr_outside.specs.Told.{OfFile};
 ghost use Rattle.mr_outside.specs.Causes.{ShelfCauses, CountsRead};
 ghost use Rattle.mr_outside.specs.Reading.{FillsFront, GivesFrom};
 ghost use Rattle.mr_outside.specs.Files.{with_file, grown, overwritten};
-ghost use Rattle.mr_outside.specs.Writing.{IsThere, IsChanged, Writes};
+ghost use Rattle.mr_outside.specs.Writing.{IsThere, IsChanged, WritesOrFront};
 ghost use Rattle.mr_outside.specs.Edge.{untold_shelf};
 ghost use Rattle.std.specs.Io.KnownBytes.{Consumes, IsAtEnd};
 
@@ -147,7 +147,7 @@ impl<R: rt::Files> Shelf for StdShelf<'_, R> {
         ensures there { OnOk result (IsThere None name.now) }
         ensures writes { let before = untold_shelf self.old.faults self.old.reads in
             let after = untold_shelf self.new.faults self.new.reads in
-            Writes (grown name.now) bytes.now before after result }
+            WritesOrFront (grown name.now) bytes.now before after result }
         ensures causes { let before = untold_shelf self.old.faults self.old.reads in
             let after = untold_shelf self.new.faults self.new.reads in
             ShelfCauses name.now before after result }
@@ -162,7 +162,7 @@ impl<R: rt::Files> Shelf for StdShelf<'_, R> {
         ensures there { OnOk result (IsThere None name.now) }
         ensures writes { let before = untold_shelf self.old.faults self.old.reads in
             let after = untold_shelf self.new.faults self.new.reads in
-            Writes (overwritten name.now at) bytes.now before after result }
+            WritesOrFront (overwritten name.now at) bytes.now before after result }
         ensures causes { let before = untold_shelf self.old.faults self.old.reads in
             let after = untold_shelf self.new.faults self.new.reads in
             ShelfCauses name.now before after result }

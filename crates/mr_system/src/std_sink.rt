@@ -2,7 +2,7 @@
 
 ghost use Rattle.std.specs.Prelude.{◌≡◌, ◌<◌, ◌≤◌, IfOk, OnErr, length, take};
 ghost use Rattle.mr_outside.specs.Faults.{next_count};
-ghost use Rattle.mr_outside.specs.Told.{Takes};
+ghost use Rattle.mr_outside.specs.Told.{TakesBytes};
 ghost use Rattle.mr_outside.specs.Causes.{SinkCauses};
 ghost use Rattle.mr_outside.specs.Edge.{untold_sink};
 
@@ -37,7 +37,7 @@ impl<R: Print> Sink for StdSink<'_, R> {
         ensures progress { IfOk result (λ n. 0 < length bytes.now → 0 < n) }
         ensures front { let before = untold_sink self.old.faults in
             let after = untold_sink self.new.faults in
-            IfOk result (λ n. Takes before after (take n bytes.now)) }
+            IfOk result (λ n. TakesBytes before after (take n bytes.now)) }
         ensures refused { let before = untold_sink self.old.faults in
             let after = untold_sink self.new.faults in OnErr result (after.taken ≡ before.taken) }
         ensures causes { let before = untold_sink self.old.faults in

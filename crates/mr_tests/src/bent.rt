@@ -2,8 +2,8 @@
 
 use crate::assertions::{holds, holds_at};
 use crate::files::{BOTH, BUNDLE};
-use mr_bench::parts::{bytes_of, edited, expanded};
-use mr_bench::runs::{ran_on, shelf_with};
+use mr_fixtures::parts::{bytes_of, edited, expanded};
+use mr_fixtures::runs::{ran_on, shelf_with};
 use mr_tool::Status::{self, Done, Refused};
 use mr_tree::XorHash;
 use std::alloc::{AllocError, Global};

@@ -3,10 +3,10 @@
 
 use crate::assertions::all_hold;
 use crate::gates::{each_once, fresh};
-use mr_bench::cuts::agrees;
-use mr_bench::listed::Listed;
-use mr_bench::parts::File;
-use mr_bench::runs::{ran, shelf_of};
+use mr_fixtures::cuts::agrees;
+use mr_fixtures::listed::Listed;
+use mr_fixtures::parts::File;
+use mr_fixtures::runs::{ran, shelf_of};
 use mr_outside::MemShelf;
 use mr_tool::Status;
 use mr_tree::XorHash;

@@ -4,8 +4,8 @@
 use crate::assertions::holds;
 use crate::files::BOTH;
 use crate::joined::{numbers, plain};
-use mr_bench::parts::bytes_of;
-use mr_bench::runs::{ran, shelf_of};
+use mr_fixtures::parts::bytes_of;
+use mr_fixtures::runs::{ran, shelf_of};
 use mr_outside::{Gate, MemShelf, NoGate};
 use mr_record::read_lines;
 use mr_tool::Status;

@@ -1,7 +1,7 @@
 //! Runs over the real file system, and a run without words.
 
 use crate::assertions::{all_hold, holds};
-use mr_bench::runs::{ran, shelf_of};
+use mr_fixtures::runs::{ran, shelf_of};
 use mr_outside::{MemSink, NoGate};
 use mr_system::StdShelf;
 use mr_tool::Status::{BadWords, Outside};

@@ -2,8 +2,8 @@
 //! Digests and lines come from a program of another language.
 
 use crate::assertions::{holds, holds_at};
-use mr_bench::cuts::agrees;
-use mr_bench::runs::{digest, file_of, ran, shelf_of, shelf_with};
+use mr_fixtures::cuts::agrees;
+use mr_fixtures::runs::{digest, file_of, ran, shelf_of, shelf_with};
 use mr_outside::NoGate;
 use mr_tool::Status::Refused;
 use mr_tree::{Hash32, Sha, XorHash};

@@ -4,8 +4,8 @@ ghost use Rattle.mr_query.specs.Word.{IsAskable};
 
 use crate::assertions::holds;
 use mr_batch::generate_queries;
-use mr_bench::cuts::agrees;
-use mr_bench::runs::{ran, shelf_of};
+use mr_fixtures::cuts::agrees;
+use mr_fixtures::runs::{ran, shelf_of};
 use mr_outside::{MemShelf, MemSink, NoGate};
 use mr_query::{Query, write_query};
 use mr_record::read_u64;

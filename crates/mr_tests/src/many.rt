@@ -3,7 +3,7 @@
 use crate::assertions::holds;
 use crate::made::word;
 use mr_batch::generate_queries;
-use mr_bench::runs::{ran_on, shelf_of};
+use mr_fixtures::runs::{ran_on, shelf_of};
 use mr_outside::MemShelf;
 use mr_tool::Status::{self, Done};
 use mr_tree::Sha;

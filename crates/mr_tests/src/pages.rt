@@ -3,7 +3,7 @@
 ghost use Rattle.std.specs.Prelude.{◌≡◌};
 
 use crate::assertions::all_hold;
-use mr_bench::runs::{file_of, ran, ran_on, shelf_of};
+use mr_fixtures::runs::{file_of, ran, ran_on, shelf_of};
 use mr_outside::{MemShelf, NoGate, Shelf, ShelfErr};
 use mr_tool::Status::{self, BadMap, BadText, Done, Outside};
 use mr_tree::XorHash;

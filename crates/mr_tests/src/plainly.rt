@@ -10,7 +10,7 @@ ghost use Rattle.mr_tree.specs.WellFormed.{WellFormed};
 
 use crate::assertions::holds;
 use mr_batch::{apply_plain, read_batch_of};
-use mr_bench::runs::{file_of, ran_on, shelf_of};
+use mr_fixtures::runs::{file_of, ran_on, shelf_of};
 use mr_outside::{MemShelf, MemSink};
 use mr_pages::{open_plain, save_plain, save2_plain};
 use mr_record::{LAYER_LIMIT, Record, Version, write_lines};
@@ -82,7 +82,8 @@ const DRAWS: &[Draw] = &[
     },
 ];
 
-// What is asked of a map of version 1 after each batch: of everything, of a part, and of the nearest
+// What is asked of a map of version 1 after each batch: of everything, of a part, and of the
+// nearest
 // where there are so many, or are not.
 const QUERIES: &[&str] = &[
     "window:0,0,20040,20010",

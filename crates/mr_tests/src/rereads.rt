@@ -5,8 +5,8 @@ ghost use Rattle.mr_outside.specs.Faults.{next_count};
 
 use crate::assertions::holds;
 use hex::FromHex;
-use mr_bench::parts::File;
-use mr_bench::runs::{digest, file_of, ran, ran_on, shelf_of};
+use mr_fixtures::parts::File;
+use mr_fixtures::runs::{digest, file_of, ran, ran_on, shelf_of};
 use mr_outside::{MemShelf, NoGate, Shelf, ShelfErr};
 use mr_tool::Status::BadMap;
 use mr_tree::XorHash;

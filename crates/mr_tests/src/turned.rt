@@ -6,8 +6,8 @@ ghost use Rattle.std.specs.Prelude.{◌≡◌, OnOk, OnErr};
 ghost use Rattle.mr_outside.specs.Faults.{next_count};
 
 use crate::assertions::all_hold;
-use mr_bench::parts::{File, expanded};
-use mr_bench::runs::{file_of, ran, ran_on, shelf_of};
+use mr_fixtures::parts::{File, expanded};
+use mr_fixtures::runs::{file_of, ran, ran_on, shelf_of};
 use mr_outside::{MemShelf, NoGate, Shelf, ShelfErr};
 use mr_tool::Status::{self, BadMap, Outside};
 use mr_tree::XorHash;

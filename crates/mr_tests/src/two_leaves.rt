@@ -4,8 +4,8 @@
 use crate::assertions::{holds, holds_at};
 use crate::files::PROOF_OF_TWO;
 use crate::levels::{flipped, is_short, places, refused};
-use mr_bench::parts::bytes_of;
-use mr_bench::runs::{file_of, ran, shelf_of};
+use mr_fixtures::parts::bytes_of;
+use mr_fixtures::runs::{file_of, ran, shelf_of};
 use mr_outside::NoGate;
 use mr_tree::Sha;
 use std::alloc::{AllocError, Global};

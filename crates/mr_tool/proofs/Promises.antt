@@ -6,8 +6,8 @@ use Rattle.std.specs.List.{AllByRecursion}
 use Rattle.mr_outside.specs.Faults.{Rose}
 use Rattle.mr_outside.specs.Files.{Files, with_file}
 use Rattle.mr_outside.proofs.Changes.{file-with_file}
-use Rattle.mr_outside.specs.Told.{OfFiles, Takes}
-use Rattle.mr_record.specs.Bytes.{AreBytes}
+use Rattle.mr_outside.specs.Told.{OfFiles, TakesBytes}
+use Rattle.mr_record.specs.private.Bytes.{AreBytes}
 use Rattle.mr_record.specs.RecordText.{records_of_text, text_of}
 use Rattle.mr_record.specs.declared.record.Record.{Record}
 use Rattle.mr_record.specs.declared.text_fault.TextFault.{TextFault}
@@ -33,7 +33,7 @@ use Rattle.mr_proof.proofs.Halves.{accepts_just}
 use Rattle.mr_proof.proofs.SameNodes.{none_more}
 use Rattle.mr_proof.proofs.NoClash.{honest_quiet}
 use Rattle.mr_proof.proofs.Worth.{headline, accepted_headline}
-use Rattle.mr_clash.specs.Finding.{finding_of, Collides}
+use Rattle.mr_clash.specs.Finding.{finding_of, ShowsCollision}
 use Rattle.mr_clash.specs.declared.finding.Finding.{Finding}
 use Rattle.mr_clash.specs.declared.finding.Finding.TheVariants as findings
 use Rattle.mr_pages.specs.File.{version_of}
@@ -47,16 +47,16 @@ use Rattle.mr_batch.specs.Changes.{Changes}
 use Rattle.mr_batch.specs.Replay.{replay}
 use Rattle.mr_batch.specs.declared.admission.BatchFault.{BatchFault}
 use Rattle.mr_command.specs.Answer.{World, HasStopped, IsWhole}
-use Rattle.mr_command.specs.Ending.{Ends, EndsAsSaid, Finishes, FindsMap, IsCarriedOut, IsWell, printed_of}
+use Rattle.mr_command.specs.Ending.{EndsPlan, EndsAsSaid, PrintsEnding, FindsMap, IsCarriedOut, IsWell, printed_of}
 use Rattle.mr_plan.specs.First.{first, first_map, pages_by}
-use Rattle.mr_plan.specs.Found.{Found, Shows}
+use Rattle.mr_plan.specs.Found.{Found, ShowsMap}
 use Rattle.mr_plan.specs.Outcome.{Outcome, IsHeld}
-use Rattle.mr_plan.specs.Plan.{Plan, comes, opens, Input, IsInput, Leads}
+use Rattle.mr_plan.specs.Plan.{Plan, comes, opens, Input, IsInput, LeadsToOutcome}
 use Rattle.mr_plan.specs.Untold.{MaySayApply, MaySayAudit, MaySayServe, MaySayUntold}
-use Rattle.mr_tool.specs.Promises.{Holds, HoldsRecords, HoldsMap, HoldsProof, HoldsBatch, HoldsScript, HoldsBundle, IsInOrder, CompletesWords, AnswersHonest, PrintsScan, IsWorth, AcceptsHonestOrCollides, Delivers, SaysWorth, AuditsAccepted, CollidesRightly, IsApplied, AppliesAlike, IsUpgraded, UpgradesAll}
+use Rattle.mr_tool.specs.Promises.{HoldsBytes, HoldsRecords, HoldsMap, HoldsProof, HoldsBatch, HoldsScript, HoldsBundle, IsInOrder, CompletesWords, AnswersHonest, PrintsScan, IsWorth, AcceptsHonestOrCollides, DeliversOutcome, SaysWorth, AuditsAccepted, CollidesRightly, IsApplied, AppliesAlike, IsUpgraded, UpgradesAll}
 use Rattle.mr_plan.specs.Say.{at_first, given, given_map, needs, needs_any_map, needs_map, prints, say, say_root_of, say_build_of, say_list_of, say_upgrade, say_upgrade_of, say_admitted, say_batch, say_change, say_apply, say_apply_of, say_prove_of, say_check, say_check_of, say_audit, say_audit_of, say_finding, say_script, say_serve, say_serve_of, given_queries, say_parts, say_parts_of, say_check_all, say_make_of}
 use Rattle.mr_plan.specs.Lines.{digest_line, sound_line, collision_lines}
-use Rattle.mr_plan.specs.Words.{IsWord, words_of, Spells}
+use Rattle.mr_plan.specs.Words.{IsWord, words_of, SpellsCommand}
 use Rattle.mr_command.specs.declared.ending.Ending.{Ending}
 use Rattle.mr_command.specs.declared.ending.Halt.{Halt}
 use Rattle.mr_command.specs.declared.ending.Halt.TheVariants as halts
@@ -76,7 +76,7 @@ use Rattle.mr_command.proofs.Verdicts.{says_verdict, says_finding}
 record HasRun (plan : Plan) (may : Outcome → Type 0) (before after : World) (status : Status) : Type 0 where
   text : List ℕ
   ends : EndsAsSaid plan may before.shelf.files after.shelf.files status text
-  printed : Takes before.sink after.sink text
+  printed : TakesBytes before.sink after.sink text
 
 -- what stopped the printing stopped the run
 stopped_printing : (before after : World) (status : Status)
@@ -95,7 +95,7 @@ IsRunOr hash command before after status =
 
 ran : (hash : List ℕ → List ℕ) (command : Command) (before after : World) (status : Status)
     (came : Result Ending Halt) → IsCarriedOut hash command before.shelf after.shelf came
-    → Finishes came before.sink after.sink status → IsRunOr hash command before after status
+    → PrintsEnding came before.sink after.sink status → IsRunOr hash command before after status
 ran hash command before after status (Ok ending) came ended = elim ended.printed [
   | inl whole ↦ inl (record {
     text = printed_of ending;
@@ -114,66 +114,66 @@ ran hash command before after status (Err halts.NoMemory) came ended = inr (inl 
 
 -- ---- over files that are told
 
-input_is : (told : Option Files) (name bytes : List ℕ) (input : Input) → Holds told name bytes
+input_is : (told : Option Files) (name bytes : List ℕ) (input : Input) → HoldsBytes told name bytes
     → IsInput told name input → input ≡ Some bytes
 input_is None name bytes input held is = absurd held
 input_is (Some files) name bytes input held is = sym is ∙ held
 
-of_told : (told : Option Files) (name bytes : List ℕ) (P : Type 0) → Holds told name bytes
+of_told : (told : Option Files) (name bytes : List ℕ) (P : Type 0) → HoldsBytes told name bytes
     → OfFiles told (λ files. P) → P
 of_told None name bytes P held of = absurd held
 of_told (Some files) name bytes P held of = of
 
 -- where this file is told, a command came to its end by its plan
 told_ends : (told after : Option Files) (name bytes : List ℕ) (plan : Plan) (may : Outcome → Type 0)
-    (status : Status) (text : List ℕ) → Holds told name bytes → EndsAsSaid plan may told after status text
-    → Ends plan told after status text
+    (status : Status) (text : List ℕ) → HoldsBytes told name bytes → EndsAsSaid plan may told after status text
+    → EndsPlan plan told after status text
 told_ends None after name bytes plan may status text held ends = absurd held
 told_ends (Some files) after name bytes plan may status text held ends = ends
 
 -- a command that reads this file came to its end by its bytes
 module _ (name bytes : List ℕ) (before after : Option Files) (status : Status) (text : List ℕ)
-    (held : Holds before name bytes) where
-  taken_on : (next : List ℕ → Plan) → Ends (needs name next) before after status text
+    (held : HoldsBytes before name bytes) where
+  taken_on : (next : List ℕ → Plan) → EndsPlan (needs name next) before after status text
       → AreBytes bytes
   taken_on next ends = subst (λ input. IfSome input AreBytes)
       (input_is before name bytes ends.0 held ends.1) ends.2
 
-  ends_on : (next : List ℕ → Plan) → Ends (needs name next) before after status text
-      → Ends (next bytes) before after status text
-  ends_on next ends = subst (λ input. Ends (given name next input) before after status text)
+  ends_on : (next : List ℕ → Plan) → EndsPlan (needs name next) before after status text
+      → EndsPlan (next bytes) before after status text
+  ends_on next ends = subst (λ input. EndsPlan (given name next input) before after status text)
       (input_is before name bytes ends.0 held ends.1) ends.3
 
 -- what is opened is the map that the file stands for
 opened_on : (v : Version) (hash : List ℕ → List ℕ) (name held : List ℕ) (t : Tree) (batch : ℕ)
-    (before after : Option Files) (status : Status) (text : List ℕ) → Holds before name held
+    (before after : Option Files) (status : Status) (text : List ℕ) → HoldsBytes before name held
     → IsMapFile hash held (map_in v t batch)
-    → (next : Opened → Plan) → Ends (opens v hash held (given_map next)) before after status text
-    → Ends (next (map_in v t batch)) before after status text
+    → (next : Opened → Plan) → EndsPlan (opens v hash held (given_map next)) before after status text
+    → EndsPlan (next (map_in v t batch)) before after status text
 opened_on v hash name held t batch before after status text holds stands next on =
     let finds = of_told before name held (FindsMap v hash held on.0) holds on.1.1 in
-    subst (λ found. Ends (given_map next found) before after status text) (finds (map_in v t batch) (refl, stands))
+    subst (λ found. EndsPlan (given_map next found) before after status text) (finds (map_in v t batch) (refl, stands))
     on.3
 
 -- a command that opens this file came to its end by the map that it stands for
 map_on : (v : Version) (hash : List ℕ → List ℕ) (name held : List ℕ) (t : Tree) (batch : ℕ)
-    (before after : Option Files) (status : Status) (text : List ℕ) → Holds before name held
+    (before after : Option Files) (status : Status) (text : List ℕ) → HoldsBytes before name held
     → IsMapFile hash held (map_in v t batch)
-    → (next : Opened → Plan) → Ends (needs_any_map hash name next) before after status text
-    → Ends (next (map_in v t batch)) before after status text
+    → (next : Opened → Plan) → EndsPlan (needs_any_map hash name next) before after status text
+    → EndsPlan (next (map_in v t batch)) before after status text
 map_on v hash name held t batch before after status text holds stands next ends =
     opened_on v hash name held t batch before after status text holds stands next
-    (subst (λ u. Ends (opens u hash held (given_map next)) before after status text)
+    (subst (λ u. EndsPlan (opens u hash held (given_map next)) before after status text)
     (stands_version v hash held t batch stands.stands)
     (ends_on name held before after status text holds (λ bytes. opens (version_of bytes) hash bytes (given_map next))
     ends))
 
 -- one of version 1, which has proofs
 first_on : (hash : List ℕ → List ℕ) (name held : List ℕ) (t : Tree) (batch : ℕ)
-    (before after : Option Files) (status : Status) (text : List ℕ) → Holds before name held
+    (before after : Option Files) (status : Status) (text : List ℕ) → HoldsBytes before name held
     → IsMapFile hash held (first_map t batch)
-    → (next : Opened → Plan) → Ends (needs_map hash name next) before after status text
-    → Ends (next (first_map t batch)) before after status text
+    → (next : Opened → Plan) → EndsPlan (needs_map hash name next) before after status text
+    → EndsPlan (next (first_map t batch)) before after status text
 first_on hash name held t batch before after status text holds stands next ends =
     map_on One hash name held t batch before after status text holds stands (λ m. at_first m.version (next m)) ends
 
@@ -187,10 +187,10 @@ says_found hash q t batch bytes r o e d =
     sym (says_finding hash q (first_map t batch) bytes (finding_of r o) (λ i. finding_of (sym e i) (sym d i)))
 
 module _ (hash : List ℕ → List ℕ) (before after : Option Files) (status : Status) (text : List ℕ) (map : List ℕ)
-    (q : Query) (name : List ℕ) (t : Tree) (batch : ℕ) (held bytes : List ℕ) (map_held : Holds before map held)
-    (stands : IsMapFile hash held (first_map t batch)) (name_held : Holds before name bytes) where
+    (q : Query) (name : List ℕ) (t : Tree) (batch : ℕ) (held bytes : List ℕ) (map_held : HoldsBytes before map held)
+    (stands : IsMapFile hash held (first_map t batch)) (name_held : HoldsBytes before name bytes) where
   audited_ends : EndsAsSaid (say_audit hash map q name) (MaySayAudit hash map q name) before after status text
-      → Ends (comes (say_audit_of hash q (first_map t batch) bytes)) before after status text
+      → EndsPlan (comes (say_audit_of hash q (first_map t batch) bytes)) before after status text
   audited_ends ends =
       let next : Opened → Plan = λ m. needs name (λ bytes. comes (say_audit_of hash q m bytes)) in
       let mapped = first_on hash map held t batch before after status text map_held stands next
@@ -214,23 +214,23 @@ module _ (hash : List ℕ → List ℕ) (before after : Option Files) (status : 
 
 -- an outcome without a file, to its end
 whole_of : (said : Outcome) (other : Outcome) (before after : World) (status : Status) (text : List ℕ)
-    → said ≡ other → Ends (comes said) before.shelf.files after.shelf.files status text
-    → Takes before.sink after.sink text → IsWhole other before after status
+    → said ≡ other → EndsPlan (comes said) before.shelf.files after.shelf.files status text
+    → TakesBytes before.sink after.sink text → IsWhole other before after status
 whole_of said other before after status text e on printed =
-    let there : Ends (comes other) before.shelf.files after.shelf.files status text =
-    subst (λ o. Ends (comes o) before.shelf.files after.shelf.files status text) e on in
-    record { status = there.0; printed = subst (Takes before.sink after.sink) there.1 printed; files = there.2 }
+    let there : EndsPlan (comes other) before.shelf.files after.shelf.files status text =
+    subst (λ o. EndsPlan (comes o) before.shelf.files after.shelf.files status text) e on in
+    record { status = there.0; printed = subst (TakesBytes before.sink after.sink) there.1 printed; files = there.2 }
 
 module _ (hash : List ℕ → List ℕ) (before after : World) (status : Status) (map : List ℕ)
     (q : Query) (name : List ℕ) (t : Tree) (batch : ℕ) (held bytes : List ℕ) (answer : List Record)
-    (map_held : Holds before.shelf.files map held) (stands : IsMapFile hash held (first_map t batch))
-    (name_held : Holds before.shelf.files name bytes)
+    (map_held : HoldsBytes before.shelf.files map held) (stands : IsMapFile hash held (first_map t batch))
+    (name_held : HoldsBytes before.shelf.files name bytes)
     (accepted : verdict hash (map_root hash (first_map t batch)) q bytes ≡ Ok answer) where
   delivered : (o : Option Pair) (other : Outcome) → clash (first hash) t batch bytes ≡ o
       → say_finding (finding_of (Ok answer) o) ≡ other
       → HasRun (say_audit hash map q name) (MaySayAudit hash map q name) before after status
       ⊎ HasStopped before after status
-      → Delivers other before after status
+      → DeliversOutcome other before after status
   delivered o other d e (inr stop) = inr stop
   delivered o other d e (inl run) =
       inl (whole_of (say_audit_of hash q (first_map t batch) bytes) other before after status run.text
@@ -268,7 +268,7 @@ module _ (hash : List ℕ → List ℕ) (sized : IsSized hash) (q : Query) (may 
   shown_by : (r : Result (List Record) Fault) (o : Option Pair)
       → verdict hash (map_root hash (first_map t batch)) q bytes ≡ r → clash (first hash) t batch bytes ≡ o
       → status ≡ Collision
-      → Ends (comes (say_finding (finding_of r o))) before after status text → Shown hash text
+      → EndsPlan (comes (say_finding (finding_of r o))) before after status text → Shown hash text
   shown_by (Err f) o e d is ends = other_status status Refused is ends.0 (λ c. cc)
   shown_by (Ok answer) None e d is ends = other_status status Done is ends.0 (λ c. cc)
   shown_by (Ok answer) (Some p) e d is ends = record {
@@ -278,13 +278,15 @@ module _ (hash : List ℕ → List ℕ) (sized : IsSized hash) (q : Query) (may 
     is = ends.1;
   }
 
-  shown_of : status ≡ Collision → Ends (comes (say_audit_of hash q (first_map t batch) bytes)) before after status text
+  shown_of : status ≡ Collision → EndsPlan (comes (say_audit_of hash q (first_map t batch) bytes)) before after
+      status text
       → Shown hash text
   shown_of is ends =
       let r = verdict hash (map_root hash (first_map t batch)) q bytes in
       let o = clash (first hash) t batch bytes in
       shown_by r o refl refl is
-      (subst (λ said. Ends (comes said) before after status text) (says_found hash q t batch bytes r o refl refl) ends)
+      (subst (λ said. EndsPlan (comes said) before after status text)
+      (says_found hash q t batch bytes r o refl refl) ends)
 
 module _ (hash : List ℕ → List ℕ) (sized : IsSized hash) (q : Query) (may : IsQuery q) (name : List ℕ)
     (before after : Option Files) (status : Status) (text : List ℕ) (is : status ≡ Collision) where
@@ -294,7 +296,7 @@ module _ (hash : List ℕ → List ℕ) (sized : IsSized hash) (q : Query) (may 
 
   shown_with : (m : Opened) → WellFormed m.tree → HasLayers One m.tree → m.batch < 2 ^ 64 → (input : Input)
       → IfSome input AreBytes
-      → Ends (given name (λ bytes. comes (say_audit_of hash q m bytes)) input) before after status text
+      → EndsPlan (given name (λ bytes. comes (say_audit_of hash q m bytes)) input) before after status text
       → Shown hash text
   unfolding say_audit_of
   shown_with m well layers low None taken ends = other_status status Outside is ends.0 (λ c. cc)
@@ -303,26 +305,26 @@ module _ (hash : List ℕ → List ℕ) (sized : IsSized hash) (q : Query) (may 
 
   -- of a map of version 2 it is said that it has no proofs
   shown_at : (m : Opened) → WellFormed m.tree → m.batch < 2 ^ 64 → (v : Version) → m.version ≡ v
-      → HasLayers v m.tree → Ends (at_first v (proof_plan m)) before after status text → Shown hash text
+      → HasLayers v m.tree → EndsPlan (at_first v (proof_plan m)) before after status text → Shown hash text
   shown_at m well low One e layers ends = shown_with m well layers low ends.0 ends.2 ends.3
   shown_at m well low Two e layers ends = other_status status NeedsVersion2 is ends.0 (λ c. cc)
 
-  shown_found : (v : Version) (held : List ℕ) (found : Found) → Shows v hash held found → IsWell found
-      → Ends (given_map (λ m. at_first m.version (proof_plan m)) found) before after status text → Shown hash text
+  shown_found : (v : Version) (held : List ℕ) (found : Found) → ShowsMap v hash held found → IsWell found
+      → EndsPlan (given_map (λ m. at_first m.version (proof_plan m)) found) before after status text → Shown hash text
   shown_found v held (Ok m) shows well ends =
       shown_at m well.0 well.1 m.version refl
       (subst (λ u. HasLayers u m.tree) (version_by v ∙ sym shows.0) shows.1.layers) ends
   shown_found v held (Err fault) shows well ends = other_status status BadMap is ends.0 (λ c. cc)
 
   shown_opened : (map : List ℕ) (input : Input)
-      → Ends (given map (λ bytes. opens (version_of bytes) hash bytes
+      → EndsPlan (given map (λ bytes. opens (version_of bytes) hash bytes
       (given_map (λ m. at_first m.version (proof_plan m)))) input) before after status text
       → Shown hash text
   shown_opened map None ends = other_status status Outside is ends.0 (λ c. cc)
   shown_opened map (Some bytes) ends = shown_found (version_of bytes) bytes ends.0 ends.1.0 ends.2 ends.3
 
   -- over files that are not told, by what was found
-  shown_finding : (f : Finding) (said : Outcome) → Collides hash f → said ≡ say_finding f → status ≡ said.status
+  shown_finding : (f : Finding) (said : Outcome) → ShowsCollision hash f → said ≡ say_finding f → status ≡ said.status
       → text ≡ said.printed → Shown hash text
   shown_finding (findings.Refused fault) said collides e st tx =
       other_status status Refused is (st ∙ ap (λ (o : Outcome). o.status) e) (λ c. cc)
@@ -357,7 +359,7 @@ module _ (hash : List ℕ → List ℕ) (sized : IsSized hash) (q : Query) (may 
           text) e ends in
           shown_untold map on.0 on.1 on.2 on.3
       by_files (Some files) e =
-          let on = subst (λ o. Ends (needs_map hash map proof_plan) o after status text) (sym e)
+          let on = subst (λ o. EndsPlan (needs_map hash map proof_plan) o after status text) (sym e)
           (subst (λ o. EndsAsSaid (say_audit hash map q name) (MaySayAudit hash map q name) o after status text) e
           ends) in
           shown_opened map on.0 on.3
@@ -396,17 +398,17 @@ module _ (hash : List ℕ → List ℕ) (before after : Option Files) (status : 
 
   map_done : (v : Version) (name : List ℕ) (next : Opened → Plan) (may : Outcome → Type 0)
       → (holds : HoldsMap v hash before name) → EndsAsSaid (needs_any_map hash name next) may before after status text
-      → Ends (next (map_in v holds.tree holds.batch)) before after status text
+      → EndsPlan (next (map_in v holds.tree holds.batch)) before after status text
   map_done v name next may holds ends =
       map_on v hash name holds.bytes holds.tree holds.batch before after status text holds.held holds.stands next
       (told_ends before after name holds.bytes (needs_any_map hash name next) may status text holds.held ends)
 
   -- what `apply` came to, by the map and the batch
   applied_ends : (old name new : List ℕ) (v : Version) (t : Tree) (batch : ℕ) (bytes beside : List ℕ) (b : Changes)
-      → Holds before old bytes → IsMapFile hash bytes (map_in v t batch) → Holds before name beside
+      → HoldsBytes before old bytes → IsMapFile hash bytes (map_in v t batch) → HoldsBytes before name beside
       → batch_of_text v beside ≡ Ok b
       → EndsAsSaid (say_apply hash old name new) (MaySayApply hash old name new) before after status text
-      → Ends (comes (say_batch hash new (pages_by v bytes) (map_in v t batch) b)) before after status text
+      → EndsPlan (comes (say_batch hash new (pages_by v bytes) (map_in v t batch) b)) before after status text
   applied_ends old name new v t batch bytes beside b held stands there right ends =
       let next : ℕ → Opened → Plan = say_change hash name new in
       let said : List ℕ → Plan =
@@ -416,9 +418,9 @@ module _ (hash : List ℕ → List ℕ) (before after : Option Files) (status : 
       let opened = ends_on old bytes before after status text held
       (λ bytes. opens (version_of bytes) hash bytes (given_map (next (pages_by (version_of bytes) bytes)))) on in
       let mapped = opened_on v hash old bytes t batch before after status text held stands (next (pages_by v bytes))
-      (subst (λ u. Ends (opens u hash bytes (given_map (next (pages_by u bytes)))) before after status text)
+      (subst (λ u. EndsPlan (opens u hash bytes (given_map (next (pages_by u bytes)))) before after status text)
       (stands_version v hash bytes t batch stands.stands) opened) in
-      subst (λ r. Ends (comes (say_apply_of hash new (pages_by v bytes) (map_in v t batch) r)) before
+      subst (λ r. EndsPlan (comes (say_apply_of hash new (pages_by v bytes) (map_in v t batch) r)) before
       after status text)
       right (ends_on name beside before after status text there said mapped)
 
@@ -439,23 +441,23 @@ module _ (hash : List ℕ → List ℕ) (before after : Option Files) (status : 
     may : IsAdmissible (records t) batch b
     text_is : text ≡ digest_line (map_root hash (map_in v (replay t (b ∷ [])) b.number))
     bytes : List ℕ
-    there : Holds after new bytes
+    there : HoldsBytes after new bytes
     is : IsMapFile hash bytes (map_in v (replay t (b ∷ [])) b.number)
 
   held_after : (files : Files) (name bytes : List ℕ) → before ≡ Some files → IsHeld name bytes before after
-      → Holds after name bytes
+      → HoldsBytes after name bytes
   held_after files name bytes told is =
-      subst (λ o. Holds o name bytes) (sym (is ∙ ap (option_map (with_file name bytes)) told))
+      subst (λ o. HoldsBytes o name bytes) (sym (is ∙ ap (option_map (with_file name bytes)) told))
       (file-with_file name bytes files)
 
   has_applied : (v : Version) (t : Tree) (batch : ℕ) (b : Changes) (new : List ℕ) (pages : ℕ) (files : Files)
       → before ≡ Some files → status ≡ Done
-      → Ends (comes (say_batch hash new pages (map_in v t batch) b)) before after status text
+      → EndsPlan (comes (say_batch hash new pages (map_in v t batch) b)) before after status text
       → HasApplied v t batch b new
   has_applied v t batch b new pages files told done ends = by_fault (batch_fault (records t) batch b) refl ends
     where
       by_fault : (o : Option BatchFault) → batch_fault (records t) batch b ≡ o
-          → Ends (comes (say_admitted v hash new pages t b o)) before after status text → HasApplied v t batch b new
+          → EndsPlan (comes (say_admitted v hash new pages t b o)) before after status text → HasApplied v t batch b new
       by_fault None none ends = record {
         may = fits_if_none (records t) batch b none;
         text_is = ends.1;
@@ -498,14 +500,14 @@ module _ (hash : List ℕ → List ℕ) (before after : Option Files) (status : 
       (λ text. given_queries next (queries_of_text text))
       (told_ends before after script holds.text (say_check_all hash root script bundle) may status text holds.held
       ends) in
-      let asked = subst (λ r. Ends (given_queries next r) before after status text) holds.right on in
+      let asked = subst (λ r. EndsPlan (given_queries next r) before after status text) holds.right on in
       let last = ends_on bundle holds.bytes before after status text holds.beside
       (λ bytes. comes (say_parts_of hash root holds.queries bytes)) asked in
       last.0 ∙ parts_done hash root holds.queries holds.bytes holds.unbroken holds.accepted
 
   -- a command that reads no file ends so over any files
   unread_done : (said : Outcome) (told : Option Files)
-      → EndsAsSaid (comes said) (Leads (comes said) None) told after status text → status ≡ said.status
+      → EndsAsSaid (comes said) (LeadsToOutcome (comes said) None) told after status text → status ≡ said.status
   unread_done said None ends = ends.2 ∙ ap (λ (o : Outcome). o.status) ends.1
   unread_done said (Some files) ends = ends.0
 
@@ -561,25 +563,27 @@ module _ (hash : List ℕ → List ℕ) (sized : IsSized hash) (before after : W
     (t : Tree) (batch : ℕ) (root : List ℕ) (q : Query) (name : List ℕ) (well : WellFormed t)
     (layers : HasLayers One t) (low : batch < 2 ^ 64)
     (is_root : root ≡ map_root hash (first_map t batch)) (asked : IsQuery q)
-    (run : HasRun (say_check hash root q name) (Leads (say_check hash root q name) None) before after status) where
+    (run : HasRun (say_check hash root q name) (LeadsToOutcome (say_check hash root q name) None) before after
+    status) where
   says_honest : say_check_of hash root q (proof (first hash) t batch q) ≡ prints (text_of One (scan (records t) q))
   says_honest = says_verdict hash root q (proof (first hash) t batch q) (Ok (scan (records t) q))
       (subst (λ held. verdict hash held q (proof (first hash) t batch q) ≡ Ok (scan (records t) q)) (sym is_root)
       (accepts_honest (first hash) refl sized q asked t batch well layers low))
 
-  whole_honest : Holds before.shelf.files name (proof (first hash) t batch q)
+  whole_honest : HoldsBytes before.shelf.files name (proof (first hash) t batch q)
       → IsWhole (prints (text_of One (scan (records t) q))) before after status
   whole_honest held =
       let on = ends_on name (proof (first hash) t batch q) before.shelf.files after.shelf.files status run.text held
       (λ bytes. comes (say_check_of hash root q bytes))
       (told_ends before.shelf.files after.shelf.files name (proof (first hash) t batch q) (say_check hash root q name)
-      (Leads (say_check hash root q name) None) status run.text held run.ends) in
-      let said : Ends (comes (prints (text_of One (scan (records t) q)))) before.shelf.files after.shelf.files status
+      (LeadsToOutcome (say_check hash root q name) None) status run.text held run.ends) in
+      let said : EndsPlan (comes (prints (text_of One (scan (records t) q)))) before.shelf.files after.shelf.files
+      status
       run.text =
-      subst (λ o. Ends (comes o) before.shelf.files after.shelf.files status run.text) says_honest on in
+      subst (λ o. EndsPlan (comes o) before.shelf.files after.shelf.files status run.text) says_honest on in
       record {
         status = said.0;
-        printed = subst (Takes before.sink after.sink) said.1 run.printed;
+        printed = subst (TakesBytes before.sink after.sink) said.1 run.printed;
         files = said.2;
       }
 
@@ -587,10 +591,11 @@ module _ (v : Version) (hash : List ℕ → List ℕ) (sized : IsSized hash) (be
     (t : Tree) (batch : ℕ) (root : List ℕ) (q : Query) (name : List ℕ) (well : WellFormed t)
     (layers : HasLayers v t) (low : batch < 2 ^ 64)
     (is_root : root ≡ map_root hash (map_in v t batch)) (asked : IsQuery q)
-    (run : HasRun (say_check hash root q name) (Leads (say_check hash root q name) None) before after status) where
+    (run : HasRun (say_check hash root q name) (LeadsToOutcome (say_check hash root q name) None) before after
+    status) where
   -- by the verdict on the bytes
   worth_by : (bytes : List ℕ) → AreBytes bytes → status ≡ Done
-      → Ends (comes (say_check_of hash root q bytes)) before.shelf.files after.shelf.files status run.text
+      → EndsPlan (comes (say_check_of hash root q bytes)) before.shelf.files after.shelf.files status run.text
       → (r : Result (List Record) Fault) → verdict hash root q bytes ≡ r
       → IsWorth (by v hash) t batch q bytes before after
   worth_by bytes all done on (Err fault) e =
@@ -609,16 +614,17 @@ module _ (v : Version) (hash : List ℕ → List ℕ) (sized : IsSized hash) (be
             well layers low accepted)
             (λ own. record {
               own = own.own;
-              printed = subst (Takes before.sink after.sink) (on.1 ∙ said ∙ ap (text_of One) own.complete) run.printed;
+              printed = subst (TakesBytes before.sink after.sink) (on.1 ∙ said ∙ ap (text_of One) own.complete)
+                  run.printed;
             });
       }
 
-  worth : (bytes : List ℕ) → Holds before.shelf.files name bytes → status ≡ Done
+  worth : (bytes : List ℕ) → HoldsBytes before.shelf.files name bytes → status ≡ Done
       → IsWorth (by v hash) t batch q bytes before after
   worth bytes held done =
       let next : List ℕ → Plan = λ bytes. comes (say_check_of hash root q bytes) in
       let ends = told_ends before.shelf.files after.shelf.files name bytes (say_check hash root q name)
-      (Leads (say_check hash root q name) None) status run.text held run.ends in
+      (LeadsToOutcome (say_check hash root q name) None) status run.text held run.ends in
       worth_by bytes
       (taken_on name bytes before.shelf.files after.shelf.files status run.text held next ends) done
       (ends_on name bytes before.shelf.files after.shelf.files status run.text held next ends)
@@ -628,9 +634,9 @@ module _ (v : Version) (hash : List ℕ → List ℕ) (sized : IsSized hash) (be
 
 module _ (hash : List ℕ → List ℕ) (words : List (List ℕ)) (before after : World) (status : Status)
     (came : Result Ending Halt)
-    (carried : (c : Command) → Spells words c → IsCarriedOut hash c before.shelf after.shelf came)
-    (ended : Finishes came before.sink after.sink status) where
-  ran_as : (command : Command) → Spells words command → IsRunOr hash command before after status
+    (carried : (c : Command) → SpellsCommand words c → IsCarriedOut hash c before.shelf after.shelf came)
+    (ended : PrintsEnding came before.sink after.sink status) where
+  ran_as : (command : Command) → SpellsCommand words command → IsRunOr hash command before after status
   ran_as command spells = ran hash command before after status came (carried command spells) ended
 
   pub completes : IsSized hash → CompletesWords hash words before after status
@@ -676,7 +682,7 @@ module _ (hash : List ℕ → List ℕ) (words : List (List ℕ)) (before after 
           → HasRun (say hash (Some (commands.Apply old name new))) (may_be hash (commands.Apply old name new)) before
           after status
           → IsApplied v hash t held b new.now before after
-      by_files None none run = absurd (subst (λ o. Holds o old.now bytes) none map_held)
+      by_files None none run = absurd (subst (λ o. HoldsBytes o old.now bytes) none map_held)
       by_files (Some files) told run =
           let on = has_applied hash before.shelf.files after.shelf.files status run.text v t held b new.now
           (pages_by v bytes) files told done
@@ -684,7 +690,7 @@ module _ (hash : List ℕ → List ℕ) (words : List (List ℕ)) (before after 
           bytes text b map_held stands beside right run.ends) in
           record {
             may = on.may;
-            printed = subst (Takes before.sink after.sink) on.text_is run.printed;
+            printed = subst (TakesBytes before.sink after.sink) on.text_is run.printed;
             bytes = on.bytes;
             there = on.there;
             stands = on.is;
@@ -701,7 +707,7 @@ module _ (hash : List ℕ → List ℕ) (words : List (List ℕ)) (before after 
           → HasRun (say hash (Some (commands.Upgrade old new))) (may_be hash (commands.Upgrade old new)) before after
           status
           → IsUpgraded hash t batch new.now before after
-      by_files None none run = absurd (subst (λ o. Holds o old.now bytes) none held)
+      by_files None none run = absurd (subst (λ o. HoldsBytes o old.now bytes) none held)
       by_files (Some files) told run =
           let next : Opened → Plan = λ map. comes (say_upgrade_of hash new.now map) in
           let on = map_on v hash old.now bytes t batch before.shelf.files after.shelf.files
@@ -709,7 +715,7 @@ module _ (hash : List ℕ → List ℕ) (words : List (List ℕ)) (before after 
           (told_ends before.shelf.files after.shelf.files old.now bytes (say_upgrade hash old.now new.now)
           (may_be hash (commands.Upgrade old new)) status run.text held run.ends) in
           record {
-            printed = subst (Takes before.sink after.sink) on.1 run.printed;
+            printed = subst (TakesBytes before.sink after.sink) on.1 run.printed;
             bytes = on.2.0;
             there = held_after hash before.shelf.files after.shelf.files status run.text files new.now
                 on.2.0 told on.2.2;
@@ -721,6 +727,6 @@ module _ (hash : List ℕ → List ℕ) (words : List (List ℕ)) (before after 
     | inl run ↦
         let x = shown_audit hash sized q spells.each.1.1.0 name.now before.shelf.files after.shelf.files
         status run.text is map.now run.ends in
-        (x.pair, x.collides, subst (Takes before.sink after.sink) x.is run.printed)
+        (x.pair, x.collides, subst (TakesBytes before.sink after.sink) x.is run.printed)
     | inr stop ↦ not_collided before after status is stop
   ]

@@ -2,12 +2,12 @@
 use Rattle.std.proofs.Common.{append-nil, ◌≡◌, ℕ, List, [], refl, sym, ap, subst, ◌∙◌, inl, inr}
 use Rattle.std.specs.Prelude.{Option, Some, None, ◌⊎◌, Result, Ok, Err}
 use Rattle.mr_outside.specs.Files.{Files}
-use Rattle.mr_outside.specs.Told.{OfFiles, Takes, TakesFront}
-use Rattle.mr_outside.proofs.Taking.{Takes-none}
+use Rattle.mr_outside.specs.Told.{OfFiles, TakesBytes, TakesFront}
+use Rattle.mr_outside.proofs.Taking.{TakesBytes-none}
 use Rattle.mr_command.specs.Answer.{World, HasOutsideCause, IsAnswer, IsQuiet, IsSettled, IsStopped, IsWhole, ShelfFailed}
-use Rattle.mr_command.specs.Ending.{AreJudged, EndsAsSaid, Finishes, GivesUpAsSaid, IsCarriedOut, Prints, printed_of}
+use Rattle.mr_command.specs.Ending.{AreJudged, EndsAsSaid, PrintsEnding, GivesUpAsSaid, IsCarriedOut, PrintsText, printed_of}
 use Rattle.mr_plan.specs.Lines.{bad_words_line, shelf_fault_line}
-use Rattle.mr_plan.specs.Outcome.{Outcome, Written, Nothing, File, InPlace, IsLeft, MayLeave}
+use Rattle.mr_plan.specs.Outcome.{Outcome, Written, Nothing, File, InPlace, LeavesWritten, MayLeave}
 use Rattle.mr_plan.specs.Plan.{Plan, IsOutcomeOver}
 use Rattle.mr_plan.specs.Say.{ends, say}
 use Rattle.mr_plan.specs.Untold.{MaySay, MaySayUntold}
@@ -41,7 +41,7 @@ answers hash command before after judged status said leads answer =
       answer = answer;
     }
 
-may_leave : (written : Written) (before after : Option Files) → IsLeft written before after
+may_leave : (written : Written) (before after : Option Files) → LeavesWritten written before after
     → MayLeave written before after
 may_leave Nothing before after left = left
 may_leave (File name content) before after left = inr (left.0, inr left.1, left.2)
@@ -50,12 +50,12 @@ may_leave (InPlace map journal held content) before after left = mended_may map 
 -- it was printed as it was meant, or a front of it
 printed : (said : Outcome) (before after : World) (status meant : Status) (text : List ℕ)
     → meant ≡ said.status → text ≡ said.printed
-    → IsLeft said.written before.shelf.files after.shelf.files
-    → Prints meant text before.sink after.sink status
+    → LeavesWritten said.written before.shelf.files after.shelf.files
+    → PrintsText meant text before.sink after.sink status
     → IsWhole said before after status ⊎ IsStopped said before after status
 printed said before after status meant text meant-is text-is left (inl whole) = inl (record {
   status = whole.0 ∙ meant-is;
-  printed = subst (Takes before.sink after.sink) text-is whole.1;
+  printed = subst (TakesBytes before.sink after.sink) text-is whole.1;
   files = left;
 })
 printed said before after status meant text meant-is text-is left (inr stop) = inr (record {
@@ -71,7 +71,7 @@ printed said before after status meant text meant-is text-is left (inr stop) = i
 -- the line on the shelf that failed was printed, or a front of it
 stopped : (said : Outcome) (before after : World) (status : Status) → ShelfFailed before after
     → MayLeave said.written before.shelf.files after.shelf.files
-    → Prints Outside shelf_fault_line before.sink after.sink status
+    → PrintsText Outside shelf_fault_line before.sink after.sink status
     → IsStopped said before after status
 stopped said before after status failed may (inl whole) = record {
   stopped = inr (whole.0, inl failed);
@@ -110,7 +110,7 @@ spent said before after status may none same = record {
     rest = said.printed;
     whole = refl;
     takes = subst
-        (λ sink. Takes before.sink sink []) (sym same) (Takes-none before.sink);
+        (λ sink. TakesBytes before.sink sink []) (sym same) (TakesBytes-none before.sink);
   };
   whole_line = λ outside calm. cc;
   last = inl same;
@@ -124,7 +124,7 @@ record HasSaid (hash : List ℕ → List ℕ) (command : Option Command) (told l
   leads : MaySay hash command told said
   status_is : status ≡ said.status
   text_is : text ≡ said.printed
-  files : IsLeft said.written told left
+  files : LeavesWritten said.written told left
 
 said_so : (hash : List ℕ → List ℕ) (command : Option Command) (told left : Option Files) (status : Status)
     (text : List ℕ) → EndsAsSaid (say hash command) (MaySayUntold hash command) told left status text
@@ -158,7 +158,7 @@ left_so hash command (Some files) left judged up =
 
 pub answer_of : (hash : List ℕ → List ℕ) (command : Command) (before after : World) (status : Status)
     (came : Result Ending Halt) → IsCarriedOut hash command before.shelf after.shelf came
-    → Finishes came before.sink after.sink status → IsAnswer hash (Some command) before after status
+    → PrintsEnding came before.sink after.sink status → IsAnswer hash (Some command) before after status
 answer_of hash command before after status (Ok ending) comes ended =
     let on = said_so hash (Some command) before.shelf.files after.shelf.files ending.status (printed_of ending)
     comes.came in
@@ -176,7 +176,7 @@ answer_of hash command before after status (Err halts.NoMemory) comes ended =
     (inr (spent on.said before after status on.files ended.printed.0 ended.printed.1))
 
 pub from_sink : (plan : Plan) (before after : World) (status meant : Status) (text : List ℕ)
-    → Prints meant text before.sink after.sink status
+    → PrintsText meant text before.sink after.sink status
     → (meant ≡ Outside → HasOutsideCause plan before after) → status ≡ Outside
     → HasOutsideCause plan before after
 from_sink plan before after status meant text (inl whole) cause outside = cause
@@ -186,7 +186,7 @@ from_sink plan before after status meant text (inr stop) cause outside = elim st
 
 pub outside_of : (hash : List ℕ → List ℕ) (command : Command) (before after : World) (status : Status)
     (came : Result Ending Halt) → IsCarriedOut hash command before.shelf after.shelf came
-    → Finishes came before.sink after.sink status
+    → PrintsEnding came before.sink after.sink status
     → status ≡ Outside → HasOutsideCause (say hash (Some command)) before after
 outside_of hash command before after status (Ok ending) comes ended outside =
     from_sink (say hash (Some command)) before after status ending.status (printed_of ending) ended.printed
@@ -200,7 +200,7 @@ outside_of hash command before after status (Err halts.NoMemory) comes ended out
 
 pub quiet_of : (hash : List ℕ → List ℕ) (command : Command) (before after : World) (status : Status)
     (came : Result Ending Halt) → IsCarriedOut hash command before.shelf after.shelf came
-    → Finishes came before.sink after.sink status → IsQuiet status before after
+    → PrintsEnding came before.sink after.sink status → IsQuiet status before after
 quiet_of hash command before after status (Ok ending) comes ended settled = elim ended.printed [
   | inl whole ↦ (comes.quiet (subst IsSettled whole.0 settled), whole.2)
   | inr stop ↦ elim stop.0 [ inl e ↦ absurd (settled.1 e) | inr e ↦ absurd (settled.0 e.0) ]
@@ -216,7 +216,7 @@ quiet_of hash command before after status (Err halts.NoMemory) comes ended settl
 -- the line on words that spell no command was printed, or a front of it
 pub words_answered : (hash : List ℕ → List ℕ) (before after : World) (status : Status)
     → after.shelf ≡ before.shelf
-    → Prints BadWords bad_words_line before.sink after.sink status
+    → PrintsText BadWords bad_words_line before.sink after.sink status
     → IsAnswer hash None before after status
 words_answered hash before after status same ended =
     let said = ends BadWords bad_words_line in

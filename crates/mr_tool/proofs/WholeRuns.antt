@@ -6,15 +6,15 @@ use Rattle.mr_proof.proofs.PreimageBytes.{IsSized}
 use Rattle.mr_outside.specs.Files.{Files}
 use Rattle.mr_command.specs.Answer.{World, IsQuiet}
 use Rattle.mr_command.specs.Counting.{AllowsReads, MayRead}
-use Rattle.mr_command.specs.Ending.{Comes, Finishes, IsCarriedOut, Prints}
+use Rattle.mr_command.specs.Ending.{RunsPlan, PrintsEnding, IsCarriedOut, PrintsText}
 use Rattle.mr_plan.specs.Lines.{bad_words_line}
 use Rattle.mr_tool.specs.Run.{AnswersWords, BlamesRightly, IsRun, ReadsFewWords}
 use Rattle.mr_plan.specs.Outcome.{Outcome}
-use Rattle.mr_plan.specs.Plan.{Leads}
+use Rattle.mr_plan.specs.Plan.{LeadsToOutcome}
 use Rattle.mr_plan.specs.Say.{ends, say}
 use Rattle.mr_plan.specs.Spelling.{AsksAs, IsSpelled}
 use Rattle.mr_plan.specs.Untold.{MaySayUntold}
-use Rattle.mr_plan.specs.Words.{Spells}
+use Rattle.mr_plan.specs.Words.{SpellsCommand}
 use Rattle.mr_command.specs.declared.ending.Ending.{Ending}
 use Rattle.mr_command.specs.declared.ending.Halt.{Halt}
 use Rattle.mr_command.specs.declared.ending.Halt.TheVariants as halts
@@ -30,9 +30,9 @@ use Rattle.mr_tool.proofs.Runs.{answer_of, from_sink, outside_of, quiet_of, word
 -- a command that is its plan over any files is carried out
 pub as_plain : (hash : List ℕ → List ℕ) (command other : Command) (before after : Shelved)
     (result : Result Ending Halt) → command ≡ other
-    → ((said : Outcome) → Leads (say hash (Some other)) None said → MaySayUntold hash (Some other) said)
+    → ((said : Outcome) → LeadsToOutcome (say hash (Some other)) None said → MaySayUntold hash (Some other) said)
     → ((files : Files) (n : ℕ) → AllowsReads (say hash (Some other)) files n → MayRead hash (Some other) files n)
-    → Comes (say hash (Some other)) before after result → IsCarriedOut hash command before after result
+    → RunsPlan (say hash (Some other)) before after result → IsCarriedOut hash command before after result
 as_plain hash command other before after result is says few on =
     subst (λ c. IsCarriedOut hash c before after result) (sym is)
     (comes_plain (say hash (Some other)) before after (MaySayUntold hash (Some other)) (MayRead hash (Some other))
@@ -48,10 +48,10 @@ module _ (hash : List ℕ → List ℕ) (words : List (List ℕ)) (before after 
   -- of words that spell a command
   pub run_of : (command : Command) (came : Result Ending Halt) → IsSized hash
       → ((c : Option Command) → IsSpelled words c → AsksAs c (Some command))
-      → IsCarriedOut hash command before.shelf after.shelf came → Finishes came before.sink after.sink status
+      → IsCarriedOut hash command before.shelf after.shelf came → PrintsEnding came before.sink after.sink status
       → IsRun hash words before after status
   run_of command came sized read comes ended =
-      let carried : (c : Command) → Spells words c → IsCarriedOut hash c before.shelf after.shelf came =
+      let carried : (c : Command) → SpellsCommand words c → IsCarriedOut hash c before.shelf after.shelf came =
       λ c spells. carried_alike hash c command before.shelf after.shelf came (read (Some c) spells) comes in
       record {
         answer = answer carried;
@@ -75,22 +75,22 @@ module _ (hash : List ℕ → List ℕ) (words : List (List ℕ)) (before after 
       not_none : {A : Type 0} → IsSpelled words None → A
       not_none spelled = let e = read None spelled in absurd (cc)
 
-      answer : ((c : Command) → Spells words c → IsCarriedOut hash c before.shelf after.shelf came)
+      answer : ((c : Command) → SpellsCommand words c → IsCarriedOut hash c before.shelf after.shelf came)
           → AnswersWords hash words before after status
       answer carried None spelled = not_none spelled
       answer carried (Some c) spelled = answer_of hash c before after status came (carried c spelled) ended
 
-      outside : ((c : Command) → Spells words c → IsCarriedOut hash c before.shelf after.shelf came)
+      outside : ((c : Command) → SpellsCommand words c → IsCarriedOut hash c before.shelf after.shelf came)
           → BlamesRightly hash words before after status
       outside carried None spelled is = not_none spelled
       outside carried (Some c) spelled is = outside_of hash c before after status came (carried c spelled) ended is
 
-      reads : ((c : Command) → Spells words c → IsCarriedOut hash c before.shelf after.shelf came)
+      reads : ((c : Command) → SpellsCommand words c → IsCarriedOut hash c before.shelf after.shelf came)
           → ReadsFewWords hash words before after
       reads carried None spelled = not_none spelled
       reads carried (Some c) spelled = (carried c spelled).few
 
-  quiet_words : after.shelf ≡ before.shelf → Prints BadWords bad_words_line before.sink after.sink status
+  quiet_words : after.shelf ≡ before.shelf → PrintsText BadWords bad_words_line before.sink after.sink status
       → IsQuiet status before after
   quiet_words same printed settled = elim printed [
     | inl whole ↦ (ap (λ s. s.faults) same, whole.2)
@@ -99,7 +99,7 @@ module _ (hash : List ℕ → List ℕ) (words : List (List ℕ)) (before after 
 
   -- of words that spell none
   pub run_of_none : after.shelf ≡ before.shelf → IsSpelled words None
-      → Finishes (Err halts.Words) before.sink after.sink status → IsRun hash words before after status
+      → PrintsEnding (Err halts.Words) before.sink after.sink status → IsRun hash words before after status
   run_of_none same none ended = record {
     answer = answer;
     outside = outside;

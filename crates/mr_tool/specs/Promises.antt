@@ -4,7 +4,7 @@
 use Rattle.std.specs.Prelude.{◌≡◌, ◌⊎◌, ⊤, ℕ, ◌^◌, ◌<◌, List, [], ◌∷◌, ◌++◌, length, All, Option, Some, None, Ok}
 use Rattle.std.specs.Borrow.{Bor}
 use Rattle.mr_outside.specs.Files.{Files, file}
-use Rattle.mr_outside.specs.Told.{Takes}
+use Rattle.mr_outside.specs.Told.{TakesBytes}
 use Rattle.mr_record.specs.RecordText.{records_of_text, text_of}
 use Rattle.mr_record.specs.declared.record.Record.{Record}
 use Rattle.mr_record.specs.declared.version.Version.{Version}
@@ -22,7 +22,7 @@ use Rattle.mr_batch.specs.Replay.{replay}
 use Rattle.mr_query.specs.Scan.{scan}
 use Rattle.mr_query.specs.Script.{queries_of_text}
 use Rattle.mr_query.specs.declared.query.Query.{Query}
-use Rattle.mr_proof.specs.Accepted.{Proves}
+use Rattle.mr_proof.specs.Accepted.{ProvesAnswer}
 use Rattle.mr_proof.specs.Clash.{Pair, clash, IsCollision, NoneAnd}
 use Rattle.mr_proof.specs.Honest as honest
 use Rattle.mr_bundle.specs.Bundle.{parts}
@@ -33,21 +33,21 @@ use Rattle.mr_plan.specs.Judged.{IsAccepted}
 use Rattle.mr_plan.specs.Outcome.{Outcome}
 use Rattle.mr_plan.specs.Lines.{digest_line, sound_line, collision_lines}
 use Rattle.mr_plan.specs.Say.{ends, prints}
-use Rattle.mr_plan.specs.Words.{Spells}
+use Rattle.mr_plan.specs.Words.{SpellsCommand}
 use Rattle.mr_plan.specs.declared.status.Status.{Status}
 use Rattle.mr_plan.specs.declared.status.Status.TheVariants.{Done, Collision}
 use Rattle.mr_plan.specs.declared.words.Command.{Command}
 use Rattle.mr_plan.specs.declared.words.Command.TheVariants as commands
 
 -- the files are told, and the named one holds these bytes
-abbrev pub Holds : Option Files → List ℕ → List ℕ → Type 0
-Holds None name bytes = ⊥
-Holds (Some files) name bytes = file files name ≡ Some bytes
+abbrev pub HoldsBytes : Option Files → List ℕ → List ℕ → Type 0
+HoldsBytes None name bytes = ⊥
+HoldsBytes (Some files) name bytes = file files name ≡ Some bytes
 
 -- it holds a text of records of this version without a fault
 pub record HoldsRecords (v : Version) (told : Option Files) (name : List ℕ) : Type 0 where
   pub bytes : List ℕ
-  pub held : Holds told name bytes
+  pub held : HoldsBytes told name bytes
   pub list : List Record
   pub right : records_of_text v bytes ≡ Ok list
 
@@ -55,7 +55,7 @@ pub record HoldsRecords (v : Version) (told : Option Files) (name : List ℕ) : 
 pub record HoldsMap (v : Version) (hash : List ℕ → List ℕ) (told : Option Files) (name : List ℕ)
     : Type 0 where
   pub bytes : List ℕ
-  pub held : Holds told name bytes
+  pub held : HoldsBytes told name bytes
   pub tree : Tree
   pub batch : ℕ
   pub stands : IsMapFile hash bytes (map_in v tree batch)
@@ -68,15 +68,15 @@ HoldsAnyMap hash told name = (v : Version) × HoldsMap v hash told name
 pub record HoldsProof (hash : List ℕ → List ℕ) (told : Option Files) (root : List ℕ) (q : Query)
     (name : List ℕ) : Type 0 where
   pub bytes : List ℕ
-  pub held : Holds told name bytes
+  pub held : HoldsBytes told name bytes
   pub answer : List Record
-  pub proves : Proves hash root q bytes answer
+  pub proves : ProvesAnswer hash root q bytes answer
 
 -- a map of version 1, and the honest proof of the answer to a query on it
 pub record HoldsHonest (hash : List ℕ → List ℕ) (told : Option Files) (map : List ℕ) (q : Query)
     (name : List ℕ) : Type 0 where
   pub on : HoldsMap One hash told map
-  pub own : Holds told name (honest.proof (first hash) on.tree on.batch q)
+  pub own : HoldsBytes told name (honest.proof (first hash) on.tree on.batch q)
 
 -- a map of either version, and a text of a batch without a fault in that version, which may be
 -- applied to it
@@ -85,7 +85,7 @@ pub record HoldsBatch (hash : List ℕ → List ℕ) (told : Option Files) (map 
   pub version : Version
   pub on : HoldsMap version hash told map
   pub text : List ℕ
-  pub beside : Holds told name text
+  pub beside : HoldsBytes told name text
   pub changes : Changes
   pub right : batch_of_text version text ≡ Ok changes
   pub may : IsAdmissible (records on.tree) on.batch changes
@@ -95,7 +95,7 @@ pub record HoldsScript (hash : List ℕ → List ℕ) (told : Option Files) (map
     (name : List ℕ) : Type 0 where
   pub on : HoldsMap One hash told map
   pub text : List ℕ
-  pub beside : Holds told name text
+  pub beside : HoldsBytes told name text
   pub queries : List Query
   pub right : queries_of_text text ≡ Ok queries
 
@@ -104,11 +104,11 @@ pub record HoldsScript (hash : List ℕ → List ℕ) (told : Option Files) (map
 pub record HoldsBundle (hash : List ℕ → List ℕ) (told : Option Files) (root : List ℕ)
     (script : List ℕ) (name : List ℕ) : Type 0 where
   pub text : List ℕ
-  pub held : Holds told script text
+  pub held : HoldsBytes told script text
   pub queries : List Query
   pub right : queries_of_text text ≡ Ok queries
   pub bytes : List ℕ
-  pub beside : Holds told name bytes
+  pub beside : HoldsBytes told name bytes
   pub unbroken : (parts bytes (length queries)).broken ≡ None
   pub accepted : All IsAccepted
       (verdicts hash root queries bytes (parts bytes (length queries)).list)
@@ -137,12 +137,12 @@ IsInOrder hash told (commands.Demo count seed) = ⊤
 -- outside failed
 abbrev pub CompletesWords : (List ℕ → List ℕ) → List (List ℕ) → World → World → Status → Type 0
 CompletesWords hash words before after status =
-    (command : Command) → Spells words command → IsInOrder hash before.shelf.files command
+    (command : Command) → SpellsCommand words command → IsInOrder hash before.shelf.files command
     → (status ≡ Done) ⊎ HasStopped before after status
 
 -- all this was done, unless memory ran out or something outside failed
-abbrev pub Delivers : Outcome → World → World → Status → Type 0
-Delivers said before after status = IsWhole said before after status
+abbrev pub DeliversOutcome : Outcome → World → World → Status → Type 0
+DeliversOutcome said before after status = IsWhole said before after status
     ⊎ HasStopped before after status
 
 -- `check` of the proof that an honest server gives, against the root digest of its map, prints
@@ -151,16 +151,16 @@ abbrev pub AnswersHonest : (List ℕ → List ℕ) → List (List ℕ) → World
 AnswersHonest hash words before after status =
     (t : Tree) (batch : ℕ) (root : List ℕ) (q : Query) (proof : Bor (List ℕ))
     → WellFormed t → HasLayers One t → batch < 2 ^ 64
-    → root ≡ map_root hash (first_map t batch) → Spells words (commands.Check root q proof)
-    → Holds before.shelf.files proof.now (honest.proof (first hash) t batch q)
-    → Delivers (prints (text_of One (scan (records t) q))) before after status
+    → root ≡ map_root hash (first_map t batch) → SpellsCommand words (commands.Check root q proof)
+    → HoldsBytes before.shelf.files proof.now (honest.proof (first hash) t batch q)
+    → DeliversOutcome (prints (text_of One (scan (records t) q))) before after status
 
 -- the bytes are those that an honest server gives, and what was printed is what a scan of the map's
 -- records gives
 pub record PrintsScan (s : Scheme) (t : Tree) (batch : ℕ) (q : Query)
     (bytes : List ℕ) (before after : World) : Type 0 where
   pub own : bytes ≡ honest.proof s t batch q
-  pub printed : Takes before.sink after.sink (text_of One (scan (records t) q))
+  pub printed : TakesBytes before.sink after.sink (text_of One (scan (records t) q))
 
 -- the bytes prove an answer; and no two strings stand at one place of the map and of the bytes and
 -- differ, the bytes are the honest proof and what was printed is the scan, or the first two that do
@@ -168,7 +168,7 @@ pub record PrintsScan (s : Scheme) (t : Tree) (batch : ℕ) (q : Query)
 pub record IsWorth (s : Scheme) (t : Tree) (batch : ℕ) (q : Query)
     (bytes : List ℕ) (before after : World) : Type 0 where
   pub answer : List Record
-  pub proves : Proves s.of (digests.root s t batch) q bytes answer
+  pub proves : ProvesAnswer s.of (digests.root s t batch) q bytes answer
   pub worth : NoneAnd s.of (clash s t batch bytes) (PrintsScan s t batch q bytes before after)
 
 -- What it is worth that `check` accepts bytes against the root digest of a map, for every map of
@@ -179,7 +179,8 @@ AcceptsHonestOrCollides hash words before after status =
     (v : Version) (t : Tree) (batch : ℕ) (root : List ℕ) (q : Query) (proof : Bor (List ℕ))
     (bytes : List ℕ)
     → WellFormed t → HasLayers v t → batch < 2 ^ 64 → root ≡ map_root hash (map_in v t batch)
-    → Spells words (commands.Check root q proof) → Holds before.shelf.files proof.now bytes
+    → SpellsCommand words (commands.Check root q proof) → HoldsBytes before.shelf.files
+    proof.now bytes
     → status ≡ Done → IsWorth (by v hash) t batch q bytes before after
 
 -- What `audit` says of accepted bytes, by the first two strings that differ: that they are the
@@ -188,10 +189,10 @@ abbrev pub SaysWorth : (List ℕ → List ℕ) → Tree → (batch : ℕ) → Qu
     → World → World → Status → Type 0
 SaysWorth hash t batch q bytes None before after status =
     (bytes ≡ honest.proof (first hash) t batch q)
-    × Delivers (prints (sound_line ++ text_of One (scan (records t) q))) before after status
+    × DeliversOutcome (prints (sound_line ++ text_of One (scan (records t) q))) before after status
 SaysWorth hash t batch q bytes (Some p) before after status =
     IsCollision hash p
-    × Delivers (ends Collision (collision_lines p.owned p.shown)) before after status
+    × DeliversOutcome (ends Collision (collision_lines p.owned p.shown)) before after status
 
 -- So it says of each proof that is accepted against the root digest of the map of version 1 that a
 -- file stands for.
@@ -199,9 +200,9 @@ abbrev pub AuditsAccepted : (List ℕ → List ℕ) → List (List ℕ) → Worl
 AuditsAccepted hash words before after status =
     (t : Tree) (batch : ℕ) (map : Bor (List ℕ)) (q : Query) (proof : Bor (List ℕ))
     (held bytes : List ℕ) (answer : List Record)
-    → Spells words (commands.Audit map q proof) → Holds before.shelf.files map.now held
-    → IsMapFile hash held (first_map t batch) → Holds before.shelf.files proof.now bytes
-    → Proves hash (map_root hash (first_map t batch)) q bytes answer
+    → SpellsCommand words (commands.Audit map q proof) → HoldsBytes before.shelf.files map.now held
+    → IsMapFile hash held (first_map t batch) → HoldsBytes before.shelf.files proof.now bytes
+    → ProvesAnswer hash (map_root hash (first_map t batch)) q bytes answer
     → SaysWorth hash t batch q bytes (clash (first hash) t batch bytes) before after status
 
 -- Two strings that `audit` shows as a collision differ and have one hash, whether files are told or
@@ -209,20 +210,20 @@ AuditsAccepted hash words before after status =
 abbrev pub CollidesRightly : (List ℕ → List ℕ) → List (List ℕ) → World → World → Status → Type 0
 CollidesRightly hash words before after status =
     (map : Bor (List ℕ)) (q : Query) (proof : Bor (List ℕ))
-    → Spells words (commands.Audit map q proof)
+    → SpellsCommand words (commands.Audit map q proof)
     → status ≡ Collision
     → (p : Pair) × IsCollision hash p
-    × Takes before.sink after.sink (collision_lines p.owned p.shown)
+    × TakesBytes before.sink after.sink (collision_lines p.owned p.shown)
 
 -- what `apply` prints and leaves of a batch on a map: the batch may be applied, the root digest of
 -- the map after it is printed, and the new file stands for that
 pub record IsApplied (v : Version) (hash : List ℕ → List ℕ) (t : Tree) (held : ℕ) (b : Changes)
     (new : List ℕ) (before after : World) : Type 0 where
   pub may : IsAdmissible (records t) held b
-  pub printed : Takes before.sink after.sink
+  pub printed : TakesBytes before.sink after.sink
       (digest_line (map_root hash (map_in v (replay t (b ∷ [])) b.number)))
   pub bytes : List ℕ
-  pub there : Holds after.shelf.files new bytes
+  pub there : HoldsBytes after.shelf.files new bytes
   pub stands : IsMapFile hash bytes (map_in v (replay t (b ∷ [])) b.number)
 
 -- So it does in either version by the map alone, whatever the layout of its file: two files that
@@ -231,23 +232,24 @@ abbrev pub AppliesAlike : (List ℕ → List ℕ) → List (List ℕ) → World 
 AppliesAlike hash words before after status =
     (v : Version) (t : Tree) (held : ℕ) (old batch new : Bor (List ℕ)) (bytes text : List ℕ)
     (b : Changes)
-    → Spells words (commands.Apply old batch new) → Holds before.shelf.files old.now bytes
-    → IsMapFile hash bytes (map_in v t held) → Holds before.shelf.files batch.now text
+    → SpellsCommand words (commands.Apply old batch new) → HoldsBytes before.shelf.files
+    old.now bytes
+    → IsMapFile hash bytes (map_in v t held) → HoldsBytes before.shelf.files batch.now text
     → batch_of_text v text ≡ Ok b → status ≡ Done → IsApplied v hash t held b new.now before after
 
 -- what `upgrade` prints and leaves of a map: the root digest of its tree and batch in the second
 -- version is printed, and the new file stands for these in that version
 pub record IsUpgraded (hash : List ℕ → List ℕ) (t : Tree) (batch : ℕ) (new : List ℕ)
     (before after : World) : Type 0 where
-  pub printed : Takes before.sink after.sink (digest_line (map_root hash (map_in Two t batch)))
+  pub printed : TakesBytes before.sink after.sink (digest_line (map_root hash (map_in Two t batch)))
   pub bytes : List ℕ
-  pub there : Holds after.shelf.files new bytes
+  pub there : HoldsBytes after.shelf.files new bytes
   pub stands : IsMapFile hash bytes (map_in Two t batch)
 
 -- so it does of every map, whichever version its file has
 abbrev pub UpgradesAll : (List ℕ → List ℕ) → List (List ℕ) → World → World → Status → Type 0
 UpgradesAll hash words before after status =
     (v : Version) (t : Tree) (batch : ℕ) (old new : Bor (List ℕ)) (bytes : List ℕ)
-    → Spells words (commands.Upgrade old new) → Holds before.shelf.files old.now bytes
+    → SpellsCommand words (commands.Upgrade old new) → HoldsBytes before.shelf.files old.now bytes
     → IsMapFile hash bytes (map_in v t batch) → status ≡ Done
     → IsUpgraded hash t batch new.now before after

@@ -1,8 +1,8 @@
 -- A run of the program on some words, as the clauses of `run` say it.
 use Rattle.std.specs.Prelude.{◌≡◌, ℕ, List, Option}
-use Rattle.mr_command.specs.Answer.{World, Counts, HasOutsideCause, IsAnswer, IsQuiet}
+use Rattle.mr_command.specs.Answer.{World, NoCountFalls, HasOutsideCause, IsAnswer, IsQuiet}
 use Rattle.mr_tool.specs.Promises.{CompletesWords, AnswersHonest, AcceptsHonestOrCollides, AuditsAccepted, CollidesRightly, AppliesAlike, UpgradesAll}
-use Rattle.mr_command.specs.Counting.{MayRead, ReadsFew}
+use Rattle.mr_command.specs.Counting.{MayRead, ReadsWithinPlan}
 use Rattle.mr_plan.specs.Say.{say}
 use Rattle.mr_plan.specs.Spelling.{IsSpelled}
 use Rattle.mr_plan.specs.Status.{code_of}
@@ -25,13 +25,13 @@ BlamesRightly hash words before after status =
 -- where the files are told, no more is read than the command takes
 abbrev pub ReadsFewWords : (List ℕ → List ℕ) → List (List ℕ) → World → World → Type 0
 ReadsFewWords hash words before after = (command : Option Command) → IsSpelled words command
-    → ReadsFew (MayRead hash command) before.shelf after.shelf
+    → ReadsWithinPlan (MayRead hash command) before.shelf after.shelf
 
 pub record IsRun (hash : List ℕ → List ℕ) (words : List (List ℕ)) (before after : World)
     (status : Status) : Type 0 where
   pub answer : AnswersWords hash words before after status
   pub outside : BlamesRightly hash words before after status
-  pub counts : Counts before after
+  pub counts : NoCountFalls before after
   pub quiet : IsQuiet status before after
   pub reads : ReadsFewWords hash words before after
   pub complete : CompletesWords hash words before after status

@@ -3,11 +3,11 @@
 ghost use Rattle.std.specs.Prelude.{◌≡◌, ◌++◌, ◌≤◌, OnOk};
 ghost use Rattle.std.specs.String.{string_bytes};
 ghost use Rattle.mr_outside.specs.Causes.{SinkCauses};
-ghost use Rattle.mr_outside.specs.Told.{Takes, TakesFront};
+ghost use Rattle.mr_outside.specs.Told.{TakesBytes, TakesFront};
 ghost use Rattle.mr_record.specs.RecordText.{text_of};
-ghost use Rattle.mr_command.specs.Ending.{Finishes, HasLines, Prints, printed_of, shown_of};
+ghost use Rattle.mr_command.specs.Ending.{PrintsEnding, HasLines, PrintsText, printed_of, records_out};
 
-use mr_command::{Ending, Halt, Shown, write_tree};
+use mr_command::{Ending, Halt, RecordsOut, write_tree};
 use mr_outside::{Sink, SinkErr, write_all};
 use mr_plan::Status;
 use mr_record::{Version, write_lines};
@@ -15,7 +15,7 @@ use mr_record::{Version, write_lines};
 // Writes the text of an ending, its records one by one.
 fn write_ending<W: Sink>(out: &mut W, ending: &Ending) -> Result<(), SinkErr>
     ensures whole { OnOk result
-        (Takes (W.state out.old) (W.state out.new) (printed_of ending.now)) }
+        (TakesBytes (W.state out.old) (W.state out.new) (printed_of ending.now)) }
     ensures front { TakesFront (W.state out.old) (W.state out.new) (printed_of ending.now) }
     ensures causes { SinkCauses (W.state out.old) (W.state out.new) result }
 {
@@ -24,23 +24,24 @@ fn write_ending<W: Sink>(out: &mut W, ending: &Ending) -> Result<(), SinkErr>
 }
 
 // Writes a line of this version for each record that is shown.
-fn write_shown<W: Sink>(out: &mut W, version: Version, records: &Shown) -> Result<(), SinkErr>
+fn write_shown<W: Sink>(out: &mut W, version: Version, records: &RecordsOut) -> Result<(), SinkErr>
     requires { HasLines version records.now }
     ensures whole { OnOk result
-        (Takes (W.state out.old) (W.state out.new) (text_of version (shown_of records.now))) }
+        (TakesBytes (W.state out.old) (W.state out.new)
+        (text_of version (records_out records.now))) }
     ensures front { TakesFront (W.state out.old) (W.state out.new)
-        (text_of version (shown_of records.now)) }
+        (text_of version (records_out records.now)) }
     ensures causes { SinkCauses (W.state out.old) (W.state out.new) result }
 {
     match records {
-        Shown::Records(list) => write_lines(out, version, list),
-        Shown::OfTree(alloc, tree) => write_tree(*alloc, out, version, tree),
+        RecordsOut::Records(list) => write_lines(out, version, list),
+        RecordsOut::OfTree(alloc, tree) => write_tree(*alloc, out, version, tree),
     }
 }
 
 // Prints a line, the last thing that a run does.
 fn print<W: Sink>(out: &mut W, line: &[u8], meant: Status) -> Status
-    ensures printed { Prints meant line.now (W.state out.old) (W.state out.new) result }
+    ensures printed { PrintsText meant line.now (W.state out.old) (W.state out.new) result }
     ensures faults { (W.state out.old).faults ≤ (W.state out.new).faults }
 {
     match write_all(out, line) {
@@ -52,7 +53,7 @@ fn print<W: Sink>(out: &mut W, line: &[u8], meant: Status) -> Status
 
 // Prints an ending, the last thing that a run does.
 fn print_ending<W: Sink>(out: &mut W, ending: &Ending) -> Status
-    ensures printed { Prints ending.now.status (printed_of ending.now) (W.state out.old)
+    ensures printed { PrintsText ending.now.status (printed_of ending.now) (W.state out.old)
         (W.state out.new) result }
     ensures faults { (W.state out.old).faults ≤ (W.state out.new).faults }
 {
@@ -65,7 +66,7 @@ fn print_ending<W: Sink>(out: &mut W, ending: &Ending) -> Status
 
 // Prints what a command came to, the last thing that a run does.
 pub(crate) fn finish<W: Sink>(out: &mut W, came: Result<Ending, Halt>) -> Status
-    ensures { Finishes came (W.state out.old) (W.state out.new) result }
+    ensures { PrintsEnding came (W.state out.old) (W.state out.new) result }
 {
     match came {
         Ok(ending) => print_ending(out, &ending),

@@ -2,9 +2,9 @@
 
 ghost use Rattle.std.specs.Prelude.{◌≡◌, ℕ, List, length, Some, None, map};
 ghost use Rattle.std.specs.String.{string_bytes};
-ghost use Rattle.mr_record.specs.Bytes.{AreBytes};
-ghost use Rattle.mr_command.specs.Answer.{Counts, IsQuiet, world};
-ghost use Rattle.mr_command.specs.Ending.{Comes, IsCarriedOut};
+ghost use Rattle.mr_record.specs.private.Bytes.{AreBytes};
+ghost use Rattle.mr_command.specs.Answer.{NoCountFalls, IsQuiet, world};
+ghost use Rattle.mr_command.specs.Ending.{RunsPlan, IsCarriedOut};
 ghost use Rattle.mr_tool.specs.Promises.{CompletesWords, AnswersHonest, AcceptsHonestOrCollides, AuditsAccepted, CollidesRightly, AppliesAlike, UpgradesAll};
 ghost use Rattle.mr_tool.specs.Run.{AnswersWords, BlamesRightly, IsRun, ReadsFewWords};
 ghost use Rattle.mr_plan.specs.Say.{say_build};
@@ -32,7 +32,8 @@ fn build_on<H: Hash32, S: Shelf, G: Gate, R: Threads + Sync>(
     shelf: S,
     gate: &G,
 ) -> (Result<Ending, Halt>, S)
-    ensures { Comes (say_build version H.of map.now records.now) (S.state shelf) (S.state result.1)
+    ensures { RunsPlan (say_build version H.of map.now records.now) (S.state shelf)
+        (S.state result.1)
         result.0 }
 {
     let mut shelf = shelf;
@@ -164,7 +165,7 @@ pub fn run<H: Hash32, S: Shelf, W: Sink, G: Gate, R: Threads + Sync>(
         BlamesRightly H.of (map string_bytes words.now) before after result.0 }
     ensures counts { let before = world (S.state shelf) (W.state out.old) in
         let after = world (S.state result.1) (W.state out.new) in
-        Counts before after }
+        NoCountFalls before after }
     // Where it blames nothing outside and no want of memory, nothing outside failed.
     ensures quiet { let before = world (S.state shelf) (W.state out.old) in
         let after = world (S.state result.1) (W.state out.new) in

@@ -13,7 +13,7 @@ use Rattle.mr_record.specs.declared.version.Version.TheVariants.{One, Two}
 use Rattle.mr_record.specs.Version.{told}
 use Rattle.mr_tree.specs.Tree.{mask_of}
 use Rattle.mr_tree.specs.Digest.{Scheme, entry_step, entry_bytes, level_over, leaf_tag, inner_tag}
-use Rattle.mr_tree.specs.Gathers.{Piece, of_record, of_entry, Gathers}
+use Rattle.mr_tree.specs.HasHashed.{Piece, of_record, of_entry, HasHashed}
 use Rattle.mr_tree.specs.declared.entry.Entry.{Entry}
 use Rattle.mr_tree.specs.declared.tree.Tree.TheOpen.{Leaf, Inner}
 use Rattle.mr_tree.proofs.Told.{told_sum}
@@ -40,7 +40,7 @@ tallied v (r ∷ rs) =
     ∙ ap (λ n. told v 1 + n) (tallied v rs) ∙ sym (told_sum v 1 (length rs)) ∙ ap (told v) (omega arith)
 
 pub leaf_gathered : (s : Scheme) (holds : List ℕ → Type 0) (rs : List Record) (e : Entry) → e.level ≡ 0
-    → Gathers holds e.rect e.mask e.count (leaf_tag ∷ length rs ∷ []) (map (of_record s.version) rs)
+    → HasHashed holds e.rect e.mask e.count (leaf_tag ∷ length rs ∷ []) (map (of_record s.version) rs)
     → ((fed : List ℕ) → holds fed → e.digest ≡ s.of fed) → e ≡ entry_step s (Leaf rs)
 leaf_gathered s holds rs e low all digest = λ i. record {
   level = low i;
@@ -55,7 +55,8 @@ leaf_gathered s holds rs e low all digest = λ i. record {
 
 pub inner_gathered : {X : Type 0} (s : Scheme) (holds : List ℕ → Type 0) (f : X → Entry) (xs : List X) (level : ℕ)
     (e : Entry) → level ≡ level_over (map f xs) → e.level ≡ level
-    → Gathers holds e.rect e.mask e.count (inner_tag ∷ level ∷ length xs ∷ []) (map (λ x. of_entry s.version (f x)) xs)
+    → HasHashed holds e.rect e.mask e.count (inner_tag ∷ level ∷ length xs ∷ [])
+    (map (λ x. of_entry s.version (f x)) xs)
     → ((fed : List ℕ) → holds fed → e.digest ≡ s.of fed) → e ≡ entry_step s (Inner (map f xs))
 inner_gathered {X} s holds f xs level e at low all digest = λ i. record {
   level = (low ∙ at) i;

@@ -14,11 +14,11 @@ use Rattle.mr_tree.specs.Digest.{Scheme, entry, entry_step, level_over}
 use Rattle.mr_tree.specs.declared.entry.Entry.{Entry}
 use Rattle.mr_record.specs.Record.{HasLayer}
 use Rattle.mr_tree.specs.Limits.{count_limit}
-use Rattle.mr_tree.specs.View.{children_in, MayTell, AreTold, HasCount, level_of, entry_of}
+use Rattle.mr_tree.specs.View.{children_in, MayTell, AreTold, HasCount, level_of, child_entry}
 use Rattle.mr_tree.specs.WellFormed.{HasLayers}
 use Rattle.mr_tree.specs.Nodes.{subtrees}
 use Rattle.mr_tree.specs.Snapshot.{node_of, tree_at, tree_over, add_tree, trees, HasShape, IsLinked, IsNode, AreLinked, IsPlaced}
-use Rattle.mr_tree.specs.Sound.{IsSound, IsSoundNode}
+use Rattle.mr_tree.specs.private.Sound.{IsSound, IsSoundNode}
 use Rattle.mr_tree.specs.declared.child.Child.{Child}
 use Rattle.mr_tree.specs.declared.stored.Stored.{Stored}
 use Rattle.mr_tree.specs.declared.stored.Stored.TheVariants.{Records, Children}
@@ -105,7 +105,7 @@ put_here ns n =
     ∙ get_or-append_seam (trees ns) (tree_over (trees ns) n) [] tree.Empty
 
 pub put_placed : (hash : Scheme) (ns : List Stored) (n : Stored) (c : Child) (t : Tree) → AreLinked hash ns →
-    IsNode hash (trees ns) n → tree_over (trees ns) n ≡ t → c.id ≡ length ns + 1 → entry_of c ≡ entry hash t →
+    IsNode hash (trees ns) n → tree_over (trees ns) n ≡ t → c.id ≡ length ns + 1 → child_entry c ≡ entry hash t →
     IsPlaced hash ns (ns ++ n ∷ []) c t (t ∷ [])
 put_placed hash ns n c t linked here is id same =
     let at : tree_at (trees (ns ++ n ∷ [])) c.id ≡ t =
@@ -125,7 +125,7 @@ put_placed hash ns n c t linked here is id same =
 
 pub leaf_placed : (hash : Scheme) (ns : List Stored) (rs : List Record) (c : Child) → AreLinked hash ns →
     IsSoundNode (Leaf rs) → All (HasLayer hash.version) rs → c.id ≡ length ns + 1 →
-    entry_of c ≡ entry_step hash (Leaf rs) →
+    child_entry c ≡ entry_step hash (Leaf rs) →
     IsPlaced hash ns (ns ++ Records rs ∷ []) c (tree.Leaf rs) (tree.Leaf rs ∷ [])
 leaf_placed hash ns rs c linked sound layers id said =
     put_placed hash ns (Records rs) c (tree.Leaf rs) linked
@@ -146,17 +146,17 @@ leaf_placed hash ns rs c linked sound layers id said =
 
 -- ---- an inner node
 
-pub level_over_children : (cs : List Child) → level_of (Inner cs) ≡ level_over (map entry_of cs)
-level_over_children cs = ap (λ ns. first_level ns + 1) (sym (map-map (λ (e : Entry). e.level) entry_of cs))
+pub level_over_children : (cs : List Child) → level_of (Inner cs) ≡ level_over (map child_entry cs)
+level_over_children cs = ap (λ ns. first_level ns + 1) (sym (map-map (λ (e : Entry). e.level) child_entry cs))
 
 pub entries_of : (hash : Scheme) (ts : List Tree) (cs : List Child) → AllByRecursion (IsLinked hash ts) cs →
-    map entry_of cs ≡ map (entry hash) (map (λ (c : Child). tree_at ts c.id) cs)
+    map child_entry cs ≡ map (entry hash) (map (λ (c : Child). tree_at ts c.id) cs)
 entries_of hash ts [] links = refl
 entries_of hash ts (c ∷ cs) links = λ i. links.0.entry i ∷ entries_of hash ts cs links.1 i
 
 pub inner_placed : (hash : Scheme) (ns : List Stored) (cs : List Child) (c : Child) → AreLinked hash ns →
     HasShape (Inner cs) → AreTold hash.version (Inner cs) → All (IsLinked hash (trees ns)) cs → c.id ≡ length ns + 1 →
-    entry_of c ≡ entry_step hash (Inner (map entry_of cs)) →
+    child_entry c ≡ entry_step hash (Inner (map child_entry cs)) →
     IsPlaced hash ns (ns ++ Children cs ∷ []) c (tree_over (trees ns) (Children cs))
     (tree_over (trees ns) (Children cs) ∷ [])
 inner_placed hash ns cs c linked shape told links id said =
@@ -284,15 +284,16 @@ leaf_there hash rs some =
     union_is_some (map (λ (r : Record). Some r.rect) rs)
     (omega (arith, some, length-map rs (λ (r : Record). Some r.rect))) (of_records rs)
 
-rects_there : (cs : List Child) → AllByRecursion IsSome (map (λ (e : Entry). e.rect) (map entry_of cs))
+rects_there : (cs : List Child) → AllByRecursion IsSome (map (λ (e : Entry). e.rect) (map child_entry cs))
 rects_there [] = tt
 rects_there (c ∷ cs) = (refl, rects_there cs)
 
 pub inner_there : (hash : Scheme) (cs : List Child) → 1 ≤ length cs →
-    IsSome (entry_step hash (Inner (map entry_of cs))).rect
+    IsSome (entry_step hash (Inner (map child_entry cs))).rect
 inner_there hash cs some =
-    union_is_some (map (λ (e : Entry). e.rect) (map entry_of cs))
-    (omega (arith, some, length-map (map entry_of cs) (λ (e : Entry). e.rect), length-map cs entry_of)) (rects_there cs)
+    union_is_some (map (λ (e : Entry). e.rect) (map child_entry cs))
+    (omega (arith, some, length-map (map child_entry cs) (λ (e : Entry). e.rect), length-map cs child_entry))
+    (rects_there cs)
 
 pub grown_all : (old mid : List Stored) (us ts : List Tree) → trees mid ≡ trees old ++ flat_map subtrees us → us ≡ ts →
     trees mid ≡ trees old ++ flat_map subtrees ts

@@ -14,9 +14,9 @@ use Rattle.mr_tree.specs.declared.entry.Entry.{Entry}
 use Rattle.mr_tree.specs.WellFormed.{WellFormed, HasLayers}
 use Rattle.mr_record.specs.Version.{told}
 use Rattle.mr_tree.proofs.Told.{any_layers, may_tell, count_told}
-use Rattle.mr_tree.specs.View.{Node, MayTell, level_of, entry_of}
-use Rattle.mr_tree.specs.Nodes.{Standing, MayFetch, IsNodeOf, Shows, IsTop, subtrees}
-use Rattle.mr_tree.specs.Snapshot.{with_id, standing_of, standing, node_of, tree_at, tree_over, trees, tree_of, HasShape, IsLinked, IsNode, AreLinked, IsSnapshot, IsRooted}
+use Rattle.mr_tree.specs.View.{Node, MayTell, level_of, child_entry}
+use Rattle.mr_tree.specs.Nodes.{MapModel, MayFetch, IsNodeOf, ShowsNode, IsTop, subtrees}
+use Rattle.mr_tree.specs.Snapshot.{with_id, tree_model, snapshot_model, node_of, tree_at, tree_over, trees, tree_of, HasShape, IsLinked, IsNode, AreLinked, IsSnapshot, IsRooted}
 use Rattle.mr_tree.specs.declared.child.Child.{Child}
 use Rattle.mr_tree.specs.declared.nodes.Top.{Top}
 use Rattle.mr_tree.specs.declared.stored.Stored.{Stored}
@@ -40,8 +40,8 @@ with_id_at ts (suc i) low high =
 
 -- ---- what may be fetched
 
--- a snapshot's standing, by the trees under its nodes
-abbrev stood : Version → ℕ → Tree → List Tree → Standing
+-- a snapshot's model, by the trees under its nodes
+abbrev stood : Version → ℕ → Tree → List Tree → MapModel
 stood v batch t ts = record { version = v; batch = batch; span = length ts + 1; tree = Some t; node = with_id ts }
 
 module _ (hash : Scheme) (batch : ℕ) (whole : Tree) (ts : List Tree) where
@@ -51,7 +51,7 @@ module _ (hash : Scheme) (batch : ℕ) (whole : Tree) (ts : List Tree) where
     positive = link.positive;
     within = omega (arith, link.within);
     low = low;
-    known = λ told. subst (λ o. IsSomeAnd o (λ t. entry_of c ≡ entry hash t))
+    known = λ told. subst (λ o. IsSomeAnd o (λ t. child_entry c ≡ entry hash t))
         (sym (with_id_at ts c.id link.positive link.within)) link.entry;
   }
 
@@ -68,10 +68,10 @@ module _ (hash : Scheme) (batch : ℕ) (whole : Tree) (ts : List Tree) where
   ids_of (c ∷ cs) links = λ i. with_id_at ts c.id links.0.positive links.0.within i ∷ ids_of cs links.1 i
 
   shows_at : (c : Child) (s : Stored) → IsNode hash ts s → 1 ≤ c.id → c.id ≤ length ts →
-      tree_at ts c.id ≡ tree_over ts s → entry_of c ≡ entry hash (tree_over ts s) →
-      Shows hash.of (stood hash.version batch whole ts) c (node_of s)
+      tree_at ts c.id ≡ tree_over ts s → child_entry c ≡ entry hash (tree_over ts s) →
+      ShowsNode hash.of (stood hash.version batch whole ts) c (node_of s)
   shows_at c (Records rs) here low high is known =
-      let parts : entry_of c ≡ entry_step hash (Leaf rs) = known ∙ fold-Leaf Entry (entry_step hash) rs in
+      let parts : child_entry c ≡ entry_step hash (Leaf rs) = known ∙ fold-Leaf Entry (entry_step hash) rs in
       record {
         some = here.shape.some;
         level = sym (ap (λ (e : Entry). e.level) parts);
@@ -84,7 +84,8 @@ module _ (hash : Scheme) (batch : ℕ) (whole : Tree) (ts : List Tree) where
   shows_at c (Children cs) here low high is known =
       let links = recursion_from_All (IsLinked hash ts) cs here.links in
       let us = map (λ (c : Child). tree_at ts c.id) cs in
-      let parts : entry_of c ≡ entry_step hash (Inner (map entry_of cs)) = known ∙ fold-Inner Entry (entry_step hash) us
+      let parts : child_entry c ≡ entry_step hash (Inner (map child_entry cs)) = known ∙ fold-Inner Entry
+      (entry_step hash) us
       ∙ ap (λ es. entry_step hash (Inner es)) (sym (entries_of hash ts cs links)) in
       record {
         some = here.shape.some;
@@ -115,7 +116,7 @@ from_some o t P e p = subst (λ o. IsSomeAnd o P) e p
 
 reads_from : (hash : Scheme) (batch : ℕ) (whole : Tree) (ns : List Stored) (c : Child) (n : Node) →
     AreLinked hash ns → MayFetch hash.of (stood hash.version batch whole (trees ns)) c →
-    Some n ≡ slice_get (map node_of ns) (c.id - 1) → Shows hash.of (stood hash.version batch whole (trees ns)) c n
+    Some n ≡ slice_get (map node_of ns) (c.id - 1) → ShowsNode hash.of (stood hash.version batch whole (trees ns)) c n
 reads_from hash batch whole ns c n linked may e =
     let ts = trees ns in
     let s = get_or ns (c.id - 1) (Records []) in
@@ -123,23 +124,23 @@ reads_from hash batch whole ns c n linked may e =
     let inside : c.id - 1 < length ns = omega (arith, may.positive, high, length_trees ns) in
     let is : tree_at ts c.id ≡ tree_over ts s =
     ap (λ us. get_or us (c.id - 1) tree.Empty) (sym linked.over) ∙ over_at ts ns (c.id - 1) (Records []) inside in
-    let known : entry_of c ≡ entry hash (tree_at ts c.id) =
-    from_some (with_id ts c.id) (tree_at ts c.id) (λ t. entry_of c ≡ entry hash t)
+    let known : child_entry c ≡ entry hash (tree_at ts c.id) =
+    from_some (with_id ts c.id) (tree_at ts c.id) (λ t. child_entry c ≡ entry hash t)
     (with_id_at ts c.id may.positive high) (may.known refl) in
-    subst (Shows hash.of (stood hash.version batch whole ts) c) (node_at ns (c.id - 1) (Records []) n inside e)
+    subst (ShowsNode hash.of (stood hash.version batch whole ts) c) (node_at ns (c.id - 1) (Records []) n inside e)
     (shows_at hash batch whole ts c s (linked.each (c.id - 1) (Records []) inside) may.positive high is
     (known ∙ ap (entry hash) is))
 
 pub reads : (hash : List ℕ → List ℕ) (ns : List Stored) (top : Top) (c : Child) (n : Node) → IsSnapshot hash ns top →
-    MayFetch hash (standing ns top) c → Some n ≡ slice_get (map node_of ns) (c.id - 1) →
-    Shows hash (standing ns top) c n
+    MayFetch hash (snapshot_model ns top) c → Some n ≡ slice_get (map node_of ns) (c.id - 1) →
+    ShowsNode hash (snapshot_model ns top) c n
 reads hash ns top c n snapshot may e =
-    subst (λ us. Shows hash (stood top.version top.batch (tree_of ns top) us) c n) snapshot.whole
+    subst (λ us. ShowsNode hash (stood top.version top.batch (tree_of ns top) us) c n) snapshot.whole
     (reads_from (by top.version hash) top.batch (tree_of ns top) ns c n snapshot.linked
     (subst (λ us. MayFetch hash (stood top.version top.batch (tree_of ns top) us) c) (sym snapshot.whole) may) e)
 
 pub place_of : (hash : List ℕ → List ℕ) (ns : List Stored) (top : Top) (c : Child) → IsSnapshot hash ns top →
-    MayFetch hash (standing ns top) c → c.id - 1 < length ns
+    MayFetch hash (snapshot_model ns top) c → c.id - 1 < length ns
 place_of hash ns top c snapshot may =
     omega (arith, may.positive, may.within, length_trees ns, ap length snapshot.whole)
 
@@ -181,7 +182,7 @@ rooted_empty hash ns t none empty =
       root = tt;
     })
 
-filled : (hash : Scheme) (t : Tree) (c : Child) → entry_of c ≡ entry hash t → length (records t) ≡ 0 → ⊥
+filled : (hash : Scheme) (t : Tree) (c : Child) → child_entry c ≡ entry hash t → length (records t) ≡ 0 → ⊥
 filled hash t c same none = at (records t) refl
   where
     at : (rs : List Record) → records t ≡ rs → ⊥
@@ -193,7 +194,7 @@ filled hash t c same none = at (records t) refl
 
 module _ (hash : Scheme) (batch count : ℕ) (t : Tree) (well : WellFormed t) (layers : HasLayers hash.version t)
     (counted : count ≡ length (records t)) where
-  told_of : (c : Child) → entry_of c ≡ entry hash t →
+  told_of : (c : Child) → child_entry c ≡ entry hash t →
       MayTell hash.version c.mask c.count × (c.count ≡ told hash.version count)
   told_of c same =
       let may = may_tell hash t (some_records c same) (omega (arith, well.few))
@@ -203,7 +204,7 @@ module _ (hash : Scheme) (batch count : ℕ) (t : Tree) (well : WellFormed t) (l
             ∙ ap (told hash.version) (sym counted),
       )
     where
-      some_records : (c : Child) → entry_of c ≡ entry hash t → 1 ≤ length (records t)
+      some_records : (c : Child) → child_entry c ≡ entry hash t → 1 ≤ length (records t)
       some_records c same = at (length (records t)) refl
         where
           at : (n : ℕ) → length (records t) ≡ n → 1 ≤ length (records t)
@@ -225,7 +226,7 @@ module _ (hash : Scheme) (batch count : ℕ) (t : Tree) (well : WellFormed t) (l
   }
   head_of ns (Some c) rooted =
       let link = rooted.root in
-      let same : entry_of c ≡ entry hash t = link.entry ∙ ap (entry hash) rooted.tree in
+      let same : child_entry c ≡ entry hash t = link.entry ∙ ap (entry hash) rooted.tree in
       let low : c.level ≤ 7 =
       omega (arith, well.shallow, link_level hash (trees ns) c link, ap level rooted.tree) in
       record {
@@ -244,7 +245,7 @@ module _ (hash : Scheme) (batch count : ℕ) (t : Tree) (well : WellFormed t) (l
   snapshot_of ns o rooted = record {
     linked = rooted.linked;
     whole = rooted.whole ∙ ap subtrees (sym rooted.tree);
-    head = subst (λ u. IsTop hash.of (standing_of hash.version batch u)
+    head = subst (λ u. IsTop hash.of (tree_model hash.version batch u)
         (record { version = hash.version; batch = batch; count = count; root = o }))
         (sym rooted.tree)
         (subst (λ us. IsTop hash.of (stood hash.version batch t us)

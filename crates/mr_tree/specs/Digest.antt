@@ -102,9 +102,9 @@ root_preimage v batch count e =
     ∷ (to_be_bytes w64 batch ++ to_be_bytes w64 count ++ e.level ∷ root_entry_bytes v e)
 
 -- those of the map with this tree at this batch
-abbrev pub root_bytes : Scheme → Tree → (batch : ℕ) → List ℕ
-root_bytes s t batch = root_preimage s.version batch (length (records t)) (entry s t)
+abbrev pub root_preimage_of : Scheme → Tree → (batch : ℕ) → List ℕ
+root_preimage_of s t batch = root_preimage s.version batch (length (records t)) (entry s t)
 
 -- the root digest of the map
 abbrev pub root : Scheme → Tree → (batch : ℕ) → List ℕ
-root s t batch = s.of (root_bytes s t batch)
+root s t batch = s.of (root_preimage_of s t batch)

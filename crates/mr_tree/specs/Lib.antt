@@ -5,11 +5,8 @@ pub mod WellFormed
 pub mod Digest
 pub mod Hash
 pub mod View
-pub mod Gathers
+pub mod HasHashed
 pub mod Nodes
 pub mod Snapshot
 -- what only private functions and proofs use
-pub mod Slim
-pub mod Sound
-pub mod HashLaws
-pub mod SnapshotLaws
+pub mod private

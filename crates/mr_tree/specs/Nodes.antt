@@ -8,7 +8,7 @@ use Rattle.mr_record.specs.declared.version.Version.{Version}
 use Rattle.mr_record.specs.Version.{told}
 use Rattle.mr_tree.specs.Digest.{by, entry, no_entry}
 use Rattle.mr_tree.specs.declared.entry.Entry.{Entry}
-use Rattle.mr_tree.specs.View.{Node, MayTell, AreTold, children_in, size, level_of, entry_of, preimage_of}
+use Rattle.mr_tree.specs.View.{Node, MayTell, AreTold, children_in, size, level_of, child_entry, preimage_of}
 use Rattle.mr_tree.specs.declared.child.Child.{Child}
 use Rattle.mr_tree.specs.declared.nodes.NodesErr.{NodesErr}
 use Rattle.mr_tree.specs.declared.nodes.NodesErr.TheVariants.{Changed, Page, Outside, Missing, Fault, NoMemory}
@@ -31,7 +31,7 @@ abbrev pub subtrees : Tree → List Tree
 subtrees = para-Tree (List Tree) subtrees_step
 
 -- what no call changes
-pub record Standing : Type 0 where
+pub record MapModel : Type 0 where
   pub version : Version
   pub batch : ℕ
   -- ids are from 1 and below it
@@ -43,7 +43,7 @@ pub record Standing : Type 0 where
 
 -- Each node of this tree has an id of its own: `id` gives that of the node at each place of
 -- `subtrees`. No other id stands for a node.
-pub record HasIds (s : Standing) (t : Tree) : Type 0 where
+pub record HasIds (s : MapModel) (t : Tree) : Type 0 where
   pub id : ℕ → ℕ
   pub within : (k : ℕ) → k < length (subtrees t) → (1 ≤ id k) × (id k < s.span)
   pub shows : (k : ℕ) → k < length (subtrees t) → s.node (id k) ≡ slice_get (subtrees t) k
@@ -51,11 +51,11 @@ pub record HasIds (s : Standing) (t : Tree) : Type 0 where
   pub others : (i : ℕ) → IsSome (s.node i) → (k : ℕ) × (k < length (subtrees t)) × (id k ≡ i)
 
 -- the child is the entry of the node with its id
-abbrev pub IsEntry : (List ℕ → List ℕ) → Standing → Child → Type 0
-IsEntry hash s c = IsSomeAnd (s.node c.id) (λ t. entry_of c ≡ entry (by s.version hash) t)
+abbrev pub IsEntry : (List ℕ → List ℕ) → MapModel → Child → Type 0
+IsEntry hash s c = IsSomeAnd (s.node c.id) (λ t. child_entry c ≡ entry (by s.version hash) t)
 
 -- the child may be fetched
-pub record MayFetch (hash : List ℕ → List ℕ) (s : Standing) (c : Child) : Type 0 where
+pub record MayFetch (hash : List ℕ → List ℕ) (s : MapModel) (c : Child) : Type 0 where
   pub positive : 1 ≤ c.id
   pub within : c.id < s.span
   pub low : c.level ≤ level_limit
@@ -63,7 +63,7 @@ pub record MayFetch (hash : List ℕ → List ℕ) (s : Standing) (c : Child) : 
 
 -- the node that a view shows is the uppermost one of this tree, and the ids of its children are
 -- those of the nodes below it
-abbrev pub IsNodeOf : Standing → Tree → Node → Type 0
+abbrev pub IsNodeOf : MapModel → Tree → Node → Type 0
 IsNodeOf s t Empty = ⊥
 IsNodeOf s t (Leaf records) = t ≡ variants.Leaf records
 IsNodeOf s t (Inner children) =
@@ -71,7 +71,7 @@ IsNodeOf s t (Inner children) =
     × (map (λ (c : Child). s.node c.id) children ≡ map Some ts)
 
 -- what a fetch of this child shows
-pub record Shows (hash : List ℕ → List ℕ) (s : Standing) (c : Child) (n : Node) : Type 0 where
+pub record ShowsNode (hash : List ℕ → List ℕ) (s : MapModel) (c : Child) (n : Node) : Type 0 where
   pub some : 1 ≤ size n
   pub level : level_of n ≡ c.level
   pub digest : hash (preimage_of s.version n) ≡ c.digest
@@ -82,17 +82,17 @@ pub record Shows (hash : List ℕ → List ℕ) (s : Standing) (c : Child) (n : 
   pub node : IfSome (s.node c.id) (λ t. IsNodeOf s t n)
 
 -- the tree under a root entry, and the empty one where there is none
-abbrev pub tree_under : Standing → Option Child → Option Tree
+abbrev pub tree_under : MapModel → Option Child → Option Tree
 tree_under s None = Some variants.Empty
 tree_under s (Some c) = s.node c.id
 
 -- what a map says of its root node, which a map without records has not
 abbrev pub root_entry : Option Child → Entry
 root_entry None = no_entry
-root_entry (Some c) = entry_of c
+root_entry (Some c) = child_entry c
 
 -- what is said of the map as a whole
-pub record IsTop (hash : List ℕ → List ℕ) (s : Standing) (top : Top) : Type 0 where
+pub record IsTop (hash : List ℕ → List ℕ) (s : MapModel) (top : Top) : Type 0 where
   pub version : top.version ≡ s.version
   pub batch : top.batch ≡ s.batch
   pub few : top.count ≤ count_limit
@@ -105,7 +105,7 @@ pub record IsTop (hash : List ℕ → List ℕ) (s : Standing) (top : Top) : Typ
   pub tree : IfSome s.tree (λ t. tree_under s top.root ≡ Some t)
 
 -- this is the id of a node that may be asked for
-abbrev pub IsId : Standing → ℕ → Type 0
+abbrev pub IsId : MapModel → ℕ → Type 0
 IsId s id = (1 ≤ id) × (id < s.span)
 
 -- What a fetch refused is what is answered: where the last refusal is another one than before, it
@@ -118,18 +118,18 @@ pub record TellsRefusal {A E : Type 0} (in_words : NodesErr → E) (before after
 -- Why this child may be refused, between these counts of faults. What was read is blamed only where
 -- the tree is not told: by the child's own page, or by a page that is not in the file; and then no
 -- fault was counted. Where the tree is told, its file is there.
-abbrev pub HasCause : Standing → Child → (before after : ℕ) → NodesErr → Type 0
-HasCause s c before after (Changed page held found) = IsNone s.tree × (page ≡ c.id)
+abbrev pub HasFetchCause : MapModel → Child → (before after : ℕ) → NodesErr → Type 0
+HasFetchCause s c before after (Changed page held found) = IsNone s.tree × (page ≡ c.id)
     × (held ≡ c.digest) × (held ≢ found) × (after ≡ before)
-HasCause s c before after (Page page) = IsNone s.tree × (page ≡ c.id) × (after ≡ before)
-HasCause s c before after (Outside page) = IsNone s.tree × (1 ≤ page → s.span ≤ page)
+HasFetchCause s c before after (Page page) = IsNone s.tree × (page ≡ c.id) × (after ≡ before)
+HasFetchCause s c before after (Outside page) = IsNone s.tree × (1 ≤ page → s.span ≤ page)
     × (after ≡ before)
-HasCause s c before after Missing = IsNone s.tree × Rose before after
-HasCause s c before after Fault = Rose before after
-HasCause s c before after NoMemory = ⊤
+HasFetchCause s c before after Missing = IsNone s.tree × Rose before after
+HasFetchCause s c before after Fault = Rose before after
+HasFetchCause s c before after NoMemory = ⊤
 
 -- why some child may be refused that may be asked for
-abbrev pub HasSomeCause : Standing → (before after : ℕ) → NodesErr → Type 0
+abbrev pub HasSomeCause : MapModel → (before after : ℕ) → NodesErr → Type 0
 HasSomeCause s before after (Changed page held found) = IsNone s.tree × IsId s page
     × (held ≢ found) × (after ≡ before)
 HasSomeCause s before after (Page page) = IsNone s.tree × IsId s page × (after ≡ before)

@@ -6,8 +6,8 @@ use Rattle.mr_record.specs.Record.{HasLayer}
 use Rattle.mr_record.specs.declared.version.Version.{Version}
 use Rattle.mr_record.specs.declared.version.Version.TheVariants.{Two}
 use Rattle.mr_tree.specs.Digest.{Scheme, by, entry}
-use Rattle.mr_tree.specs.View.{Node, records_in, children_in, HasCount, AreTold, size, level_of, entry_of}
-use Rattle.mr_tree.specs.Nodes.{Standing, IsTop, subtrees}
+use Rattle.mr_tree.specs.View.{Node, records_in, children_in, HasCount, AreTold, size, level_of, child_entry}
+use Rattle.mr_tree.specs.Nodes.{MapModel, IsTop, subtrees}
 use Rattle.mr_tree.specs.declared.child.Child.{Child}
 use Rattle.mr_tree.specs.declared.nodes.Top.{Top}
 use Rattle.mr_tree.specs.declared.stored.Stored.{Stored}
@@ -22,8 +22,8 @@ with_id ts zero = None
 with_id ts (suc i) = slice_get ts i
 
 -- what the snapshot of a tree at a batch stands for, in a version
-abbrev pub standing_of : Version → (batch : ℕ) → Tree → Standing
-standing_of v batch t = record {
+abbrev pub tree_model : Version → (batch : ℕ) → Tree → MapModel
+tree_model v batch t = record {
   version = v;
   batch = batch;
   span = length (subtrees t) + 1;
@@ -60,8 +60,8 @@ root_tree ts (Some c) = tree_at ts c.id
 abbrev pub tree_of : List Stored → Top → Tree
 tree_of ns top = root_tree (trees ns) top.root
 
-abbrev pub standing : List Stored → Top → Standing
-standing ns top = standing_of top.version top.batch (tree_of ns top)
+abbrev pub snapshot_model : List Stored → Top → MapModel
+snapshot_model ns top = tree_model top.version top.batch (tree_of ns top)
 
 -- ---- which lists of nodes are a tree's
 
@@ -79,7 +79,7 @@ pub record HasShape (n : Node) : Type 0 where
 pub record IsLinked (s : Scheme) (ts : List Tree) (c : Child) : Type 0 where
   pub positive : 1 ≤ c.id
   pub within : c.id ≤ length ts
-  pub entry : entry_of c ≡ entry s (tree_at ts c.id)
+  pub entry : child_entry c ≡ entry s (tree_at ts c.id)
 
 pub record IsNode (s : Scheme) (ts : List Tree) (n : Stored) : Type 0 where
   pub shape : HasShape (node_of n)
@@ -95,7 +95,7 @@ pub record AreLinked (s : Scheme) (ns : List Stored) : Type 0 where
 pub record IsSnapshot (hash : List ℕ → List ℕ) (ns : List Stored) (top : Top) : Type 0 where
   pub linked : AreLinked (by top.version hash) ns
   pub whole : trees ns ≡ subtrees (tree_of ns top)
-  pub head : IsTop hash (standing ns top) top
+  pub head : IsTop hash (snapshot_model ns top) top
 
 -- nodes were put behind the others, which stand for `more` trees, and this is the entry of `t`
 pub record IsPlaced (s : Scheme) (old new : List Stored) (c : Child) (t : Tree)

@@ -36,8 +36,8 @@ abbrev pub level_of : Node → ℕ
 level_of node = level_step (map-Tree Child ℕ (λ (c : Child). c.level) node)
 
 -- what is said of a child
-abbrev pub entry_of : Child → Entry
-entry_of c = record {
+abbrev pub child_entry : Child → Entry
+child_entry c = record {
   level = c.level;
   rect = Some c.rect;
   mask = c.mask;
@@ -47,7 +47,7 @@ entry_of c = record {
 
 -- the node over the entries of its children
 abbrev pub over_entries : Node → Tree-F Entry
-over_entries node = map-Tree Child Entry entry_of node
+over_entries node = map-Tree Child Entry child_entry node
 
 -- the bytes that the node's digest is of
 abbrev pub preimage_of : Version → Node → List ℕ

@@ -1,7 +1,7 @@
 //! What an inner node holds of a child.
 
 ghost use Rattle.std.specs.Prelude.{◌≡◌};
-ghost use Rattle.mr_tree.specs.View.{entry_of};
+ghost use Rattle.mr_tree.specs.View.{child_entry};
 
 use crate::Entry;
 use mr_geom::Rect;
@@ -37,7 +37,7 @@ impl Child {
 
     /// What is said of the child.
     pub fn entry(&self) -> Entry
-        ensures { result ≡ entry_of self.now }
+        ensures { result ≡ child_entry self.now }
     {
         Entry {
             level: self.level,

@@ -8,11 +8,11 @@ ghost use Rattle.mr_tree.specs.declared.tree.Tree.TheOpen.{Leaf, Empty};
 ghost use Rattle.mr_tree.specs.Limits.{leaf_limit};
 ghost use Rattle.mr_tree.specs.Tree.{records};
 ghost use Rattle.mr_tree.specs.WellFormed.{WellFormed, HasLayers};
-ghost use Rattle.mr_tree.specs.Digest.{by, entry, entry_step, digest, preimage, root_bytes, root};
-ghost use Rattle.mr_tree.specs.Slim.{IsSlim};
+ghost use Rattle.mr_tree.specs.Digest.{by, entry, entry_step, digest, preimage, root_preimage_of, root};
+ghost use Rattle.mr_tree.specs.private.Slim.{IsSlim};
 
 use crate::feeding::root_digest;
-use crate::gathering::Gathering;
+use crate::node_hasher::NodeHasher;
 use crate::tree::height;
 use crate::{Entry, Hash32, Hashes, Tree};
 use mr_record::{Record, Version};
@@ -23,7 +23,7 @@ pub fn leaf_entry<H: Hashes>(version: Version, records: &[Record]) -> Entry
     requires layers { All (HasLayer Two) records.now }
     ensures { result ≡ entry_step (by version H.of) (Leaf records.now) }
 {
-    let mut all = Gathering::<H>::leaf(records.len() as u8);
+    let mut all = NodeHasher::<H>::leaf(records.len() as u8);
     for one in records {
         all.add_record(version, one);
     }
@@ -56,7 +56,7 @@ fn tree_entry<H: Hashes>(version: Version, tree: &Tree) -> Entry
         Tree::Leaf(records) => leaf_entry::<H>(version, records.as_slice()),
         Tree::Inner(children) => {
             let level = height(tree);
-            let mut all = Gathering::<H>::inner(level, children.as_slice().len() as u8);
+            let mut all = NodeHasher::<H>::inner(level, children.as_slice().len() as u8);
             for child in children.as_slice() {
                 let one = tree_entry::<H>(version, child);
                 all.add_entry(version, &one);
@@ -120,7 +120,7 @@ pub fn digest2_of<H: Hash32>(tree: &Tree) -> [u8; 32]
 pub fn root_by<H: Hash32>(version: Version, tree: &Tree, batch: u64) -> [u8; 32]
     requires { WellFormed tree.now }
     ensures value { result ≡ root (by version H.of) tree.now batch }
-    ensures hash { result ≡ H.of (root_bytes (by version H.of) tree.now batch) }
+    ensures hash { result ≡ H.of (root_preimage_of (by version H.of) tree.now batch) }
 {
     let entry = tree_entry::<H>(version, tree);
     root_digest::<H>(version, batch, count(tree), &entry)
@@ -131,7 +131,7 @@ pub fn root_of<H: Hash32>(tree: &Tree, batch: u64) -> [u8; 32]
     requires well_formed { WellFormed tree.now }
     requires layers { HasLayers One tree.now }
     ensures value { result ≡ root (by One H.of) tree.now batch }
-    ensures hash { result ≡ H.of (root_bytes (by One H.of) tree.now batch) }
+    ensures hash { result ≡ H.of (root_preimage_of (by One H.of) tree.now batch) }
 {
     root_by::<H>(Version::One, tree, batch)
 }
@@ -140,7 +140,7 @@ pub fn root_of<H: Hash32>(tree: &Tree, batch: u64) -> [u8; 32]
 pub fn root2_of<H: Hash32>(tree: &Tree, batch: u64) -> [u8; 32]
     requires { WellFormed tree.now }
     ensures value { result ≡ root (by Two H.of) tree.now batch }
-    ensures hash { result ≡ H.of (root_bytes (by Two H.of) tree.now batch) }
+    ensures hash { result ≡ H.of (root_preimage_of (by Two H.of) tree.now batch) }
 {
     root_by::<H>(Version::Two, tree, batch)
 }

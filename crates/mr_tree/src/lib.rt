@@ -5,9 +5,9 @@ mod child;
 mod digest;
 mod entry;
 mod feeding;
-mod gathering;
 mod hash;
 mod limits;
+mod node_hasher;
 mod nodes;
 mod placing;
 mod records;
@@ -23,11 +23,11 @@ pub use digest::{
 };
 pub use entry::{ENTRY_LIMIT, Entry};
 pub use feeding::{ROOT_LIMIT, root_digest, root_encoded};
-pub use gathering::{Gathering, as_told, layers_of};
 pub use hash::{Hash32, Hashes, Sha, XorHash};
 pub use limits::{
     COUNT_LIMIT, INNER_FILL, INNER_LIMIT, LEAF_FILL, LEAF_LIMIT, LEVEL_LIMIT, ROOT_FILL,
 };
+pub use node_hasher::{NodeHasher, as_told, layers_of};
 pub use nodes::{Nodes, NodesErr, Top};
 pub use records::records_of;
 pub use snapshot::{Reader, Snapshot};

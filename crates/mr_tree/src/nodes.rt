@@ -5,7 +5,7 @@ ghost use Rattle.mr_outside.specs.Faults.{next_count};
 ghost use Rattle.mr_tree.specs.declared.nodes.NodesErr as error;
 ghost use Rattle.mr_tree.specs.declared.nodes.NodesErr.TheVariants as variants;
 ghost use Rattle.mr_tree.specs.WellFormed.{WellFormed, HasLayers};
-ghost use Rattle.mr_tree.specs.Nodes.{Standing, HasIds, IsTop, MayFetch, Shows, HasCause, root_entry};
+ghost use Rattle.mr_tree.specs.Nodes.{MapModel, HasIds, IsTop, MayFetch, ShowsNode, HasFetchCause, root_entry};
 
 use crate::{Child, Entry, Hashes, NodeView};
 use mr_record::Version;
@@ -80,7 +80,7 @@ pub trait Nodes {
 
     // what no call changes: the version, the batch, how far ids go, the tree and the tree under
     // each id
-    ghost stands: { Self → Standing };
+    ghost stands: { Self → MapModel };
 
     // how many fetches there were
     ghost fetches: { Self → ℕ };
@@ -104,9 +104,9 @@ pub trait Nodes {
         requires { MayFetch Self.Hash.of (stands self.old) child.now }
         ensures kept { kept self.old self.new }
         ensures counted { fetches self.new ≡ next_count (fetches self.old) }
-        ensures shows { OnOk result (Shows Self.Hash.of (stands self.old) child.now into.new) }
+        ensures shows { OnOk result (ShowsNode Self.Hash.of (stands self.old) child.now into.new) }
         ensures cause { IfErr result
-            (HasCause (stands self.old) child.now (faults self.old) (faults self.new)) }
+            (HasFetchCause (stands self.old) child.now (faults self.old) (faults self.new)) }
         ensures quiet { OnOk result (faults self.new ≡ faults self.old) }
         ensures refused { IfErr result (λ e. refusal self.new ≡ Some e) }
         ensures unrefused { OnOk result (refusal self.new ≡ refusal self.old) };

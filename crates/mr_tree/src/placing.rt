@@ -6,10 +6,10 @@ ghost use Rattle.mr_tree.specs.WellFormed.{HasLayers};
 ghost use Rattle.mr_tree.specs.Limits.{count_limit};
 ghost use Rattle.mr_tree.specs.Tree.{records};
 ghost use Rattle.mr_tree.specs.Digest.{by};
-ghost use Rattle.mr_tree.specs.View.{AreTold, level_of, entry_of};
+ghost use Rattle.mr_tree.specs.View.{AreTold, level_of, child_entry};
 ghost use Rattle.mr_tree.specs.Nodes.{subtrees};
 ghost use Rattle.mr_tree.specs.Snapshot.{trees, tree_over, HasShape, IsLinked, AreLinked, IsPlaced, IsRooted};
-ghost use Rattle.mr_tree.specs.Sound.{IsSound, IsSoundNode};
+ghost use Rattle.mr_tree.specs.private.Sound.{IsSound, IsSoundNode};
 ghost use Rattle.mr_tree.specs.declared.stored.Stored.TheVariants.{Children};
 ghost use Rattle.mr_tree.specs.declared.tree.Tree.TheVariants as variants;
 ghost use Rattle.mr_tree.specs.declared.tree.Tree.TheOpen.{Leaf, Inner};
@@ -36,7 +36,7 @@ fn put(nodes: &mut Vec<Stored>, node: Stored) -> Result<u32, AllocError>
 fn child_with(id: u32, entry: &Entry) -> Child
     requires { IsSome entry.now.rect }
     ensures id { result.id ≡ id }
-    ensures entry { entry_of result ≡ entry.now }
+    ensures entry { child_entry result ≡ entry.now }
 {
     let Some(rect) = entry.rect else {
         unreachable!()

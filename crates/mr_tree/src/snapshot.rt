@@ -7,12 +7,12 @@ ghost use Rattle.mr_outside.specs.Faults.{next_count};
 ghost use Rattle.mr_tree.specs.Tree.{nodes};
 ghost use Rattle.mr_tree.specs.WellFormed.{WellFormed, HasLayers};
 ghost use Rattle.mr_record.specs.declared.version.Version.TheVariants.{One, Two};
-ghost use Rattle.mr_tree.specs.Nodes.{MayFetch, Shows, HasCause};
+ghost use Rattle.mr_tree.specs.Nodes.{MayFetch, ShowsNode, HasFetchCause};
 ghost use Rattle.mr_tree.specs.declared.nodes.NodesErr as error;
-ghost use Rattle.mr_tree.specs.Snapshot.{standing, standing_of, tree_of, node_of, HasShape, IsSnapshot};
+ghost use Rattle.mr_tree.specs.Snapshot.{snapshot_model, tree_model, tree_of, node_of, HasShape, IsSnapshot};
 ghost use Rattle.mr_tree.specs.contracts.tree.Tree.{the_row as row};
 ghost use Rattle.std.proofs.Common.{rules};
-ghost use Rattle.mr_tree.specs.SnapshotLaws.{has_ids};
+ghost use Rattle.mr_tree.specs.private.SnapshotLaws.{has_ids};
 
 use crate::digest::count;
 use crate::placing::{level_over, rooted};
@@ -51,9 +51,9 @@ impl<H: Hashes> Snapshot<H> {
         requires well_formed { WellFormed tree.now }
         requires layers { HasLayers version tree.now }
         ensures stands { IfOk result
-            (λ s. standing s.nodes.items s.top ≡ standing_of version batch tree.now) }
+            (λ s. snapshot_model s.nodes.items s.top ≡ tree_model version batch tree.now) }
         ensures span { IfOk result
-            (λ s. (standing s.nodes.items s.top).span ≡ nodes tree.now + 1) }
+            (λ s. (snapshot_model s.nodes.items s.top).span ≡ nodes tree.now + 1) }
     {
         let mut nodes = Vec::new(alloc);
         let root = rooted::<H>(alloc, version, tree, &mut nodes)?;
@@ -75,9 +75,9 @@ impl<H: Hashes> Snapshot<H> {
         requires well_formed { WellFormed tree.now }
         requires layers { HasLayers One tree.now }
         ensures stands { IfOk result
-            (λ s. standing s.nodes.items s.top ≡ standing_of One batch tree.now) }
+            (λ s. snapshot_model s.nodes.items s.top ≡ tree_model One batch tree.now) }
         ensures span { IfOk result
-            (λ s. (standing s.nodes.items s.top).span ≡ nodes tree.now + 1) }
+            (λ s. (snapshot_model s.nodes.items s.top).span ≡ nodes tree.now + 1) }
     {
         Self::by(alloc, Version::One, tree, batch)
     }
@@ -87,9 +87,9 @@ impl<H: Hashes> Snapshot<H> {
         requires well_formed { WellFormed tree.now }
         requires layers { HasLayers Two tree.now }
         ensures stands { IfOk result
-            (λ s. standing s.nodes.items s.top ≡ standing_of Two batch tree.now) }
+            (λ s. snapshot_model s.nodes.items s.top ≡ tree_model Two batch tree.now) }
         ensures span { IfOk result
-            (λ s. (standing s.nodes.items s.top).span ≡ nodes tree.now + 1) }
+            (λ s. (snapshot_model s.nodes.items s.top).span ≡ nodes tree.now + 1) }
     {
         Self::by(alloc, Version::Two, tree, batch)
     }
@@ -98,7 +98,7 @@ impl<H: Hashes> Snapshot<H> {
     pub fn over(nodes: Vec<Stored>, top: Top) -> Snapshot<H>
         requires whole { IsSnapshot H.of nodes.items top }
         requires well_formed { WellFormed (tree_of nodes.items top) }
-        ensures { standing result.nodes.items result.top ≡ standing nodes.items top }
+        ensures { snapshot_model result.nodes.items result.top ≡ snapshot_model nodes.items top }
     {
         Snapshot {
             nodes,
@@ -145,7 +145,7 @@ fn show_at(nodes: &[Stored], place: usize, into: &mut NodeView)
 impl<'a, H: Hashes> Nodes for Reader<'a, H> {
     type Hash = H;
 
-    ghost stands = { λ r. standing r.snapshot.now.nodes.items r.snapshot.now.top };
+    ghost stands = { λ r. snapshot_model r.snapshot.now.nodes.items r.snapshot.now.top };
 
     ghost fetches = { λ r. r.fetches };
 
@@ -161,15 +161,15 @@ impl<'a, H: Hashes> Nodes for Reader<'a, H> {
 
     fn fetch(&mut self, child: &Child, into: &mut NodeView) -> Result<(), NodesErr>
         requires { MayFetch H.of
-            (standing self.old.snapshot.now.nodes.items self.old.snapshot.now.top) child.now }
+            (snapshot_model self.old.snapshot.now.nodes.items self.old.snapshot.now.top) child.now }
         ensures kept { (self.new.snapshot ≡ self.old.snapshot)
             × (self.old.fetches ≤ self.new.fetches) }
         ensures counted { self.new.fetches ≡ next_count self.old.fetches }
-        ensures shows { OnOk result (Shows H.of
-            (standing self.old.snapshot.now.nodes.items self.old.snapshot.now.top)
+        ensures shows { OnOk result (ShowsNode H.of
+            (snapshot_model self.old.snapshot.now.nodes.items self.old.snapshot.now.top)
             child.now into.new) }
-        ensures cause { IfErr result (HasCause
-            (standing self.old.snapshot.now.nodes.items self.old.snapshot.now.top) child.now
+        ensures cause { IfErr result (HasFetchCause
+            (snapshot_model self.old.snapshot.now.nodes.items self.old.snapshot.now.top) child.now
             0 0) }
         ensures quiet { let none : ℕ = 0 in OnOk result (none ≡ none) }
         ensures refused { IfErr result (λ e. None ≡ Some e) }

@@ -12,7 +12,7 @@ ghost use Rattle.mr_tree.specs.declared.tree.Tree.TheOpen.{Leaf, Inner};
 ghost use Rattle.mr_tree.specs.Limits.{inner_limit, leaf_limit};
 
 use crate::digest::leaf_entry;
-use crate::gathering::{Gathering, as_told, layers_of};
+use crate::node_hasher::{NodeHasher, as_told, layers_of};
 use crate::tree::bounds_of;
 use crate::{Child, Entry, Hashes};
 use mr_geom::{Rect, joined};
@@ -77,7 +77,7 @@ pub(crate) fn inner_entry<H: Hashes>(version: Version, level: u8, children: &[Ch
     requires counts { All HasCount children.now }
     ensures { result ≡ entry_over (by version H.of) (Inner children.now) }
 {
-    let mut all = Gathering::<H>::inner(level, children.len() as u8);
+    let mut all = NodeHasher::<H>::inner(level, children.len() as u8);
     for child in children {
         all.add_entry(version, &child.entry());
     }
@@ -143,7 +143,7 @@ impl NodeView {
     /// How many records or children it has.
     pub fn len(&self) -> usize
         ensures value { result ≡ size self.now }
-        ensures few { result ≤ inner_limit }
+        ensures at_most { result ≤ inner_limit }
     {
         self.len
     }
@@ -167,7 +167,7 @@ impl NodeView {
     /// The records, none of an inner node.
     pub fn records(&self) -> &[Record]
         ensures value { result.now ≡ records_in self.now }
-        ensures few { length (records_in self.now) ≤ leaf_limit }
+        ensures length_at_most { length (records_in self.now) ≤ leaf_limit }
         ensures layers { All (HasLayer Two) (records_in self.now) }
         ensures leaf { level_of self.now ≡ 0 → self.now ≡ Leaf (records_in self.now) }
     {
@@ -181,9 +181,9 @@ impl NodeView {
     /// The children, none of a leaf.
     pub fn children(&self) -> &[Child]
         ensures value { result.now ≡ children_in self.now }
-        ensures few { length (children_in self.now) ≤ inner_limit }
+        ensures length_at_most { length (children_in self.now) ≤ inner_limit }
         ensures inner { 0 < level_of self.now → self.now ≡ Inner (children_in self.now) }
-        ensures some { 0 < level_of self.now → 1 ≤ length (children_in self.now) }
+        ensures not_empty { 0 < level_of self.now → 1 ≤ length (children_in self.now) }
         ensures alike { All (λ (c : types.Child). c.level + 1 ≡ level_of self.now)
             (children_in self.now) }
     {

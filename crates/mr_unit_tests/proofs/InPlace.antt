@@ -1,9 +1,10 @@
 -- The journal that a change of a map begins with, on a disk in memory.
-use Rattle.std.specs.Prelude.{◌≡◌, ◌≤◌, ◌*◌, ℕ, [], List, length, true}
-use Rattle.std.proofs.Common.{ap, sym, arith, ◌∙◌}
+use Rattle.std.specs.Prelude.{◌≡◌, ◌≤◌, ◌*◌, ℕ, Bool, [], ◌∷◌, List, length, true, false, if◌then◌else◌, Option, Some, None, IfSome, option_map}
+use Rattle.std.proofs.Common.{ap, subst, sym, arith, ◌∙◌}
 use Rattle.mr_journal.specs.declared.disk.Area.TheVariants.{Map}
 use Rattle.mr_journal.specs.declared.mem_disk.Call.{Call}
-use Rattle.mr_journal.specs.Format.{page_size, ready}
+use Rattle.mr_journal.specs.Format.{page_size, ready, body_of, carried, is_open, restored, recovered}
+use Rattle.mr_journal.specs.Images.{Image}
 use Rattle.mr_journal.specs.MemoryDisk.{area_after}
 use Rattle.mr_journal.specs.Changed.{IsLonger}
 
@@ -25,3 +26,16 @@ longer pages old new some few whole longer' = record {
   whole = whole;
   longer = longer';
 }
+
+-- what was recovered and was not open before is as it was
+pub still_begins : (o now : Option Image) (was : Bool) (body : List ℕ) → now ≡ option_map recovered o →
+    IfSome o (λ k. was ≡ is_open k) → was ≡ false → IfSome o (λ k. ready (length k.map) body ≡ true) →
+    IfSome now (λ k. ready (length k.map) body ≡ true)
+unfolding recovered restored
+still_begins None now was body left answer shut fits =
+    subst (λ (q : Option Image). IfSome q (λ k. ready (length k.map) body ≡ true)) (sym left) tt
+still_begins (Some k) now was body left answer shut fits =
+    let same : (recovered k).map ≡ k.map =
+    ap (λ t. if t then carried (body_of k.journal) k.map else k.map) (sym answer ∙ shut) in
+    subst (λ (q : Option Image). IfSome q (λ m. ready (length m.map) body ≡ true)) (sym left)
+    (subst (λ m. ready (length m) body ≡ true) (sym same) fits)

@@ -6,14 +6,14 @@ use Rattle.mr_query.specs.declared.query.Query.TheVariants.{Window}
 use Rattle.mr_proof.specs.declared.head.Kind.TheVariants as kind
 use Rattle.mr_proof.specs.declared.way.Way.{Way}
 use Rattle.mr_proof.specs.declared.way.Way.TheVariants as ways
-use Rattle.mr_proof.specs.Tight.{Question, Seen, question}
+use Rattle.mr_proof.specs.Tight.{Question, Key, question}
 
 abbrev pub whole_for_skipped : Way → Way
 whole_for_skipped ways.Skip = ways.Whole
 whole_for_skipped ways.Whole = ways.Whole
 whole_for_skipped ways.Open = ways.Open
 
-abbrev pub outside_way : Rectangle → Seen → Way
+abbrev pub outside_way : Rectangle → Key → Way
 outside_way window s = whole_for_skipped ((question (Window window)).way None s)
 
 abbrev pub outside : (letter : ℕ) → Rectangle → Question

@@ -11,7 +11,7 @@ ghost use Rattle.mr_tree.specs.declared.child.Child as types;
 ghost use Rattle.mr_edit.specs.Held.{IsTold};
 
 use crate::assertions::holds;
-use mr_edit::{Desk, EditErr, PageFile, insert};
+use mr_edit::{EditErr, PageFile, Pager, insert};
 use mr_pages::{FIRST, MapFault, MapRule, child_on};
 use mr_record::{Record, Version};
 use mr_tree::{Child, NodeView, XorHash};
@@ -168,8 +168,8 @@ impl PageFile for Full {
 // The page that is blamed for being none that may stand there, where a record is put below a root
 // and so many pages can be added.
 fn blamed(alloc: Global, root: Option<Child>, room: u32) -> Option<u32> {
-    let mut desk = Desk::new(alloc, Full { room }, 0);
-    match insert(alloc, &mut desk, root, &blank()) {
+    let mut pager = Pager::new(alloc, Full { room }, 0);
+    match insert(alloc, &mut pager, root, &blank()) {
         Err(
             EditErr::Map(
                 MapFault {

@@ -72,16 +72,23 @@ fn fault_of(alloc: Global, fault: QueryFault) -> Result<String, AllocError> {
     }
 }
 
-fn read(alloc: Global, word: &str) -> Result<String, AllocError> {
-    match read_query(word) {
-        Ok(Query::Window(rect)) => {
-            let sides = sides_of(alloc, &rect)?;
+// A query's parts.
+fn parts_of(alloc: Global, query: &Query) -> Result<String, AllocError> {
+    match query {
+        Query::Window(rect) => {
+            let sides = sides_of(alloc, rect)?;
             format!(in alloc; "window {sides}")
         }
-        Ok(Query::Nearest { center, k }) => {
+        Query::Nearest { center, k } => {
             let (x, y) = (center.x, center.y);
             format!(in alloc; "nearest {x} {y} {k}")
         }
+    }
+}
+
+fn read(alloc: Global, word: &str) -> Result<String, AllocError> {
+    match read_query(word) {
+        Ok(query) => parts_of(alloc, &query),
         Err(fault) => fault_of(alloc, fault),
     }
 }

@@ -5,8 +5,8 @@ ghost use Rattle.std.specs.Int.{w32, w64, to_be_bytes};
 ghost use Rattle.mr_record.specs.Version.{version_byte};
 ghost use Rattle.mr_pages.specs.Page.{page_limit};
 ghost use Rattle.mr_pages.specs.Page as types;
-ghost use Rattle.mr_pages.specs.PageBytes.{magic, root_place, root_size, free_place, head_size, root_level, root_bytes, head_bytes, head_page, root_in, fields_in, is_root, is_head, is_sealed, form_of, first_form, second_form, IsLayout, SpellsHead};
-ghost use Rattle.mr_pages.specs.Walking.{child_link, head_of, Heads};
+ghost use Rattle.mr_pages.specs.PageBytes.{magic, root_place, root_size, free_place, head_size, root_level, root_link_bytes, head_bytes, head_page, root_in, fields_in, is_root, is_head, is_sealed, form_of, first_form, second_form, IsLayout, SpellsHead};
+ghost use Rattle.mr_pages.specs.Walking.{child_link, head_of, AnswersHead};
 ghost use Rattle.mr_pages.specs.Source.{IsOfOneRead};
 
 use crate::layout::{FIRST, LINK_LIMIT, Layout, PAGE_SIZE, SECOND, SECOND_SIZE};
@@ -33,7 +33,7 @@ fn is_digest(_digest: &[u8; 32])
 
 // What page 0 says of a root.
 fn encoded_root(version: Version, root: &Child) -> Buffer<LINK_LIMIT>
-    ensures bytes { result ≡ root_bytes version (Some (child_link root.now)) }
+    ensures bytes { result ≡ root_link_bytes version (Some (child_link root.now)) }
     ensures size { length result ≡ root_size version }
 {
     is_digest(&root.digest);
@@ -73,7 +73,8 @@ fn put_counts(bytes: &mut Buffer<HEAD_LIMIT>, version: Version, head: &MapHead)
 // Puts what is told of the root node.
 fn put_root(bytes: &mut Buffer<HEAD_LIMIT>, version: Version, root: &Option<Child>)
     requires { length bytes.old + root_size version ≤ 90 }
-    ensures bytes { bytes.new ≡ bytes.old ++ root_bytes version (option_map child_link root.now) }
+    ensures bytes { bytes.new ≡ bytes.old ++ root_link_bytes version
+        (option_map child_link root.now) }
     ensures size { length bytes.new ≡ length bytes.old + root_size version }
 {
     match root {
@@ -85,7 +86,7 @@ fn put_root(bytes: &mut Buffer<HEAD_LIMIT>, version: Version, root: &Option<Chil
 // Puts as many zeros as are told of a root.
 fn put_zeros(bytes: &mut Buffer<HEAD_LIMIT>, version: Version)
     requires { length bytes.old + root_size version ≤ 90 }
-    ensures bytes { bytes.new ≡ bytes.old ++ root_bytes version None }
+    ensures bytes { bytes.new ≡ bytes.old ++ root_link_bytes version None }
     ensures size { length bytes.new ≡ length bytes.old + root_size version }
 {
     match version {
@@ -192,9 +193,9 @@ fn has_seal(layout: Layout, page: &[u8]) -> bool
 /// not end with the seal, else `Header` where it is not the spelling of a head.
 pub fn head_on(layout: Layout, page: &[u8], pages: u32) -> Result<MapHead, MapRule>
     requires { IsLayout layout }
-    ensures exact { Heads result ((form_of layout).head_in pages page.now) }
+    ensures exact { AnswersHead result ((form_of layout).head_in pages page.now) }
     ensures level { IfOk result (λ h. h.level ≡ root_level (option_map child_link h.root)) }
-    ensures once { IfErr result IsOfOneRead }
+    ensures of_one_read { IfErr result IsOfOneRead }
     ensures written { 1 ≤ pages → pages ≤ page_limit
         → IfOk result (λ h. SpellsHead (form_of layout) pages page.now (head_of h)) }
     ensures read { (h : types.Head) → SpellsHead (form_of layout) pages page.now h
@@ -205,9 +206,9 @@ pub fn head_on(layout: Layout, page: &[u8], pages: u32) -> Result<MapHead, MapRu
 
 fn judged_head(layout: Layout, page: &[u8], pages: u32) -> Result<MapHead, MapRule>
     requires { IsLayout layout }
-    ensures exact { Heads result ((form_of layout).head_in pages page.now) }
+    ensures exact { AnswersHead result ((form_of layout).head_in pages page.now) }
     ensures level { IfOk result (λ h. h.level ≡ root_level (option_map child_link h.root)) }
-    ensures once { IfErr result IsOfOneRead }
+    ensures of_one_read { IfErr result IsOfOneRead }
 {
     if !has_seal(layout, page) {
         return Err(MapRule::Unsealed);
@@ -225,9 +226,9 @@ fn judged_head(layout: Layout, page: &[u8], pages: u32) -> Result<MapHead, MapRu
 /// Page 0 of a file of so many pages. A refusal is `Unsealed` where the page does not end with the
 /// seal, else `Header` where it is not the spelling of a head.
 pub fn read_head(page: &[u8; PAGE_SIZE], pages: u32) -> Result<MapHead, MapRule>
-    ensures exact { Heads result (first_form.head_in pages page.now) }
+    ensures exact { AnswersHead result (first_form.head_in pages page.now) }
     ensures level { IfOk result (λ h. h.level ≡ root_level (option_map child_link h.root)) }
-    ensures once { IfErr result IsOfOneRead }
+    ensures of_one_read { IfErr result IsOfOneRead }
     ensures written { 1 ≤ pages → pages ≤ page_limit
         → IfOk result (λ h. SpellsHead first_form pages page.now (head_of h)) }
     ensures read { (h : types.Head) → SpellsHead first_form pages page.now h
@@ -238,9 +239,9 @@ pub fn read_head(page: &[u8; PAGE_SIZE], pages: u32) -> Result<MapHead, MapRule>
 
 /// The same of a page of version 2.
 pub fn read_head2(page: &[u8; SECOND_SIZE], pages: u32) -> Result<MapHead, MapRule>
-    ensures exact { Heads result (second_form.head_in pages page.now) }
+    ensures exact { AnswersHead result (second_form.head_in pages page.now) }
     ensures level { IfOk result (λ h. h.level ≡ root_level (option_map child_link h.root)) }
-    ensures once { IfErr result IsOfOneRead }
+    ensures of_one_read { IfErr result IsOfOneRead }
     ensures written { 1 ≤ pages → pages ≤ page_limit
         → IfOk result (λ h. SpellsHead second_form pages page.now (head_of h)) }
     ensures read { (h : types.Head) → SpellsHead second_form pages page.now h

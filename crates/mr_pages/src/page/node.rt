@@ -12,7 +12,7 @@ ghost use Rattle.mr_pages.specs.Page.{IsNode};
 ghost use Rattle.mr_pages.specs.Page as types;
 ghost use Rattle.mr_pages.specs.PageBytes.{many, record_field, link_bytes, link_size, root_size, word_in, may_tell, if_told, link_with, link_in, root_link_in, link_field, before_zeros, from_one_to, leaf_in, inner_in, tagged_in, node_in, node_bytes, node_limit, form_of, first_form, second_form, IsLayout, SpellsNode};
 ghost use Rattle.mr_pages.specs.Faults.{of_level};
-ghost use Rattle.mr_pages.specs.Walking.{child_link, page_node, Shows};
+ghost use Rattle.mr_pages.specs.Walking.{child_link, page_node, ShowsWanted};
 ghost use Rattle.mr_tree.specs.Limits.{inner_limit, leaf_limit};
 
 use crate::layout::{FIRST, LINK_LIMIT, Layout, PAGE_SIZE, SECOND, SECOND_SIZE};
@@ -215,7 +215,7 @@ fn read_children<'a>(
 fn show_leaf(version: Version, count: u8, bytes: &[u8], into: &mut NodeView) -> bool
     requires some { 1 ≤ count }
     requires few { count ≤ leaf_limit }
-    ensures { Shows result into.new (option_map Leaf
+    ensures { ShowsWanted result into.new (option_map Leaf
         (option_and_then before_zeros (many (record_field version) count bytes.now))) }
 {
     let mut places = [Record::blank(); 16];
@@ -236,7 +236,7 @@ fn show_inner(version: Version, level: u8, count: u8, bytes: &[u8], into: &mut N
     requires level { (1 ≤ level) × (level ≤ 7) }
     requires some { 1 ≤ count }
     requires few { count ≤ inner_limit }
-    ensures { Shows result into.new (option_map Inner
+    ensures { ShowsWanted result into.new (option_map Inner
         (option_and_then before_zeros (many (link_field version (level - 1)) count bytes.now))) }
 {
     let mut places = [Child::blank(); 64];
@@ -260,7 +260,7 @@ fn is_from_one_to(limit: u8, n: u8) -> bool
 }
 
 fn read_leaf(version: Version, bytes: &[u8], into: &mut NodeView) -> bool
-    ensures { Shows result into.new (leaf_in version bytes.now) }
+    ensures { ShowsWanted result into.new (leaf_in version bytes.now) }
 {
     match bytes {
         [count, rest @ ..] => {
@@ -274,7 +274,7 @@ fn read_leaf(version: Version, bytes: &[u8], into: &mut NodeView) -> bool
 }
 
 fn read_inner(version: Version, level: u8, bytes: &[u8], into: &mut NodeView) -> bool
-    ensures { Shows result into.new (of_level level (inner_in version bytes.now)) }
+    ensures { ShowsWanted result into.new (of_level level (inner_in version bytes.now)) }
 {
     match bytes {
         [up, count, rest @ ..] => {
@@ -294,7 +294,7 @@ fn read_inner(version: Version, level: u8, bytes: &[u8], into: &mut NodeView) ->
 }
 
 fn read_tagged(version: Version, bytes: &[u8], level: u8, into: &mut NodeView) -> bool
-    ensures { Shows result into.new (of_level level (tagged_in version bytes.now)) }
+    ensures { ShowsWanted result into.new (of_level level (tagged_in version bytes.now)) }
 {
     match bytes {
         [tag, rest @ ..] => {
@@ -317,7 +317,8 @@ fn read_tagged(version: Version, bytes: &[u8], level: u8, into: &mut NodeView) -
 /// one. Where it does not, the view is some node.
 pub fn node_on(layout: Layout, page: &[u8], level: u8, into: &mut NodeView) -> bool
     requires { IsLayout layout }
-    ensures exact { Shows result into.new (of_level level ((form_of layout).node_in page.now)) }
+    ensures exact { ShowsWanted result into.new
+        (of_level level ((form_of layout).node_in page.now)) }
     ensures written { result ≡ true →
         SpellsNode (form_of layout) level page.now (page_node into.new) }
     ensures read { (n : types.Node) → SpellsNode (form_of layout) level page.now n
@@ -327,7 +328,7 @@ pub fn node_on(layout: Layout, page: &[u8], level: u8, into: &mut NodeView) -> b
 }
 
 fn shown(layout: Layout, page: &[u8], level: u8, into: &mut NodeView) -> bool
-    ensures { Shows result into.new (of_level level (node_in layout page.now)) }
+    ensures { ShowsWanted result into.new (of_level level (node_in layout page.now)) }
 {
     if page.len() != layout.size {
         return false;
@@ -338,7 +339,7 @@ fn shown(layout: Layout, page: &[u8], level: u8, into: &mut NodeView) -> bool
 /// Shows the node of this level that the page spells, and answers whether it spells one. Where it
 /// does not, the view is some node.
 pub fn read_page(page: &[u8; PAGE_SIZE], level: u8, into: &mut NodeView) -> bool
-    ensures exact { Shows result into.new (of_level level (first_form.node_in page.now)) }
+    ensures exact { ShowsWanted result into.new (of_level level (first_form.node_in page.now)) }
     ensures written { result ≡ true → SpellsNode first_form level page.now (page_node into.new) }
     ensures read { (n : types.Node) → SpellsNode first_form level page.now n
         → (result ≡ true) × (page_node into.new ≡ n) }
@@ -348,7 +349,7 @@ pub fn read_page(page: &[u8; PAGE_SIZE], level: u8, into: &mut NodeView) -> bool
 
 /// The same of a page of version 2.
 pub fn read_page2(page: &[u8; SECOND_SIZE], level: u8, into: &mut NodeView) -> bool
-    ensures exact { Shows result into.new (of_level level (second_form.node_in page.now)) }
+    ensures exact { ShowsWanted result into.new (of_level level (second_form.node_in page.now)) }
     ensures written { result ≡ true → SpellsNode second_form level page.now (page_node into.new) }
     ensures read { (n : types.Node) → SpellsNode second_form level page.now n
         → (result ≡ true) × (page_node into.new ≡ n) }

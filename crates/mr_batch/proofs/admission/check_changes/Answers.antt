@@ -1,5 +1,5 @@
 use Rattle.std.proofs.Common.{◌+◌, take, arith}
-use Rattle.mr_batch.specs.Presence.{first_hindered, knows, after_all}
+use Rattle.mr_batch.specs.private.Presence.{first_hindered, knows, after_all}
 use Rattle.mr_batch.proofs.Walking.{loop_step, loop_fault, loop_end, handed_on}
 use Rattle.mr_batch.proofs.admission.check_changes.Goals as goal
 

@@ -1,5 +1,5 @@
 use Rattle.std.proofs.Common.{◌≡◌, ◌+◌, take, drop}
-use Rattle.mr_batch.specs.Presence.{after_all, first_hindered, knows}
+use Rattle.mr_batch.specs.private.Presence.{after_all, first_hindered, knows}
 use Rattle.mr_batch.proofs.admission.check_changes.Given as goal
 
 abbrev pub invariant-loop-i : goal.invariant-loop-i

@@ -1,7 +1,7 @@
 use Rattle.std.proofs.Common.{sym, ap, ◌∙◌, arith, is_some}
 use Rattle.std.specs.Prelude.{slice_index}
 use Rattle.mr_batch.specs.Changes.{numbers}
-use Rattle.mr_batch.specs.Presence.{adds, knows}
+use Rattle.mr_batch.specs.private.Presence.{adds, knows}
 use Rattle.mr_batch.proofs.Linking.{after_all-last, after_all-none, number_at}
 use Rattle.mr_batch.proofs.admission.is_present.Goals as goal
 

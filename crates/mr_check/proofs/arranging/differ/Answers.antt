@@ -1,10 +1,10 @@
 use Rattle.std.proofs.Common.{sym, ◌∙◌, ap}
-use Rattle.mr_check.specs.Differing.{rise}
+use Rattle.mr_check.specs.private.Differing.{rise}
 use Rattle.mr_check.proofs.Differing.{each_once, all_rise}
 use Rattle.mr_check.proofs.arranging.differ.Goals as goal
 
-pub returns-clause-once : goal.returns-clause-once
-returns-clause-once c = λ up.
+pub returns-clause-each_once : goal.returns-clause-each_once
+returns-clause-each_once c = λ up.
     each_once c.args.records.now c.in_ok-numbers.numbers.items c.in_ok-numbers.ensures.permutation
     (ap rise (sym c.deref.ensures.value) ∙ sym c.rise.ensures ∙ up)
 

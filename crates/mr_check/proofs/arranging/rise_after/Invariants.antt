@@ -1,5 +1,5 @@
 use Rattle.std.proofs.Common.{◌≡◌, drop}
-use Rattle.mr_check.specs.Differing.{rise_after}
+use Rattle.mr_check.specs.private.Differing.{rise_after}
 use Rattle.mr_check.proofs.arranging.rise_after.Given as goal
 
 -- what is left decides

@@ -1,6 +1,6 @@
 use Rattle.std.proofs.Common.{List, reverse, sym, arith, ◌∙◌, subst}
 use Rattle.mr_check.specs.declared.frame.Frame.{Frame}
-use Rattle.mr_check.specs.Standing.{IsRead}
+use Rattle.mr_check.specs.Machine.{HasReadCut}
 use Rattle.mr_check.proofs.Nodes.{closed_root, closed_child, missed_parent, closed_parent}
 use Rattle.mr_check.proofs.closing.+close.Goals as goal
 
@@ -8,7 +8,7 @@ pub returns-in-None-clause-closes : goal.returns-in-None-clause-closes
 returns-in-None-clause-closes g t c = λ given os P r.
     closed_root g.H.Hashes.of g.H.Hashes.holds (g.A.AsQuestion.question c.args.q.now) c.args.m.now c.pop.new.stack
     c.args.node.now given os P
-    (subst (λ (fs : List (Frame _)). IsRead g.H.Hashes.of g.H.Hashes.holds (g.A.AsQuestion.question c.args.q.now)
+    (subst (λ (fs : List (Frame _)). HasReadCut g.H.Hashes.of g.H.Hashes.holds (g.A.AsQuestion.question c.args.q.now)
     c.args.m.now.head fs
     c.args.m.now.tally c.args.node.now given os P) c.in-None.ensures.0 r)
 
@@ -18,7 +18,7 @@ returns-then-frame-gt0-clause-closes g t c = λ given os P r.
     c.in-Some.frame
     c.add_entry.new.self (reverse c.pop.new.stack.list.items) c.args.node.now given os P c.add_entry.ensures
     c.if-frame-gt0.true c.push.ensures.items
-    (subst (λ (fs : List (Frame _)). IsRead g.H.Hashes.of g.H.Hashes.holds (g.A.AsQuestion.question c.args.q.now)
+    (subst (λ (fs : List (Frame _)). HasReadCut g.H.Hashes.of g.H.Hashes.holds (g.A.AsQuestion.question c.args.q.now)
     c.args.m.now.head fs
     c.args.m.now.tally c.args.node.now given os P) c.in-Some.ensures.0 r)
 
@@ -37,7 +37,7 @@ returns-then-not-is_to_be_opened-clause-closes g t c = λ given os P r.
           c.close-parent.ensures.digest;
     })
     (sym c.is_to_be_opened.ensures ∙ c.if-not-is_to_be_opened.true)
-    (subst (λ (fs : List (Frame _)). IsRead g.H.Hashes.of g.H.Hashes.holds (g.A.AsQuestion.question c.args.q.now)
+    (subst (λ (fs : List (Frame _)). HasReadCut g.H.Hashes.of g.H.Hashes.holds (g.A.AsQuestion.question c.args.q.now)
     c.args.m.now.head fs
     c.args.m.now.tally c.args.node.now given os P) c.in-Some.ensures.0 r)
 
@@ -56,6 +56,6 @@ returns-else-not-is_to_be_opened-clause-closes g t c = λ given os P r.
           c.close-parent.ensures.digest;
     })
     (sym c.is_to_be_opened.ensures ∙ c.if-not-is_to_be_opened.false) (c.close.ensures.closes given)
-    (subst (λ (fs : List (Frame _)). IsRead g.H.Hashes.of g.H.Hashes.holds (g.A.AsQuestion.question c.args.q.now)
+    (subst (λ (fs : List (Frame _)). HasReadCut g.H.Hashes.of g.H.Hashes.holds (g.A.AsQuestion.question c.args.q.now)
     c.args.m.now.head fs
     c.args.m.now.tally c.args.node.now given os P) c.in-Some.ensures.0 r)

@@ -1,12 +1,12 @@
 use Rattle.std.proofs.Common.{◌≡◌, Option, sym, subst}
 use Rattle.mr_proof.specs.declared.question.Around.{Around}
 use Rattle.mr_proof.specs.Refused.{has_other_radius}
-use Rattle.mr_check.specs.Counting.{Counts}
+use Rattle.mr_check.specs.private.Counting.{CountsRecords}
 use Rattle.mr_check.proofs.ending.is_other.Goals as goal
 
 pub returns : goal.returns
 returns g c = λ rs counts.
     subst (λ (z : Option Around). has_other_radius z c.args.r.now.machine.head.radius rs ≡ c.has_other_radius.result)
     c.around.ensures (sym (c.has_other_radius.ensures rs
-    (subst (λ (z : Option Around). Counts z c.args.r.now.machine.head.radius rs c.args.r.now.machine.tally)
+    (subst (λ (z : Option Around). CountsRecords z c.args.r.now.machine.head.radius rs c.args.r.now.machine.tally)
     (sym c.around.ensures) counts)))

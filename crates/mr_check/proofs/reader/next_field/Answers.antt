@@ -3,7 +3,7 @@ use Rattle.std.proofs.lemmas.List.{length-append, take-append-drop}
 use Rattle.mr_proof.specs.declared.want.Want.{Want}
 use Rattle.mr_proof.specs.Limits.{place_limit}
 use Rattle.mr_proof.specs.Fields.{size_of, field_of}
-use Rattle.mr_check.specs.Stages.{size_in, room_in}
+use Rattle.mr_check.specs.private.Stages.{size_in, room_in}
 use Rattle.mr_check.proofs.Turning.{turn_more, turn_broken, turn_whole, takes_some}
 use Rattle.mr_check.proofs.reader.next_field.Goals as goal
 

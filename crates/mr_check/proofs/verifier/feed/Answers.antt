@@ -1,6 +1,6 @@
 use Rattle.std.proofs.Common.{Option, subst}
 use Rattle.mr_proof.specs.declared.rule.Fault.{Fault}
-use Rattle.mr_check.specs.Reads.{StandsBy}
+use Rattle.mr_check.specs.private.Reads.{StandsBy}
 use Rattle.mr_check.proofs.Judging.{fed_feeds, fed_stands, fault_stands, fault_final}
 use Rattle.mr_check.proofs.verifier.feed.Goals as goal
 

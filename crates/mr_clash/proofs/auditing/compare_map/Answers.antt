@@ -2,7 +2,7 @@ use Rattle.std.proofs.Common.{subst}
 use Rattle.mr_proof.specs.declared.head.Kind.{Kind}
 use Rattle.mr_proof.specs.Spelling.{part_bytes}
 use Rattle.std.specs.Prelude.{option_map}
-use Rattle.mr_clash.specs.Steps.{pair_of, ComparedMap}
+use Rattle.mr_clash.specs.private.Steps.{pair_of, ComparedMap}
 use Rattle.mr_clash.proofs.Roots.{map_compared}
 use Rattle.mr_clash.proofs.auditing.compare_map.Goals as goal
 

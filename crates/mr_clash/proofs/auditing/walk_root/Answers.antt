@@ -1,6 +1,6 @@
 use Rattle.std.proofs.Common.{refl, sym, ◌∙◌}
 use Rattle.std.specs.Prelude.{Ok}
-use Rattle.mr_clash.specs.Steps.{left}
+use Rattle.mr_clash.specs.private.Steps.{left}
 use Rattle.mr_clash.specs.declared.error.AuditErr.{AuditErr}
 use Rattle.mr_clash.proofs.Roots.{none_walked, root_alone, other_level, root_walked}
 use Rattle.mr_clash.proofs.Fetches.{fetched_root}

@@ -1,5 +1,5 @@
 use Rattle.std.proofs.Common.{arith, ap, length, length-append, [], ◌∷◌, ◌++◌, ◌-◌, sym, ◌∙◌}
-use Rattle.mr_proof.specs.Cut.{count_of}
+use Rattle.mr_proof.specs.Cut.{number_of_cuts}
 use Rattle.mr_proof.specs.Fields.{inner_tag}
 use Rattle.mr_proof.specs.Spelling.{cuts_bytes}
 use Rattle.mr_clash.proofs.Taking.{next_item, passed_more, all_passed}
@@ -8,8 +8,8 @@ use Rattle.mr_clash.proofs.items.+items.Goals as goal
 
 pub pass_inner-returns : goal.pass_inner-returns
 pass_inner-returns g t c = λ Ps rest fits is.
-    let a = c.byte-tag.ensures inner_tag (count_of Ps ∷ cuts_bytes Ps ++ rest) is in
-    let n = c.byte-count.ensures (count_of Ps) (cuts_bytes Ps ++ rest) a.1 in
+    let a = c.byte-tag.ensures inner_tag (number_of_cuts Ps ∷ cuts_bytes Ps ++ rest) is in
+    let n = c.byte-count.ensures (number_of_cuts Ps) (cuts_bytes Ps ++ rest) a.1 in
     let p = c.in_ok-children.ensures.passed Ps rest fits.1 (sym n.0) n.1 in
     inner_passed g.H.Hashes.of (c.args.level - 1) c.args.level Ps rest c.in_ok-children.children.items
     c.deref.result.now _ _ (omega (arith, c.requires)) fits.0.some fits.1 p.say c.deref.ensures.value

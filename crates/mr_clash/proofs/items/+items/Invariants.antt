@@ -1,7 +1,7 @@
 use Rattle.std.proofs.Common.{◌≡◌, ℕ, List, ◌++◌, ◌+◌, ◌*◌, length}
-use Rattle.mr_proof.specs.Cut.{Cuts, count_of}
+use Rattle.mr_proof.specs.Cut.{Cuts, number_of_cuts}
 use Rattle.mr_proof.specs.Spelling.{cuts_bytes, FitCuts}
-use Rattle.mr_clash.specs.Steps.{left}
+use Rattle.mr_clash.specs.private.Steps.{left}
 use Rattle.mr_clash.proofs.Taking.{PassedSome}
 use Rattle.mr_clash.proofs.items.+items.Given as goal
 
@@ -17,7 +17,7 @@ decreases-pass_items g l = 3 * l.level + 2
 -- so many items were passed over
 abbrev pub invariant-pass_items-loop : goal.invariant-pass_items-loop
 invariant-pass_items-loop g l = record {
-  passed : (Ps : Cuts) (rest : List ℕ) → FitCuts l.level Ps → count_of Ps ≡ l.count
+  passed : (Ps : Cuts) (rest : List ℕ) → FitCuts l.level Ps → number_of_cuts Ps ≡ l.count
       → left l.initial.from ≡ cuts_bytes Ps ++ rest
       → PassedSome g.H.Hashes.of l.level Ps rest l.counter l.list.items (left l.from);
   few : length l.list.items ≡ l.counter;

@@ -4,7 +4,7 @@ use Rattle.std.specs.List.{flat_map}
 use Rattle.mr_record.specs.Record.{IsRecord, record_bytes}
 use Rattle.mr_record.specs.declared.record.Record.{Record}
 use Rattle.mr_proof.specs.Fields.{version}
-use Rattle.mr_clash.specs.Steps.{left}
+use Rattle.mr_clash.specs.private.Steps.{left}
 use Rattle.mr_clash.proofs.Taking.{PassedRecords}
 use Rattle.mr_clash.proofs.leaf.pass_records.Given as goal
 

@@ -2,7 +2,7 @@ use Rattle.std.proofs.Common.{◌≡◌, ◌++◌, take}
 use Rattle.std.specs.List.{flat_map}
 use Rattle.mr_record.specs.Record.{record_bytes}
 use Rattle.mr_proof.specs.Fields.{version}
-use Rattle.mr_clash.specs.Steps.{left}
+use Rattle.mr_clash.specs.private.Steps.{left}
 use Rattle.mr_clash.proofs.own.pass_own_records.Given as goal
 
 -- the records so far stood there

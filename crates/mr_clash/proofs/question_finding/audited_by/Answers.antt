@@ -3,7 +3,7 @@ use Rattle.std.specs.Prelude.{option_map}
 use Rattle.mr_record.proofs.Encodings.{IsBytes}
 use Rattle.mr_tree.specs.Digest.{by}
 use Rattle.mr_proof.proofs.Soundness.{shows_from}
-use Rattle.mr_clash.specs.Steps.{pair_of}
+use Rattle.mr_clash.specs.private.Steps.{pair_of}
 use Rattle.mr_clash.specs.QuestionFindings.{opened_checked_by}
 use Rattle.mr_clash.proofs.Fetches.{none_fetched}
 use Rattle.mr_clash.proofs.QuestionFindings.{question_finding_collides, declined_told, declined_for, accepted_told, accepted_for, few_opened, few_for, none_for, declined_causes, declined_collides}

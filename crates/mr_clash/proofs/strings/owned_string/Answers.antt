@@ -1,5 +1,5 @@
 use Rattle.std.proofs.Common.{ap, map, ◌∙◌}
-use Rattle.mr_tree.specs.View.{entry_of}
+use Rattle.mr_tree.specs.View.{child_entry}
 use Rattle.mr_clash.proofs.Nodes.{ok_as, owned_inner, above_zero}
 use Rattle.mr_clash.proofs.strings.owned_string.Goals as goal
 
@@ -9,5 +9,5 @@ returns-in_ok-children c =
     ok_as c.inner_string.result _ _
     (owned_inner c.args.view.now _ c.level-else-level-eq0.result c.in_ok-children.children.items c.deref.result.now
     (c.children.ensures.inner above) c.level-else-level-eq0.ensures.value
-    (c.in_ok-children.ensures ∙ ap (map entry_of) c.children.ensures.value) c.deref.ensures.value)
+    (c.in_ok-children.ensures ∙ ap (map child_entry) c.children.ensures.value) c.deref.ensures.value)
     c.inner_string.ensures

@@ -3,7 +3,7 @@ use Rattle.std.specs.Prelude.{Some, option_map}
 use Rattle.mr_tree.specs.Tree.{union_of}
 use Rattle.mr_tree.specs.declared.entry.Entry.{Entry}
 use Rattle.mr_proof.specs.Clash.{differ, or_else}
-use Rattle.mr_clash.specs.Steps.{pair_of, string_over}
+use Rattle.mr_clash.specs.private.Steps.{pair_of, string_over}
 use Rattle.mr_clash.proofs.walked.compare_inner.Goals as goal
 
 pub returns : goal.returns

@@ -1,7 +1,7 @@
 use Rattle.std.proofs.Common.{ap, ◌++◌, ◌∙◌}
 use Rattle.mr_proof.specs.Cut.{Leaf}
 use Rattle.mr_proof.specs.Spelling.{cut_bytes}
-use Rattle.mr_clash.specs.Steps.{left}
+use Rattle.mr_clash.specs.private.Steps.{left}
 use Rattle.mr_clash.proofs.OwnNodes.{own_leaf}
 use Rattle.mr_clash.proofs.walked.walk_leaf.Goals as goal
 

@@ -1,13 +1,13 @@
 use Rattle.std.proofs.Common.{arith, ap, length, length-append, refl, [], ◌∷◌, ◌++◌, ◌-◌, sym, subst, ◌∙◌}
 use Rattle.std.specs.Prelude.{◌≡◌, All, Ok, option_map}
-use Rattle.mr_tree.specs.Nodes.{Standing}
+use Rattle.mr_tree.specs.Nodes.{MapModel}
 use Rattle.mr_tree.specs.View.{records_in, preimage_of}
 use Rattle.mr_record.specs.Record.{HasLayer}
 use Rattle.mr_record.specs.declared.version.Version.{Version}
-use Rattle.mr_proof.specs.Cut.{count_of}
+use Rattle.mr_proof.specs.Cut.{number_of_cuts}
 use Rattle.mr_proof.specs.Fields.{version, inner_tag}
 use Rattle.mr_proof.specs.Spelling.{cuts_bytes}
-use Rattle.mr_clash.specs.Steps.{left, WalksChildren, pair_of}
+use Rattle.mr_clash.specs.private.Steps.{left, WalksChildren, pair_of}
 use Rattle.mr_clash.specs.declared.error.AuditErr.{AuditErr}
 use Rattle.mr_clash.proofs.Nodes.{above_zero}
 use Rattle.mr_clash.proofs.Rows.{child_level, walked_at, walked_more, all_walked, other_count}
@@ -17,14 +17,14 @@ use Rattle.mr_clash.proofs.walking.+walk.Goals as goal
 
 pub walk_children-returns-then-from-children-clause-walked : goal.walk_children-returns-then-from-children-clause-walked
 walk_children-returns-then-from-children-clause-walked g t c = λ Ps rest fits is.
-    let a = c.byte-tag.ensures inner_tag (count_of Ps ∷ cuts_bytes Ps ++ rest) is in
-    let n = c.byte-count.ensures (count_of Ps) (cuts_bytes Ps ++ rest) a.1 in
+    let a = c.byte-tag.ensures inner_tag (number_of_cuts Ps ∷ cuts_bytes Ps ++ rest) is in
+    let n = c.byte-count.ensures (number_of_cuts Ps) (cuts_bytes Ps ++ rest) a.1 in
     c.walk_all.ensures.walked Ps rest fits.1 (sym n.0 ∙ sym c.from.ensures ∙ c.if-from-children.true) n.1
 
 pub walk_children-returns-clause-walked : goal.walk_children-returns-clause-walked
 walk_children-returns-clause-walked g t c = λ Ps rest fits is.
-    let a = c.byte-tag.ensures inner_tag (count_of Ps ∷ cuts_bytes Ps ++ rest) is in
-    let n = c.byte-count.ensures (count_of Ps) (cuts_bytes Ps ++ rest) a.1 in
+    let a = c.byte-tag.ensures inner_tag (number_of_cuts Ps ∷ cuts_bytes Ps ++ rest) is in
+    let n = c.byte-count.ensures (number_of_cuts Ps) (cuts_bytes Ps ++ rest) a.1 in
     other_count g.N.Hash.Hashes.of (g.N.Nodes.stands c.args.nodes.now) (c.args.level - 1) c.args.children.now Ps rest
     _ _ (λ e. c.if-from-children.false (c.from.ensures ∙ n.0 ∙ e))
     (c.in_ok-entries.ensures.passed Ps rest fits.1 (sym n.0) n.1)
@@ -54,7 +54,7 @@ walk-returns-clause-walked g t c = λ P rest fits is.
     let shows = c.in_ok-fetch.ensures.shows in
     let above = above_zero _ c.args.child.now.level (sym shows.level) c.if-child-eq0.false in
     let stands = g.met.N.Nodes.kept_stands c.args.nodes.now c.fetch.new.nodes c.in_ok-fetch.ensures.kept in
-    let walked = subst (λ (s : Standing). WalksChildren {E = AuditErr} hash s c.args.child.now.level
+    let walked = subst (λ (s : MapModel). WalksChildren {E = AuditErr} hash s c.args.child.now.level
     c.children.result.now (left c.args.from.now) (left c.walk_children.new.from) (Ok c.in_ok-row.row)) stands
     c.in_ok-row.ensures.walked in
     let held = subst (λ (v : Version). hash (preimage_of v c.fetch.new.view) ≡ c.args.child.now.digest)
@@ -113,8 +113,8 @@ walk_all-returns-clause-walked g t c = λ Ps rest fits count is.
 pub walk_children-returns-then-from-children-clause-fetched :
     goal.walk_children-returns-then-from-children-clause-fetched
 walk_children-returns-then-from-children-clause-fetched g t c = λ Ps rest fits is.
-    let a = c.byte-tag.ensures inner_tag (count_of Ps ∷ cuts_bytes Ps ++ rest) is in
-    let n = c.byte-count.ensures (count_of Ps) (cuts_bytes Ps ++ rest) a.1 in
+    let a = c.byte-tag.ensures inner_tag (number_of_cuts Ps ∷ cuts_bytes Ps ++ rest) is in
+    let n = c.byte-count.ensures (number_of_cuts Ps) (cuts_bytes Ps ++ rest) a.1 in
     c.walk_all.ensures.fetched Ps rest fits.1 (sym n.0 ∙ sym c.from.ensures ∙ c.if-from-children.true) n.1
 
 pub walk-returns-in_err-fetch-clause-fetched : goal.walk-returns-in_err-fetch-clause-fetched

@@ -1,5 +1,5 @@
 use Rattle.std.proofs.Common.{sym, ap, subst, ◌∙◌}
-use Rattle.mr_record.specs.Answer.{Refuses}
+use Rattle.mr_record.specs.Answer.{RefusesText}
 use Rattle.mr_query.specs.Script.{queries_of_text}
 use Rattle.mr_command.specs.Inputs.{ReadsText}
 use Rattle.mr_command.proofs.Going.{halted_is}
@@ -25,5 +25,5 @@ pub returns-clause-reads : goal.returns-clause-reads
 returns-clause-reads g c =
     text_refused queries_of_text c.args.name.now (g.S.Shelf.state c.args.shelf.now)
     (g.S.Shelf.state c.needed.new.shelf) c.in_ok-text.text c.in_ok-text.ensures c.in-Err.error c.bad_text.result
-    (subst (Refuses c.in-Err.error) (ap queries_of_text c.deref.ensures.value) c.in-Err.ensures.exact)
+    (subst (RefusesText c.in-Err.error) (ap queries_of_text c.deref.ensures.value) c.in-Err.ensures.exact)
     c.bad_text.ensures

@@ -3,7 +3,7 @@ use Rattle.std.specs.Prelude.{Ok}
 use Rattle.mr_record.specs.declared.version.Version.{Version}
 use Rattle.mr_record.specs.declared.version.Version.TheVariants.{One, Two}
 use Rattle.mr_tree.specs.WellFormed.{HasLayers}
-use Rattle.mr_command.specs.Ending.{Saves, halt_of}
+use Rattle.mr_command.specs.Ending.{SavesFile, halt_of}
 use Rattle.mr_plan.specs.Outcome.{map_of}
 use Rattle.mr_command.proofs.Going.{IsSized, halted_is, saved_so, unsaved_by}
 use Rattle.mr_command.proofs.saving.save.Given
@@ -19,9 +19,10 @@ returns-in_err-save_plain-in-One g c =
     let before = g.S.Shelf.state c.args.shelf.now in
     let after = g.S.Shelf.state c.save_plain.new.shelf in
     let error = c.in_err-save_plain-in-One.field-0.0 in
-    subst (λ (v : Version). Saves c.args.name.now (map_of v hash tree c.args.batch) before after c.from_residual.result)
+    subst (λ (v : Version). SavesFile c.args.name.now (map_of v hash tree c.args.batch) before after
+    c.from_residual.result)
     (sym c.in-One.is)
-    (subst (Saves c.args.name.now (map_of One hash tree c.args.batch) before after)
+    (subst (SavesFile c.args.name.now (map_of One hash tree c.args.batch) before after)
     (sym (halted_is c.from_residual.result (halt_of error) c.from_residual.ensures.1))
     (unsaved_by One hash (sized g) c.args.name.now tree c.args.batch before after c.requires.well_formed
     (subst (λ (v : Version). HasLayers v tree) c.in-One.is c.requires.layers) c.ranges.batch.fits error
@@ -33,7 +34,7 @@ returns-in_ok-save_plain-in-One g c =
     let tree = c.args.tree.now in
     let before = g.S.Shelf.state c.args.shelf.now in
     let after = g.S.Shelf.state c.save_plain.new.shelf in
-    subst (λ (v : Version). Saves c.args.name.now (map_of v hash tree c.args.batch) before after (Ok tt))
+    subst (λ (v : Version). SavesFile c.args.name.now (map_of v hash tree c.args.batch) before after (Ok tt))
     (sym c.in-One.is)
     (saved_so One hash (sized g) c.args.name.now tree c.args.batch before after c.requires.well_formed
     (subst (λ (v : Version). HasLayers v tree) c.in-One.is c.requires.layers) c.ranges.batch.fits tt
@@ -48,9 +49,9 @@ returns-in_err-save2_plain-in-Two g c =
     let after = g.S.Shelf.state c.save2_plain.new.shelf in
     let error = c.in_err-save2_plain-in-Two.field-0.0 in
     let r = c.from_residual-in_err-save2_plain-in-Two in
-    subst (λ (v : Version). Saves c.args.name.now (map_of v hash tree c.args.batch) before after r.result)
+    subst (λ (v : Version). SavesFile c.args.name.now (map_of v hash tree c.args.batch) before after r.result)
     (sym c.in-Two.is)
-    (subst (Saves c.args.name.now (map_of Two hash tree c.args.batch) before after)
+    (subst (SavesFile c.args.name.now (map_of Two hash tree c.args.batch) before after)
     (sym (halted_is r.result (halt_of error) r.ensures.1))
     (unsaved_by Two hash (sized g) c.args.name.now tree c.args.batch before after c.requires.well_formed
     (subst (λ (v : Version). HasLayers v tree) c.in-Two.is c.requires.layers) c.ranges.batch.fits error
@@ -62,7 +63,7 @@ returns-in_ok-save2_plain-in-Two g c =
     let tree = c.args.tree.now in
     let before = g.S.Shelf.state c.args.shelf.now in
     let after = g.S.Shelf.state c.save2_plain.new.shelf in
-    subst (λ (v : Version). Saves c.args.name.now (map_of v hash tree c.args.batch) before after (Ok tt))
+    subst (λ (v : Version). SavesFile c.args.name.now (map_of v hash tree c.args.batch) before after (Ok tt))
     (sym c.in-Two.is)
     (saved_so Two hash (sized g) c.args.name.now tree c.args.batch before after c.requires.well_formed
     (subst (λ (v : Version). HasLayers v tree) c.in-Two.is c.requires.layers) c.ranges.batch.fits tt

@@ -1,5 +1,5 @@
 use Rattle.std.proofs.Common.{sym, subst, ◌∙◌}
-use Rattle.mr_command.specs.Ending.{Saves, halt_of}
+use Rattle.mr_command.specs.Ending.{SavesFile, halt_of}
 use Rattle.mr_plan.specs.Outcome.{text}
 use Rattle.mr_command.proofs.Going.{halted_is}
 use Rattle.mr_command.proofs.Texts.{text_begun, text_put, text_unsynced, text_saved}
@@ -13,7 +13,7 @@ returns-in_err-append g c =
     let made = g.S.Shelf.state c.create.new.self in
     let after = g.S.Shelf.state c.append.new.self in
     let error = c.in_err-append.field-0.0 in
-    subst (Saves name (text bytes) before after)
+    subst (SavesFile name (text bytes) before after)
     (sym (halted_is c.from_residual-in_err-append.result (halt_of error) c.from_residual-in_err-append.ensures.1))
     (text_begun name bytes before made after error c.in_ok-create.ensures.made c.in_ok-create.ensures.causes.quiet
     c.in_ok-create.ensures.reads c.in_err-append.ensures.writes.front c.in_err-append.ensures.writes.reads
@@ -28,7 +28,7 @@ returns-in_err-sync g c =
     let full = g.S.Shelf.state c.append.new.self in
     let after = g.S.Shelf.state c.sync.new.self in
     let error = c.in_err-sync.field-0.0 in
-    subst (Saves name (text bytes) before after)
+    subst (SavesFile name (text bytes) before after)
     (sym (halted_is c.from_residual-in_err-sync.result (halt_of error) c.from_residual-in_err-sync.ensures.1))
     (text_unsynced name bytes before full after error
     (text_put name bytes before made full c.in_ok-create.ensures.made c.in_ok-append.ensures.writes.whole)

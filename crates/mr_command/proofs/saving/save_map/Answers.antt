@@ -1,6 +1,6 @@
 use Rattle.std.proofs.Common.{refl, sym, ap, subst, ◌∙◌}
 use Rattle.mr_command.specs.Answer.{IsSettled}
-use Rattle.mr_command.specs.Ending.{Comes}
+use Rattle.mr_command.specs.Ending.{RunsPlan}
 use Rattle.mr_plan.specs.Outcome.{map_of}
 use Rattle.mr_plan.specs.Plan.{comes}
 use Rattle.mr_plan.specs.Lines.{digest_line}
@@ -14,7 +14,7 @@ returns-in_err-save g c =
     let said = say_map c.args.version hash c.args.name.now c.args.tree.now c.args.batch in
     let before = g.S.Shelf.state c.args.shelf.now in
     let after = g.S.Shelf.state c.save.new.shelf in
-    subst (Comes (comes said) before after)
+    subst (RunsPlan (comes said) before after)
     (sym (halted_is c.from_residual-in_err-save.result c.in_err-save.field-0.0
     c.from_residual-in_err-save.ensures.1))
     (comes_unsaved c.args.name.now (map_of c.args.version hash c.args.tree.now c.args.batch) said before after

@@ -5,7 +5,7 @@ use Rattle.mr_draft.proofs.draft.replay_in.Goals as goal
 
 pub returns-in-Ok-clause-replays : goal.returns-in-Ok-clause-replays
 returns-in-Ok-clause-replays g c =
-    let made = c.desk_of-desk.ensures in
+    let made = c.pager_of-pager.ensures in
     let again = c.sheets_of-sheets.ensures in
     let name = sym (again.same_reference ∙ c.replay-replayed.ensures.kept.same ∙ made.same_reference) in
     replays_on (by g.V.StaticVersion.version g.H.Hashes.of) c.args.root c.args.dir.now c.args.batch.now _ _ _ _ _ _
@@ -14,7 +14,7 @@ returns-in-Ok-clause-replays g c =
 
 pub returns-in-Ok-clause-within : goal.returns-in-Ok-clause-within
 returns-in-Ok-clause-within g c =
-    let made = c.desk_of-desk.ensures in
+    let made = c.pager_of-pager.ensures in
     let again = c.sheets_of-sheets.ensures in
     let name = sym (again.same_reference ∙ c.replay-replayed.ensures.kept.same ∙ made.same_reference) in
     within_on (by g.V.StaticVersion.version g.H.Hashes.of) c.args.root c.args.dir.now c.args.batch.now _ _ _ _ _ _
@@ -23,7 +23,7 @@ returns-in-Ok-clause-within g c =
 
 pub returns-in-Err-clause-within : goal.returns-in-Err-clause-within
 returns-in-Err-clause-within g c =
-    let made = c.desk_of-desk.ensures in
+    let made = c.pager_of-pager.ensures in
     let again = c.sheets_of-sheets.ensures in
     let name = sym (again.same_reference ∙ c.replay-replayed.ensures.kept.same ∙ made.same_reference) in
     within_on (by g.V.StaticVersion.version g.H.Hashes.of) c.args.root c.args.dir.now c.args.batch.now _ _ _ _ _ _

@@ -1,7 +1,7 @@
 use Rattle.std.proofs.Common.{◌∙◌, arith}
-use Rattle.mr_draft.specs.Sheets.{book_of}
+use Rattle.mr_draft.specs.Sheets.{page_map_of}
 use Rattle.mr_draft.proofs.NodesKept.{free_as, if_ok}
-use Rattle.mr_draft.proofs.Objects.{written, kept_book}
+use Rattle.mr_draft.proofs.Objects.{written, kept_page_map}
 use Rattle.mr_draft.proofs.keeping.free_page.Goals as goal
 
 pub returns-clause-sheets : goal.returns-clause-sheets
@@ -14,6 +14,6 @@ pub returns-clause-put : goal.returns-clause-put
 returns-clause-put g c =
     let f = c.args.file.now in
     if_ok c.put_page-put.result
-    (λ put. kept_book c.put_page-put.new.file c.forget.new.self c.forget.ensures.only
-    ∙ free_as f.layout (book_of f) (book_of c.put_page-put.new.file) c.args.page c.put_free.new.page c.args.next
+    (λ put. kept_page_map c.put_page-put.new.file c.forget.new.self c.forget.ensures.only
+    ∙ free_as f.layout (page_map_of f) (page_map_of c.put_page-put.new.file) c.args.page c.put_free.new.page c.args.next
     c.put_free.ensures (omega arith) put) c.put_page-put.ensures.put

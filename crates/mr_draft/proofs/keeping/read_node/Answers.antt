@@ -10,8 +10,8 @@ returns-in-Ok-clause-node g c =
     node_as_read f.layout (state_of f).files (name_of f) f.pages c.args.child.now.id c.read_node.new.into
     c.requires.within c.in-Ok.ensures.has
 
-pub returns-in-Err-clause-sound : goal.returns-in-Err-clause-sound
-returns-in-Err-clause-sound g c =
+pub returns-in-Err-clause-blames_none_told : goal.returns-in-Err-clause-blames_none_told
+returns-in-Err-clause-blames_none_told g c =
     let f = c.args.file.now in
     never_blamed f.layout f.pages g.H.Hashes.of (Unit {0}) (state_of f).files (name_of f) c.args.child.now
     c.in-Err.error c.blame.result c.read_node.new.into c.in-Err.ensures.told c.blame.ensures

@@ -5,10 +5,10 @@ use Rattle.mr_pages.specs.PageBytes.{form_of}
 use Rattle.mr_store.specs.CachedFile.{entries_of}
 use Rattle.mr_edit.specs.Causes.{CanRead}
 use Rattle.mr_edit.specs.Outcome.{NeverMap}
-use Rattle.mr_draft.specs.SheetLaws.{sheets_on}
-use Rattle.mr_draft.specs.Sheets.{RefusesRead, book_of, book_on}
+use Rattle.mr_draft.specs.private.SheetLaws.{sheets_on}
+use Rattle.mr_draft.specs.Sheets.{RefusesRead, page_map_of, page_map_on}
 use Rattle.mr_draft.proofs.NodesKept.{finds_it, found_level, found_some, found_told, found_node, memory_refuses}
-use Rattle.mr_draft.proofs.Objects.{back, recalled, kept_book, kept_files, kept_pages, keeps_kept, read_book, read_sheets, shown, keeps_read}
+use Rattle.mr_draft.proofs.Objects.{back, recalled, kept_page_map, kept_files, kept_pages, keeps_kept, read_page_map, read_sheets, shown, keeps_read}
 use Rattle.mr_draft.proofs.keeping.show_inside.Goals as goal
 
 pub read_node-requires-clause-pages : goal.read_node-requires-clause-pages
@@ -21,7 +21,7 @@ returns-then-recall-clause-sheets g c =
     c.recall.ensures.stays
 
 pub returns-then-recall-clause-same : goal.returns-then-recall-clause-same
-returns-then-recall-clause-same g c = kept_book c.args.file.now c.recall.new.self c.recall.ensures.only
+returns-then-recall-clause-same g c = kept_page_map c.args.file.now c.recall.new.self c.recall.ensures.only
 
 pub returns-then-recall-clause-kept : goal.returns-then-recall-clause-kept
 returns-then-recall-clause-kept g c = keeps_kept c.args.file.now c.recall.new.self c.recall.ensures.only
@@ -29,15 +29,15 @@ returns-then-recall-clause-kept g c = keeps_kept c.args.file.now c.recall.new.se
 pub returns-then-recall-clause-level : goal.returns-then-recall-clause-level
 returns-then-recall-clause-level g c =
     let f = c.args.file.now in
-    found_level (by f.layout.version g.H.Hashes.of) (book_of f) (entries_of f) f.cache.cap c.requires.sheets.kept
+    found_level (by f.layout.version g.H.Hashes.of) (page_map_of f) (entries_of f) f.cache.cap c.requires.sheets.kept
     c.args.child.now c.recall.new.into
     (finds_it (entries_of f) c.args.child.now c.recall.result c.recall.new.into c.if-recall.true
     c.recall.ensures.finds)
 
-pub returns-then-recall-clause-some : goal.returns-then-recall-clause-some
-returns-then-recall-clause-some g c =
+pub returns-then-recall-clause-not_empty : goal.returns-then-recall-clause-not_empty
+returns-then-recall-clause-not_empty g c =
     let f = c.args.file.now in
-    found_some (by f.layout.version g.H.Hashes.of) (book_of f) (entries_of f) f.cache.cap c.requires.sheets.kept
+    found_some (by f.layout.version g.H.Hashes.of) (page_map_of f) (entries_of f) f.cache.cap c.requires.sheets.kept
     c.args.child.now c.recall.new.into
     (finds_it (entries_of f) c.args.child.now c.recall.result c.recall.new.into c.if-recall.true
     c.recall.ensures.finds)
@@ -45,7 +45,7 @@ returns-then-recall-clause-some g c =
 pub returns-then-recall-clause-shown : goal.returns-then-recall-clause-shown
 returns-then-recall-clause-shown g c =
     let f = c.args.file.now in
-    found_told (by f.layout.version g.H.Hashes.of) (book_of f) (entries_of f) f.cache.cap c.requires.sheets.kept
+    found_told (by f.layout.version g.H.Hashes.of) (page_map_of f) (entries_of f) f.cache.cap c.requires.sheets.kept
     c.args.child.now c.recall.new.into
     (finds_it (entries_of f) c.args.child.now c.recall.result c.recall.new.into c.if-recall.true
     c.recall.ensures.finds)
@@ -53,7 +53,7 @@ returns-then-recall-clause-shown g c =
 pub returns-then-recall-clause-node : goal.returns-then-recall-clause-node
 returns-then-recall-clause-node g c =
     let f = c.args.file.now in
-    found_node (by f.layout.version g.H.Hashes.of) (book_of f) (entries_of f) f.cache.cap c.requires.sheets.kept
+    found_node (by f.layout.version g.H.Hashes.of) (page_map_of f) (entries_of f) f.cache.cap c.requires.sheets.kept
     c.args.child.now c.recall.new.into
     (finds_it (entries_of f) c.args.child.now c.recall.result c.recall.new.into c.if-recall.true
     c.recall.ensures.finds)
@@ -66,8 +66,8 @@ returns-in_err-read_node-clause-sheets g c =
 
 pub returns-in_err-read_node-clause-same : goal.returns-in_err-read_node-clause-same
 returns-in_err-read_node-clause-same g c =
-    read_book c.recall.new.self c.read_node.new.file c.read_node.ensures.only
-    ∙ kept_book c.args.file.now c.recall.new.self c.recall.ensures.only
+    read_page_map c.recall.new.self c.read_node.new.file c.read_node.ensures.only
+    ∙ kept_page_map c.args.file.now c.recall.new.self c.recall.ensures.only
 
 pub returns-in_err-read_node-clause-kept : goal.returns-in_err-read_node-clause-kept
 returns-in_err-read_node-clause-kept g c =
@@ -85,15 +85,15 @@ returns-in_err-read_node-clause-given g c =
     c.recall.ensures.only.file (kept_files c.args.file.now c.recall.new.self c.recall.ensures.only)
     c.in_err-read_node.ensures.given)
 
-pub returns-in_err-read_node-clause-sound : goal.returns-in_err-read_node-clause-sound
-returns-in_err-read_node-clause-sound g c =
+pub returns-in_err-read_node-clause-blames_none_told : goal.returns-in_err-read_node-clause-blames_none_told
+returns-in_err-read_node-clause-blames_none_told g c =
     let p = err_from_is_err_and c.from_residual.result c.from_residual.ensures.1 in
     rw (p.1, p.2)
     (back c.args.file.now c.recall.new.self
     (λ l t n k. NeverMap c.in_err-read_node.field-0.0
-    (CanRead (by l.version g.H.Hashes.of) (book_on (form_of l) t n k) c.args.child.now))
+    (CanRead (by l.version g.H.Hashes.of) (page_map_on (form_of l) t n k) c.args.child.now))
     c.recall.ensures.only.file (kept_files c.args.file.now c.recall.new.self c.recall.ensures.only)
-    c.in_err-read_node.ensures.sound)
+    c.in_err-read_node.ensures.blames_none_told)
 
 pub returns-in_err-remember-clause-given : goal.returns-in_err-remember-clause-given
 returns-in_err-remember-clause-given g c =

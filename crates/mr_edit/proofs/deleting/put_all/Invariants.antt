@@ -9,13 +9,13 @@ use Rattle.mr_edit.proofs.deleting.put_all.Given as goal
 -- the first ones went in
 abbrev pub invariant-loop-one : goal.invariant-loop-one
 invariant-loop-one g l = record {
-  inserts : InsertsAll g.F.PageFile.scheme (g.F.PageFile.told l.initial.desk.file) l.initial.desk.free
-      l.initial.root (g.F.PageFile.told l.desk.file) l.desk.free l.root (take l.one-index l.records);
-  reads : g.F.PageFile.reads l.desk.file
-      ≤ g.F.PageFile.reads l.initial.desk.file + length (take l.one-index l.records) * insertion_reads;
+  inserts : InsertsAll g.F.PageFile.scheme (g.F.PageFile.told l.initial.pager.file) l.initial.pager.free
+      l.initial.root (g.F.PageFile.told l.pager.file) l.pager.free l.root (take l.one-index l.records);
+  reads : g.F.PageFile.reads l.pager.file
+      ≤ g.F.PageFile.reads l.initial.pager.file + length (take l.one-index l.records) * insertion_reads;
   low : IsLow l.initial.root → IsLow l.root;
   told : IfSome l.initial.root (IsTold g.F.PageFile.scheme.version) →
       IfSome l.root (IsTold g.F.PageFile.scheme.version);
-  kept : g.F.PageFile.kept l.initial.desk.file l.desk.file;
-  quiet : g.F.PageFile.faults l.desk.file ≡ g.F.PageFile.faults l.initial.desk.file;
+  kept : g.F.PageFile.kept l.initial.pager.file l.pager.file;
+  quiet : g.F.PageFile.faults l.pager.file ≡ g.F.PageFile.faults l.initial.pager.file;
 }

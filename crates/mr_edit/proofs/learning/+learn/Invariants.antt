@@ -8,10 +8,10 @@ decreases-learn g l = l.child.now.level
 -- nothing was changed
 abbrev pub invariant-loop-one : goal.invariant-loop-one
 invariant-loop-one g l = record {
-  same : g.F.PageFile.told l.desk.file ≡ g.F.PageFile.told l.initial.desk.file;
-  free : l.desk.free ≡ l.initial.desk.free;
-  kept : g.F.PageFile.kept l.initial.desk.file l.desk.file;
-  quiet : g.F.PageFile.faults l.desk.file ≡ g.F.PageFile.faults l.initial.desk.file;
-  seen : SeenOnce g.F.PageFile.scheme (g.F.PageFile.told l.initial.desk.file) l.one-items l.one-index
-      (g.F.PageFile.reads l.initial.desk.file) (g.F.PageFile.reads l.desk.file);
+  same : g.F.PageFile.told l.pager.file ≡ g.F.PageFile.told l.initial.pager.file;
+  free : l.pager.free ≡ l.initial.pager.free;
+  kept : g.F.PageFile.kept l.initial.pager.file l.pager.file;
+  quiet : g.F.PageFile.faults l.pager.file ≡ g.F.PageFile.faults l.initial.pager.file;
+  seen : SeenOnce g.F.PageFile.scheme (g.F.PageFile.told l.initial.pager.file) l.one-items l.one-index
+      (g.F.PageFile.reads l.initial.pager.file) (g.F.PageFile.reads l.pager.file);
 }

@@ -6,7 +6,7 @@ use Rattle.mr_tree.specs.declared.tree.Tree.TheOpen as node
 use Rattle.mr_pages.specs.Walking.{child_link}
 use Rattle.mr_grow.proofs.Cutting.{all_first, all_second}
 use Rattle.mr_edit.specs.Held.{IsTold, HaveFew}
-use Rattle.mr_edit.specs.Outcome.{Writes, CanPut}
+use Rattle.mr_edit.specs.Outcome.{WritesNode, CanPut}
 use Rattle.mr_edit.proofs.Sound.{never, can_take, can_write, both_write, still_write, handed}
 use Rattle.mr_edit.proofs.Levels.{first_below, second_below}
 use Rattle.mr_edit.proofs.Splitting.{inner_whole, inner_split}
@@ -70,86 +70,86 @@ pub returns-in_ok-second-clause-puts : goal.returns-in_ok-second-clause-puts
 returns-in_ok-second-clause-puts g c =
     let xs = c.args.children.items in
     let many : 64 < length xs = omega (arith, c.len.ensures, c.args.children.ok, c.if-len.true) in
-    inner_split g.F.PageFile.scheme (g.F.PageFile.told c.args.desk.now.file)
-    (g.F.PageFile.told c.take_page.new.desk.file) (g.F.PageFile.told c.write_inner.new.desk.file)
-    (g.F.PageFile.told c.write_inner-then-len.new.desk.file) c.args.desk.now.free c.take_page.new.desk.free
-    c.write_inner.new.desk.free c.write_inner-then-len.new.desk.free c.args.page c.in_ok-other.other
+    inner_split g.F.PageFile.scheme (g.F.PageFile.told c.args.pager.now.file)
+    (g.F.PageFile.told c.take_page.new.pager.file) (g.F.PageFile.told c.write_inner.new.pager.file)
+    (g.F.PageFile.told c.write_inner-then-len.new.pager.file) c.args.pager.now.free c.take_page.new.pager.free
+    c.write_inner.new.pager.free c.write_inner-then-len.new.pager.free c.args.page c.in_ok-other.other
     xs c.in_ok-front.front.items c.in_ok-front.back.items c.in_ok-first.first c.in_ok-second.second many
     c.in_ok-front.ensures c.in_ok-other.ensures.takes
-    (subst (λ us. Writes g.F.PageFile.scheme (g.F.PageFile.told c.take_page.new.desk.file)
-    c.take_page.new.desk.free
-    (g.F.PageFile.told c.write_inner.new.desk.file) c.write_inner.new.desk.free c.args.page
+    (subst (λ us. WritesNode g.F.PageFile.scheme (g.F.PageFile.told c.take_page.new.pager.file)
+    c.take_page.new.pager.free
+    (g.F.PageFile.told c.write_inner.new.pager.file) c.write_inner.new.pager.free c.args.page
     (node.Inner (map child_link us)) c.in_ok-first.first) c.deref.ensures.value c.in_ok-first.ensures.writes)
-    (subst (λ us. Writes g.F.PageFile.scheme (g.F.PageFile.told c.write_inner.new.desk.file)
-    c.write_inner.new.desk.free (g.F.PageFile.told c.write_inner-then-len.new.desk.file)
-    c.write_inner-then-len.new.desk.free c.in_ok-other.other (node.Inner (map child_link us)) c.in_ok-second.second)
+    (subst (λ us. WritesNode g.F.PageFile.scheme (g.F.PageFile.told c.write_inner.new.pager.file)
+    c.write_inner.new.pager.free (g.F.PageFile.told c.write_inner-then-len.new.pager.file)
+    c.write_inner-then-len.new.pager.free c.in_ok-other.other (node.Inner (map child_link us)) c.in_ok-second.second)
     c.deref-then-len.ensures.value c.in_ok-second.ensures.writes)
 
 pub returns-in_ok-first-2-clause-puts : goal.returns-in_ok-first-2-clause-puts
 returns-in_ok-first-2-clause-puts g c =
     let xs = c.args.children.items in
     let few : length xs ≤ 64 = omega (arith, c.len.ensures, c.args.children.ok, c.if-len.false) in
-    inner_whole g.F.PageFile.scheme (g.F.PageFile.told c.args.desk.now.file)
-    (g.F.PageFile.told c.write_inner-else-len.new.desk.file) c.args.desk.now.free
-    c.write_inner-else-len.new.desk.free c.args.page xs c.in_ok-first-2.first few
-    (subst (λ us. Writes g.F.PageFile.scheme (g.F.PageFile.told c.args.desk.now.file) c.args.desk.now.free
-    (g.F.PageFile.told c.write_inner-else-len.new.desk.file) c.write_inner-else-len.new.desk.free c.args.page
+    inner_whole g.F.PageFile.scheme (g.F.PageFile.told c.args.pager.now.file)
+    (g.F.PageFile.told c.write_inner-else-len.new.pager.file) c.args.pager.now.free
+    c.write_inner-else-len.new.pager.free c.args.page xs c.in_ok-first-2.first few
+    (subst (λ us. WritesNode g.F.PageFile.scheme (g.F.PageFile.told c.args.pager.now.file) c.args.pager.now.free
+    (g.F.PageFile.told c.write_inner-else-len.new.pager.file) c.write_inner-else-len.new.pager.free c.args.page
     (node.Inner (map child_link us)) c.in_ok-first-2.first) c.deref-else-len.ensures.value
     c.in_ok-first-2.ensures.writes)
 
-pub returns-in_err-other-clause-sound : goal.returns-in_err-other-clause-sound
-returns-in_err-other-clause-sound g c =
+pub returns-in_err-other-clause-blames_none_told : goal.returns-in_err-other-clause-blames_none_told
+returns-in_err-other-clause-blames_none_told g c =
     handed c.from_residual-in_err-other.result c.in_err-other.field-0.0
-    (CanPut (g.F.PageFile.told c.args.desk.now.file) c.args.desk.now.free c.args.page
+    (CanPut (g.F.PageFile.told c.args.pager.now.file) c.args.pager.now.free c.args.page
     × HaveFew c.args.children.items)
     c.from_residual-in_err-other.ensures.1
-    (never c.in_err-other.field-0.0 _ _ (λ k. can_take (g.F.PageFile.told c.args.desk.now.file) c.args.desk.now.free
-    c.args.page k.0) c.in_err-other.ensures.sound)
+    (never c.in_err-other.field-0.0 _ _ (λ k. can_take (g.F.PageFile.told c.args.pager.now.file) c.args.pager.now.free
+    c.args.page k.0) c.in_err-other.ensures.blames_none_told)
 
-pub returns-in_err-first-clause-sound : goal.returns-in_err-first-clause-sound
-returns-in_err-first-clause-sound g c =
+pub returns-in_err-first-clause-blames_none_told : goal.returns-in_err-first-clause-blames_none_told
+returns-in_err-first-clause-blames_none_told g c =
     handed c.from_residual-in_err-first.result c.in_err-first.field-0.0
-    (CanPut (g.F.PageFile.told c.args.desk.now.file) c.args.desk.now.free c.args.page
+    (CanPut (g.F.PageFile.told c.args.pager.now.file) c.args.pager.now.free c.args.page
     × HaveFew c.args.children.items)
     c.from_residual-in_err-first.ensures.1
     (never c.in_err-first.field-0.0 _ _
     (λ k. (
-      (both_write (g.F.PageFile.told c.args.desk.now.file) (g.F.PageFile.told c.take_page.new.desk.file)
-          c.args.desk.now.free c.take_page.new.desk.free c.args.page c.in_ok-other.other
+      (both_write (g.F.PageFile.told c.args.pager.now.file) (g.F.PageFile.told c.take_page.new.pager.file)
+          c.args.pager.now.free c.take_page.new.pager.free c.args.page c.in_ok-other.other
           c.in_ok-other.ensures.takes k.0).0,
       first_few _ c.args.children.items c.deref.result.now
           (c.deref.ensures.value ∙ c.in_ok-front.ensures.first_is) k.1,
     ))
-    c.in_err-first.ensures.sound)
+    c.in_err-first.ensures.blames_none_told)
 
-pub returns-in_err-second-clause-sound : goal.returns-in_err-second-clause-sound
-returns-in_err-second-clause-sound g c =
+pub returns-in_err-second-clause-blames_none_told : goal.returns-in_err-second-clause-blames_none_told
+returns-in_err-second-clause-blames_none_told g c =
     handed c.from_residual-in_err-second.result c.in_err-second.field-0.0
-    (CanPut (g.F.PageFile.told c.args.desk.now.file) c.args.desk.now.free c.args.page
+    (CanPut (g.F.PageFile.told c.args.pager.now.file) c.args.pager.now.free c.args.page
     × HaveFew c.args.children.items)
     c.from_residual-in_err-second.ensures.1
     (never c.in_err-second.field-0.0 _ _
     (λ k. (
-      still_write (g.F.PageFile.told c.take_page.new.desk.file) (g.F.PageFile.told c.write_inner.new.desk.file)
+      still_write (g.F.PageFile.told c.take_page.new.pager.file) (g.F.PageFile.told c.write_inner.new.pager.file)
           c.args.page
           c.in_ok-other.other _ c.in_ok-first.ensures.writes.put
-          (both_write (g.F.PageFile.told c.args.desk.now.file) (g.F.PageFile.told c.take_page.new.desk.file)
-          c.args.desk.now.free c.take_page.new.desk.free c.args.page c.in_ok-other.other
+          (both_write (g.F.PageFile.told c.args.pager.now.file) (g.F.PageFile.told c.take_page.new.pager.file)
+          c.args.pager.now.free c.take_page.new.pager.free c.args.page c.in_ok-other.other
           c.in_ok-other.ensures.takes k.0).1,
       second_few _ c.args.children.items c.deref-then-len.result.now
           (c.deref-then-len.ensures.value ∙ c.in_ok-front.ensures.second_is) k.1,
     ))
-    c.in_err-second.ensures.sound)
+    c.in_err-second.ensures.blames_none_told)
 
-pub returns-in_err-first-2-clause-sound : goal.returns-in_err-first-2-clause-sound
-returns-in_err-first-2-clause-sound g c =
+pub returns-in_err-first-2-clause-blames_none_told : goal.returns-in_err-first-2-clause-blames_none_told
+returns-in_err-first-2-clause-blames_none_told g c =
     handed c.from_residual-in_err-first-2.result c.in_err-first-2.field-0.0
-    (CanPut (g.F.PageFile.told c.args.desk.now.file) c.args.desk.now.free c.args.page
+    (CanPut (g.F.PageFile.told c.args.pager.now.file) c.args.pager.now.free c.args.page
     × HaveFew c.args.children.items)
     c.from_residual-in_err-first-2.ensures.1
     (never c.in_err-first-2.field-0.0 _ _ (λ k. (
-      can_write (g.F.PageFile.told c.args.desk.now.file)
-          c.args.desk.now.free c.args.page k.0,
+      can_write (g.F.PageFile.told c.args.pager.now.file)
+          c.args.pager.now.free c.args.page k.0,
       subst HaveFew (sym c.deref-else-len.ensures.value) k.1,
     ))
-    c.in_err-first-2.ensures.sound)
+    c.in_err-first-2.ensures.blames_none_told)

@@ -4,7 +4,7 @@ use Rattle.std.proofs.lemmas.List.Elements.{recursion_from_All, All-from_recursi
 use Rattle.mr_record.specs.Record.{HasLayer}
 use Rattle.mr_tree.specs.declared.tree.Tree.TheOpen as node
 use Rattle.mr_grow.proofs.Cutting.{all_first, all_second}
-use Rattle.mr_edit.specs.Outcome.{Writes, CanPut}
+use Rattle.mr_edit.specs.Outcome.{WritesNode, CanPut}
 use Rattle.mr_edit.proofs.Sound.{never, can_take, can_write, both_write, still_write, handed}
 use Rattle.mr_edit.proofs.Splitting.{leaf_whole, leaf_split}
 use Rattle.mr_edit.proofs.putting.put_leaf.Goals as goal
@@ -55,68 +55,68 @@ pub returns-in_ok-second-clause-puts : goal.returns-in_ok-second-clause-puts
 returns-in_ok-second-clause-puts g c =
     let xs = c.args.records.items in
     let many : 16 < length xs = omega (arith, c.len.ensures, c.args.records.ok, c.if-len.true) in
-    leaf_split g.F.PageFile.scheme (g.F.PageFile.told c.args.desk.now.file)
-    (g.F.PageFile.told c.take_page.new.desk.file) (g.F.PageFile.told c.write_leaf.new.desk.file)
-    (g.F.PageFile.told c.write_leaf-then-len.new.desk.file) c.args.desk.now.free c.take_page.new.desk.free
-    c.write_leaf.new.desk.free c.write_leaf-then-len.new.desk.free c.args.page c.in_ok-other.other
+    leaf_split g.F.PageFile.scheme (g.F.PageFile.told c.args.pager.now.file)
+    (g.F.PageFile.told c.take_page.new.pager.file) (g.F.PageFile.told c.write_leaf.new.pager.file)
+    (g.F.PageFile.told c.write_leaf-then-len.new.pager.file) c.args.pager.now.free c.take_page.new.pager.free
+    c.write_leaf.new.pager.free c.write_leaf-then-len.new.pager.free c.args.page c.in_ok-other.other
     xs c.in_ok-front.front.items c.in_ok-front.back.items c.in_ok-first.first c.in_ok-second.second many
     c.in_ok-front.ensures c.in_ok-other.ensures.takes
-    (subst (λ us. Writes g.F.PageFile.scheme (g.F.PageFile.told c.take_page.new.desk.file)
-    c.take_page.new.desk.free
-    (g.F.PageFile.told c.write_leaf.new.desk.file) c.write_leaf.new.desk.free c.args.page (node.Leaf us)
+    (subst (λ us. WritesNode g.F.PageFile.scheme (g.F.PageFile.told c.take_page.new.pager.file)
+    c.take_page.new.pager.free
+    (g.F.PageFile.told c.write_leaf.new.pager.file) c.write_leaf.new.pager.free c.args.page (node.Leaf us)
     c.in_ok-first.first) c.deref.ensures.value c.in_ok-first.ensures.writes)
-    (subst (λ us. Writes g.F.PageFile.scheme (g.F.PageFile.told c.write_leaf.new.desk.file)
-    c.write_leaf.new.desk.free (g.F.PageFile.told c.write_leaf-then-len.new.desk.file)
-    c.write_leaf-then-len.new.desk.free c.in_ok-other.other (node.Leaf us) c.in_ok-second.second)
+    (subst (λ us. WritesNode g.F.PageFile.scheme (g.F.PageFile.told c.write_leaf.new.pager.file)
+    c.write_leaf.new.pager.free (g.F.PageFile.told c.write_leaf-then-len.new.pager.file)
+    c.write_leaf-then-len.new.pager.free c.in_ok-other.other (node.Leaf us) c.in_ok-second.second)
     c.deref-then-len.ensures.value c.in_ok-second.ensures.writes)
 
 pub returns-in_ok-first-2-clause-puts : goal.returns-in_ok-first-2-clause-puts
 returns-in_ok-first-2-clause-puts g c =
     let xs = c.args.records.items in
     let few : length xs ≤ 16 = omega (arith, c.len.ensures, c.args.records.ok, c.if-len.false) in
-    leaf_whole g.F.PageFile.scheme (g.F.PageFile.told c.args.desk.now.file)
-    (g.F.PageFile.told c.write_leaf-else-len.new.desk.file) c.args.desk.now.free c.write_leaf-else-len.new.desk.free
+    leaf_whole g.F.PageFile.scheme (g.F.PageFile.told c.args.pager.now.file)
+    (g.F.PageFile.told c.write_leaf-else-len.new.pager.file) c.args.pager.now.free c.write_leaf-else-len.new.pager.free
     c.args.page xs c.in_ok-first-2.first few
-    (subst (λ us. Writes g.F.PageFile.scheme (g.F.PageFile.told c.args.desk.now.file) c.args.desk.now.free
-    (g.F.PageFile.told c.write_leaf-else-len.new.desk.file) c.write_leaf-else-len.new.desk.free c.args.page
+    (subst (λ us. WritesNode g.F.PageFile.scheme (g.F.PageFile.told c.args.pager.now.file) c.args.pager.now.free
+    (g.F.PageFile.told c.write_leaf-else-len.new.pager.file) c.write_leaf-else-len.new.pager.free c.args.page
     (node.Leaf us) c.in_ok-first-2.first) c.deref-else-len.ensures.value c.in_ok-first-2.ensures.writes)
 
-pub returns-in_err-other-clause-sound : goal.returns-in_err-other-clause-sound
-returns-in_err-other-clause-sound g c =
+pub returns-in_err-other-clause-blames_none_told : goal.returns-in_err-other-clause-blames_none_told
+returns-in_err-other-clause-blames_none_told g c =
     handed c.from_residual-in_err-other.result c.in_err-other.field-0.0
-    (CanPut (g.F.PageFile.told c.args.desk.now.file) c.args.desk.now.free c.args.page)
+    (CanPut (g.F.PageFile.told c.args.pager.now.file) c.args.pager.now.free c.args.page)
     c.from_residual-in_err-other.ensures.1
-    (never c.in_err-other.field-0.0 _ _ (can_take (g.F.PageFile.told c.args.desk.now.file) c.args.desk.now.free
-    c.args.page) c.in_err-other.ensures.sound)
+    (never c.in_err-other.field-0.0 _ _ (can_take (g.F.PageFile.told c.args.pager.now.file) c.args.pager.now.free
+    c.args.page) c.in_err-other.ensures.blames_none_told)
 
-pub returns-in_err-first-clause-sound : goal.returns-in_err-first-clause-sound
-returns-in_err-first-clause-sound g c =
+pub returns-in_err-first-clause-blames_none_told : goal.returns-in_err-first-clause-blames_none_told
+returns-in_err-first-clause-blames_none_told g c =
     handed c.from_residual-in_err-first.result c.in_err-first.field-0.0
-    (CanPut (g.F.PageFile.told c.args.desk.now.file) c.args.desk.now.free c.args.page)
+    (CanPut (g.F.PageFile.told c.args.pager.now.file) c.args.pager.now.free c.args.page)
     c.from_residual-in_err-first.ensures.1
     (never c.in_err-first.field-0.0 _ _
-    (λ k. (both_write (g.F.PageFile.told c.args.desk.now.file) (g.F.PageFile.told c.take_page.new.desk.file)
-    c.args.desk.now.free c.take_page.new.desk.free c.args.page c.in_ok-other.other c.in_ok-other.ensures.takes k).0)
-    c.in_err-first.ensures.sound)
+    (λ k. (both_write (g.F.PageFile.told c.args.pager.now.file) (g.F.PageFile.told c.take_page.new.pager.file)
+    c.args.pager.now.free c.take_page.new.pager.free c.args.page c.in_ok-other.other c.in_ok-other.ensures.takes k).0)
+    c.in_err-first.ensures.blames_none_told)
 
-pub returns-in_err-second-clause-sound : goal.returns-in_err-second-clause-sound
-returns-in_err-second-clause-sound g c =
+pub returns-in_err-second-clause-blames_none_told : goal.returns-in_err-second-clause-blames_none_told
+returns-in_err-second-clause-blames_none_told g c =
     handed c.from_residual-in_err-second.result c.in_err-second.field-0.0
-    (CanPut (g.F.PageFile.told c.args.desk.now.file) c.args.desk.now.free c.args.page)
+    (CanPut (g.F.PageFile.told c.args.pager.now.file) c.args.pager.now.free c.args.page)
     c.from_residual-in_err-second.ensures.1
     (never c.in_err-second.field-0.0 _ _
-    (λ k. still_write (g.F.PageFile.told c.take_page.new.desk.file) (g.F.PageFile.told c.write_leaf.new.desk.file)
+    (λ k. still_write (g.F.PageFile.told c.take_page.new.pager.file) (g.F.PageFile.told c.write_leaf.new.pager.file)
     c.args.page
     c.in_ok-other.other _ c.in_ok-first.ensures.writes.put
-    (both_write (g.F.PageFile.told c.args.desk.now.file) (g.F.PageFile.told c.take_page.new.desk.file)
-    c.args.desk.now.free c.take_page.new.desk.free c.args.page c.in_ok-other.other c.in_ok-other.ensures.takes k).1)
-    c.in_err-second.ensures.sound)
+    (both_write (g.F.PageFile.told c.args.pager.now.file) (g.F.PageFile.told c.take_page.new.pager.file)
+    c.args.pager.now.free c.take_page.new.pager.free c.args.page c.in_ok-other.other c.in_ok-other.ensures.takes k).1)
+    c.in_err-second.ensures.blames_none_told)
 
-pub returns-in_err-first-2-clause-sound : goal.returns-in_err-first-2-clause-sound
-returns-in_err-first-2-clause-sound g c =
+pub returns-in_err-first-2-clause-blames_none_told : goal.returns-in_err-first-2-clause-blames_none_told
+returns-in_err-first-2-clause-blames_none_told g c =
     handed c.from_residual-in_err-first-2.result c.in_err-first-2.field-0.0
-    (CanPut (g.F.PageFile.told c.args.desk.now.file) c.args.desk.now.free c.args.page)
+    (CanPut (g.F.PageFile.told c.args.pager.now.file) c.args.pager.now.free c.args.page)
     c.from_residual-in_err-first-2.ensures.1
-    (never c.in_err-first-2.field-0.0 _ _ (can_write (g.F.PageFile.told c.args.desk.now.file) c.args.desk.now.free
+    (never c.in_err-first-2.field-0.0 _ _ (can_write (g.F.PageFile.told c.args.pager.now.file) c.args.pager.now.free
     c.args.page)
-    c.in_err-first-2.ensures.sound)
+    c.in_err-first-2.ensures.blames_none_told)

@@ -8,70 +8,70 @@ use Rattle.mr_edit.proofs.replaying.replay.Goals as goal
 
 pub loop-i-init : goal.loop-i-init
 loop-i-init g c = record {
-  replays = replays_none g.F.PageFile.scheme (g.F.PageFile.told c.args.desk.now.file) c.args.desk.now.free
+  replays = replays_none g.F.PageFile.scheme (g.F.PageFile.told c.args.pager.now.file) c.args.pager.now.free
       c.args.root c.args.dir.now c.args.batch.now;
-  part = part_none g.F.PageFile.scheme (g.F.PageFile.told c.args.desk.now.file) c.args.desk.now.free
-      c.args.root c.args.dir.now c.args.batch.now (g.F.PageFile.reads c.args.desk.now.file);
+  part = part_none g.F.PageFile.scheme (g.F.PageFile.told c.args.pager.now.file) c.args.pager.now.free
+      c.args.root c.args.dir.now c.args.batch.now (g.F.PageFile.reads c.args.pager.now.file);
   low = λ is. is;
   told = λ is. is;
-  kept = g.met.F.PageFile.kept_self c.args.desk.now.file;
+  kept = g.met.F.PageFile.kept_self c.args.pager.now.file;
   quiet = refl;
 }
 
 pub loop-i-preserved : goal.loop-i-preserved
 loop-i-preserved g c = record {
-  replays = replays_more g.F.PageFile.scheme (g.F.PageFile.told c.args.desk.now.file)
-      (g.F.PageFile.told c.loop-i.desk.file) (g.F.PageFile.told c.make_change.new.desk.file) c.args.desk.now.free
-      c.loop-i.desk.free c.make_change.new.desk.free c.args.root c.loop-i.root c.in_ok-root.root c.args.dir.now
+  replays = replays_more g.F.PageFile.scheme (g.F.PageFile.told c.args.pager.now.file)
+      (g.F.PageFile.told c.loop-i.pager.file) (g.F.PageFile.told c.make_change.new.pager.file) c.args.pager.now.free
+      c.loop-i.pager.free c.make_change.new.pager.free c.args.root c.loop-i.root c.in_ok-root.root c.args.dir.now
       c.loop-i.dir c.make_change.new.dir c.args.batch.now c.loop-i.i c.change.result.now (omega arith)
       c.change.ensures c.loop-i.invariant.replays c.in_ok-root.ensures.changes;
-  part = part_more g.F.PageFile.scheme (g.F.PageFile.told c.args.desk.now.file)
-      (g.F.PageFile.told c.loop-i.desk.file) (g.F.PageFile.told c.make_change.new.desk.file) c.args.desk.now.free
-      c.loop-i.desk.free c.make_change.new.desk.free c.args.root c.loop-i.root c.in_ok-root.root c.args.dir.now
+  part = part_more g.F.PageFile.scheme (g.F.PageFile.told c.args.pager.now.file)
+      (g.F.PageFile.told c.loop-i.pager.file) (g.F.PageFile.told c.make_change.new.pager.file) c.args.pager.now.free
+      c.loop-i.pager.free c.make_change.new.pager.free c.args.root c.loop-i.root c.in_ok-root.root c.args.dir.now
       c.loop-i.dir c.make_change.new.dir c.args.batch.now c.loop-i.i c.change.result.now
-      c.loop-i.learned c.make_change.new.learned (g.F.PageFile.reads c.args.desk.now.file)
-      (g.F.PageFile.reads c.loop-i.desk.file)
-      (g.F.PageFile.reads c.make_change.new.desk.file) (omega arith) c.change.ensures c.loop-i.invariant.part
+      c.loop-i.learned c.make_change.new.learned (g.F.PageFile.reads c.args.pager.now.file)
+      (g.F.PageFile.reads c.loop-i.pager.file)
+      (g.F.PageFile.reads c.make_change.new.pager.file) (omega arith) c.change.ensures c.loop-i.invariant.part
       c.in_ok-root.ensures.changes c.make_change.ensures.within;
   low = λ is. c.in_ok-root.ensures.low;
   told = λ is. c.in_ok-root.ensures.told;
-  kept = g.met.F.PageFile.kept_on c.args.desk.now.file c.loop-i.desk.file c.make_change.new.desk.file
+  kept = g.met.F.PageFile.kept_on c.args.pager.now.file c.loop-i.pager.file c.make_change.new.pager.file
       c.loop-i.invariant.kept c.make_change.ensures.kept;
   quiet = c.in_ok-root.ensures.quiet ∙ c.loop-i.invariant.quiet;
 }
 
-pub returns-in_err-root-clause-sound : goal.returns-in_err-root-clause-sound
-returns-in_err-root-clause-sound g c =
+pub returns-in_err-root-clause-blames_none_told : goal.returns-in_err-root-clause-blames_none_told
+returns-in_err-root-clause-blames_none_told g c =
     let scheme = g.F.PageFile.scheme in
-    let told = g.F.PageFile.told c.args.desk.now.file in
+    let told = g.F.PageFile.told c.args.pager.now.file in
     handed c.from_residual.result c.in_err-root.field-0.0
-    (CanReplay scheme told c.args.desk.now.free c.args.root c.args.dir.now c.args.batch.now)
+    (CanReplay scheme told c.args.pager.now.free c.args.root c.args.dir.now c.args.batch.now)
     c.from_residual.ensures.1
     (never c.in_err-root.field-0.0 _ _
-    (next_change scheme told (g.F.PageFile.told c.loop-i.desk.file) c.args.desk.now.free c.loop-i.desk.free
+    (next_change scheme told (g.F.PageFile.told c.loop-i.pager.file) c.args.pager.now.free c.loop-i.pager.free
     c.args.root c.loop-i.root c.args.dir.now c.loop-i.dir c.args.batch.now c.loop-i.i c.change.result.now
-    (omega arith) c.change.ensures c.loop-i.invariant.replays) c.in_err-root.ensures.sound)
+    (omega arith) c.change.ensures c.loop-i.invariant.replays) c.in_err-root.ensures.blames_none_told)
 
 pub returns-clause-replays : goal.returns-clause-replays
 returns-clause-replays g c =
-    replays_all g.F.PageFile.scheme (g.F.PageFile.told c.args.desk.now.file) (g.F.PageFile.told
-    c.loop-i.desk.file)
-    c.args.desk.now.free c.loop-i.desk.free c.args.root c.loop-i.root c.args.dir.now c.loop-i.dir c.args.batch.now
+    replays_all g.F.PageFile.scheme (g.F.PageFile.told c.args.pager.now.file) (g.F.PageFile.told
+    c.loop-i.pager.file)
+    c.args.pager.now.free c.loop-i.pager.free c.args.root c.loop-i.root c.args.dir.now c.loop-i.dir c.args.batch.now
     c.loop-i.i (omega arith) c.loop-i.invariant.replays
 
 pub returns-in_err-root-clause-within : goal.returns-in_err-root-clause-within
 returns-in_err-root-clause-within g c =
-    part_stopped g.F.PageFile.scheme (g.F.PageFile.told c.args.desk.now.file)
-    (g.F.PageFile.told c.loop-i.desk.file) c.args.desk.now.free c.loop-i.desk.free c.args.root c.loop-i.root
+    part_stopped g.F.PageFile.scheme (g.F.PageFile.told c.args.pager.now.file)
+    (g.F.PageFile.told c.loop-i.pager.file) c.args.pager.now.free c.loop-i.pager.free c.args.root c.loop-i.root
     c.args.dir.now c.loop-i.dir c.args.batch.now c.loop-i.i c.change.result.now
-    c.loop-i.learned c.make_change.new.learned (g.F.PageFile.reads c.args.desk.now.file)
-    (g.F.PageFile.reads c.loop-i.desk.file)
-    (g.F.PageFile.reads c.make_change.new.desk.file) (omega arith) c.change.ensures c.loop-i.invariant.part
+    c.loop-i.learned c.make_change.new.learned (g.F.PageFile.reads c.args.pager.now.file)
+    (g.F.PageFile.reads c.loop-i.pager.file)
+    (g.F.PageFile.reads c.make_change.new.pager.file) (omega arith) c.change.ensures c.loop-i.invariant.part
     c.make_change.ensures.within
 
 pub returns-clause-within : goal.returns-clause-within
 returns-clause-within g c =
-    part_all g.F.PageFile.scheme (g.F.PageFile.told c.args.desk.now.file)
-    (g.F.PageFile.told c.loop-i.desk.file) c.args.desk.now.free c.loop-i.desk.free c.args.root c.loop-i.root
-    c.args.dir.now c.loop-i.dir c.args.batch.now c.loop-i.i c.loop-i.learned (g.F.PageFile.reads c.args.desk.now.file)
-    (g.F.PageFile.reads c.loop-i.desk.file) c.loop-i.invariant.part
+    part_all g.F.PageFile.scheme (g.F.PageFile.told c.args.pager.now.file)
+    (g.F.PageFile.told c.loop-i.pager.file) c.args.pager.now.free c.loop-i.pager.free c.args.root c.loop-i.root
+    c.args.dir.now c.loop-i.dir c.args.batch.now c.loop-i.i c.loop-i.learned (g.F.PageFile.reads c.args.pager.now.file)
+    (g.F.PageFile.reads c.loop-i.pager.file) c.loop-i.invariant.part

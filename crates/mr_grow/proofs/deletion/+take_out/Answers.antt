@@ -3,7 +3,7 @@ use Rattle.std.proofs.lemmas.Result.{IfOk-weaker}
 use Rattle.mr_tree.specs.Tree.{nodes, records}
 use Rattle.mr_tree.specs.declared.tree.Tree.{Tree}
 use Rattle.mr_grow.specs.Found.{has, is_numbered, place_of}
-use Rattle.mr_grow.specs.Kept.{seen}
+use Rattle.mr_grow.specs.private.Kept.{removal_value}
 use Rattle.mr_grow.proofs.Shrunk.{leaf_place, leaf_left, child_place, child_has, kept_by_code}
 use Rattle.mr_grow.proofs.deletion.+take_out.Goals as goal
 
@@ -58,7 +58,7 @@ returns-in_ok-left-in-Inner t c =
     c.deref-in-Inner.ensures.value in
     IfOk-weaker c.settle.result _ _
     (λ l h. h ∙ kept_by_code c.args.number c.in-Inner.children c.into_vec-children.result.items _
-    c.child_with-at.result c.remove-child.result c.args.tree (seen c.in_ok-left-in-Inner.left)
+    c.child_with-at.result c.remove-child.result c.args.tree (removal_value c.in_ok-left-in-Inner.left)
     c.in-Inner.is c.into_vec-children.ensures at (omega (arith, place, at)) c.remove-child.ensures.value
     c.remove-child.ensures.items c.in_ok-left-in-Inner.ensures)
     c.settle.ensures

@@ -43,7 +43,7 @@ inner_nodes-requires t c =
     omega (
       arith,
       room,
-      c.in_ok-put_back-in-Inner.ensures.few,
+      c.in_ok-put_back-in-Inner.ensures.length_at_most,
       ap length c.remove-child.ensures.items,
       length_removed c.in_ok-at-in-Inner.at c.into_vec-children.result.items within,
     )

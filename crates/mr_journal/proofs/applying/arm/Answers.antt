@@ -1,7 +1,7 @@
 use Rattle.std.proofs.Common.{inl, rules}
 use Rattle.mr_journal.specs.Format.{carried}
 use Rattle.mr_journal.specs.States.{IsShutAt, IsArmedFor, IsSettledAt, EitherOf}
-use Rattle.mr_journal.specs.Progress.{IsClearedAt, IsFilledBy, IsArmedBy}
+use Rattle.mr_journal.specs.private.Progress.{IsClearedAt, IsFilledBy, IsArmedBy}
 use Rattle.mr_journal.proofs.Running.{leads_then, leads_refused}
 use Rattle.std.proofs.lemmas.Result.{on_ok_weaker}
 use Rattle.mr_journal.proofs.Leaving.{opened_after}

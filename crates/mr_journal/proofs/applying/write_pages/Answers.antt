@@ -1,11 +1,11 @@
 use Rattle.std.proofs.Common.{inl, inr, ⊎_elim, ap, ◌∙◌, rules}
 use Rattle.mr_journal.specs.Format.{carried}
 use Rattle.mr_journal.specs.States.{IsShutAt, IsArmedFor, IsSettledAt, EitherOf}
-use Rattle.mr_journal.specs.Progress.{IsArmedBy}
+use Rattle.mr_journal.specs.private.Progress.{IsArmedBy}
 use Rattle.mr_journal.proofs.Running.{leads_then, leads_refused}
 use Rattle.std.specs.Prelude.{option_map}
 use Rattle.std.proofs.lemmas.Result.{on_ok_weaker}
-use Rattle.mr_journal.specs.Progress.{closed_by}
+use Rattle.mr_journal.specs.private.Progress.{closed_by}
 use Rattle.mr_journal.proofs.Leaving.{some_body, ready_opened, changed_as}
 use Rattle.mr_journal.proofs.applying.write_pages.Goals as goal
 

@@ -3,8 +3,8 @@ use Rattle.mr_journal.specs.declared.disk.Area.TheVariants.{Map}
 use Rattle.mr_journal.specs.Images.{InArea}
 use Rattle.mr_journal.specs.Torn.{Torn}
 use Rattle.mr_journal.specs.Format.{entries}
-use Rattle.mr_journal.specs.Parsed.{places}
-use Rattle.mr_journal.specs.Progress.{IsArmedBy, IsCarriedBy}
+use Rattle.mr_journal.specs.private.Parsed.{places}
+use Rattle.mr_journal.specs.private.Progress.{IsArmedBy, IsCarriedBy}
 use Rattle.mr_journal.proofs.Running.{leads_err}
 use Rattle.mr_journal.proofs.Gating.{armed_torn, carry_leads}
 use Rattle.mr_journal.proofs.carrying.carry_out.Goals as goal

@@ -1,6 +1,6 @@
 use Rattle.std.proofs.Common.{inr, rules}
 use Rattle.mr_journal.specs.States.{IsShutAt, IsArmedFor, IsSettledAt, EitherOf}
-use Rattle.mr_journal.specs.Progress.{IsArmedBy, IsCarriedBy}
+use Rattle.mr_journal.specs.private.Progress.{IsArmedBy, IsCarriedBy}
 use Rattle.mr_journal.proofs.Running.{leads_then, leads_refused}
 use Rattle.mr_journal.proofs.Gating.{armed_for}
 use Rattle.mr_journal.proofs.carrying.finish.Goals as goal

@@ -1,5 +1,5 @@
 use Rattle.std.proofs.Common.{vec_len, ◌-◌}
-use Rattle.mr_journal.specs.Traced.{trace_of}
+use Rattle.mr_journal.specs.private.Traced.{trace_of}
 use Rattle.mr_journal.proofs.Picking.{GarblesSo}
 use Rattle.mr_journal.proofs.crash.garbled.Given as goal
 

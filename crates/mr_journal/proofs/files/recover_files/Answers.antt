@@ -1,7 +1,7 @@
 use Rattle.std.proofs.Common.{sym, ap, subst}
 use Rattle.std.specs.String.{string_bytes}
 use Rattle.mr_outside.specs.State.{Shelved}
-use Rattle.mr_journal.specs.Recovered.{Recovers}
+use Rattle.mr_journal.specs.Recovered.{RecoversMap}
 use Rattle.mr_journal.proofs.OnFiles.{recovers_as}
 use Rattle.mr_journal.proofs.Shelving.{beside_same}
 use Rattle.mr_journal.proofs.files.recover_files.Goals as goal
@@ -16,9 +16,9 @@ returns-in-Ok-clause-recovers g c =
     let after = c.recover-answer.new.disk in
     let e = c.recover-answer.ensures in
     let u = g.S.Shelf.state after.shelf in
-    subst (λ (x : Shelved). Recovers c.args.map.now c.args.journal.now x.files (g.S.Shelf.state c.close.result).files
+    subst (λ (x : Shelved). RecoversMap c.args.map.now c.args.journal.now x.files (g.S.Shelf.state c.close.result).files
     c.recover-answer.result) (ap g.S.Shelf.state c.in-Ok.ensures.shelf)
-    (subst (λ (x : Shelved). Recovers c.args.map.now c.args.journal.now (g.S.Shelf.state disk.shelf).files x.files
+    (subst (λ (x : Shelved). RecoversMap c.args.map.now c.args.journal.now (g.S.Shelf.state disk.shelf).files x.files
     c.recover-answer.result) (sym (ap g.S.Shelf.state c.close.ensures))
     (recovers_as c.args.map.now c.args.journal.now (string_bytes disk.map) (string_bytes after.map)
     (string_bytes disk.journal) (string_bytes after.journal) (g.S.Shelf.state disk.shelf) u

@@ -1,6 +1,6 @@
 use Rattle.std.proofs.Common.{[], ◌∷◌}
 use Rattle.mr_journal.specs.States.{IsShutAt}
-use Rattle.mr_journal.specs.Progress.{IsInvalidAt, IsClearedAt}
+use Rattle.mr_journal.specs.private.Progress.{IsInvalidAt, IsClearedAt}
 use Rattle.mr_journal.proofs.Gating.{leads_put, cleared_torn, cleared_left}
 use Rattle.mr_journal.proofs.gate.clear_gate.Goals as goal
 

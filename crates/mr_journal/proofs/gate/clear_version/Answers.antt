@@ -1,6 +1,6 @@
 use Rattle.std.proofs.Common.{[], ◌∷◌}
 use Rattle.mr_journal.specs.States.{IsShutAt}
-use Rattle.mr_journal.specs.Progress.{IsInvalidAt}
+use Rattle.mr_journal.specs.private.Progress.{IsInvalidAt}
 use Rattle.mr_journal.proofs.Gating.{leads_put, invalid_torn, invalid_left, HasShutGate}
 use Rattle.mr_journal.proofs.gate.clear_version.Goals as goal
 

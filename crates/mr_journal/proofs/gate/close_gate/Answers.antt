@@ -1,6 +1,6 @@
 use Rattle.std.proofs.Common.{[], ◌∷◌}
 use Rattle.mr_journal.specs.States.{IsShutAt, IsArmedFor, IsSettledAt, EitherOf}
-use Rattle.mr_journal.specs.Progress.{IsCarriedBy}
+use Rattle.mr_journal.specs.private.Progress.{IsCarriedBy}
 use Rattle.mr_journal.proofs.Gating.{leads_put, closed_torn, closed_left}
 use Rattle.mr_journal.proofs.gate.close_gate.Goals as goal
 

@@ -1,6 +1,6 @@
 use Rattle.std.proofs.Common.{length}
 use Rattle.mr_journal.specs.States.{IsShutAt}
-use Rattle.mr_journal.specs.Progress.{IsClearedAt, IsFilledBy}
+use Rattle.mr_journal.specs.private.Progress.{IsClearedAt, IsFilledBy}
 use Rattle.mr_journal.proofs.Gating.{leads_put, filled_torn, filled_left}
 use Rattle.mr_journal.proofs.gate.fill.Goals as goal
 

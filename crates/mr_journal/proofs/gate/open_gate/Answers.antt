@@ -1,7 +1,7 @@
 use Rattle.std.proofs.Common.{[], ◌∷◌}
 use Rattle.mr_journal.specs.Format.{carried}
 use Rattle.mr_journal.specs.States.{IsShutAt, IsArmedFor, EitherOf}
-use Rattle.mr_journal.specs.Progress.{IsFilledBy, IsArmedBy}
+use Rattle.mr_journal.specs.private.Progress.{IsFilledBy, IsArmedBy}
 use Rattle.mr_journal.proofs.Gating.{leads_put, opened_torn, opened_left}
 use Rattle.mr_journal.proofs.gate.open_gate.Goals as goal
 

@@ -1,6 +1,6 @@
 use Rattle.std.proofs.Common.{rules}
 use Rattle.mr_journal.specs.States.{IsShutAt}
-use Rattle.mr_journal.specs.Progress.{IsClearedAt, IsInvalidAt}
+use Rattle.mr_journal.specs.private.Progress.{IsClearedAt, IsInvalidAt}
 use Rattle.mr_journal.proofs.Gating.{invalid_open, HasShutGate}
 use Rattle.mr_journal.proofs.Running.{leads_from, leads_then, leads_refused}
 use Rattle.mr_journal.proofs.gate.prepare_byte.Goals as goal

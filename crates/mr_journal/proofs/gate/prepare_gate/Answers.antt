@@ -1,7 +1,7 @@
 use Rattle.std.proofs.Common.{◌≡◌, ℕ, Option, IfSome, subst}
-use Rattle.mr_journal.specs.Parsed.{first_of}
+use Rattle.mr_journal.specs.private.Parsed.{first_of}
 use Rattle.mr_journal.specs.States.{IsShutAt, IsSettledAt}
-use Rattle.mr_journal.specs.Progress.{IsClearedAt, IsInvalidAt}
+use Rattle.mr_journal.specs.private.Progress.{IsClearedAt, IsInvalidAt}
 use Rattle.mr_journal.proofs.Gating.{invalid_none, gated_some, HasShutGate}
 use Rattle.mr_journal.proofs.Running.{leads_stays}
 use Rattle.mr_journal.proofs.gate.prepare_gate.Goals as goal

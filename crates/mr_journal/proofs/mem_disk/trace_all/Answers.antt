@@ -1,5 +1,5 @@
 use Rattle.std.proofs.Common.{sym, ◌∙◌}
-use Rattle.mr_journal.specs.Traced.{trace_of}
+use Rattle.mr_journal.specs.private.Traced.{trace_of}
 use Rattle.mr_journal.proofs.Replaying.{stored_next, stored_none}
 use Rattle.mr_journal.proofs.mem_disk.trace_all.Goals as goal
 

@@ -1,6 +1,6 @@
 use Rattle.std.proofs.Common.{◌≡◌, take}
 use Rattle.mr_journal.specs.MemoryDisk.{area_after}
-use Rattle.mr_journal.specs.Traced.{trace_of}
+use Rattle.mr_journal.specs.private.Traced.{trace_of}
 use Rattle.mr_journal.proofs.mem_disk.trace_all.Given as goal
 
 abbrev pub invariant-loop-call : goal.invariant-loop-call

@@ -2,7 +2,7 @@ use Rattle.std.proofs.Common.{ap, sym, ◌∙◌}
 use Rattle.mr_journal.specs.Format.{opens}
 use Rattle.mr_journal.proofs.Gating.{kept_done, shut_read, opened_read, carried_course, carried_done}
 use Rattle.std.specs.Prelude.{option_map}
-use Rattle.mr_journal.specs.Progress.{closed_by}
+use Rattle.mr_journal.specs.private.Progress.{closed_by}
 use Rattle.mr_journal.proofs.Leaving.{recovered_shut, recovered_open}
 use Rattle.mr_journal.proofs.recovery.redo.Goals as goal
 

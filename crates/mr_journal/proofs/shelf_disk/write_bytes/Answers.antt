@@ -1,6 +1,6 @@
 use Rattle.std.proofs.Common.{◌≡◌, ◌++◌, ◌∙◌, List, ℕ, sym, subst, rules}
 use Rattle.std.proofs.lemmas.List.{take-append-drop}
-use Rattle.mr_journal.specs.FileChanges.{WritesFront}
+use Rattle.mr_journal.specs.private.FileChanges.{WritesFront}
 use Rattle.mr_journal.proofs.Shelving.{puts_none, puts_refused, puts_behind, ends_there, put_both}
 use Rattle.mr_journal.proofs.shelf_disk.write_bytes.Goals as goal
 

@@ -79,7 +79,7 @@ returns g c =
     let s : c.slice_count-slices.result ≡ slice_count c.args.groups = c.slice_count-slices.ensures.value in
     let start = slice_start (length c.sort_by_x.new.entries) c.args.groups c.slice_count-slices.result in
     let reached = slice_reaches (length c.sort_by_x.new.entries) c.args.groups c.slice_count-slices.result
-    (λ h. c.requires.some (omega (arith, n, h))) c.slice_count-slices.ensures.some in
+    (λ h. c.requires.some (omega (arith, n, h))) c.slice_count-slices.ensures.not_empty in
     let none : drop (start c.loop-slice.slice) xs ≡ [] = ap (λ j. drop (start j) xs) end
     ∙ drop_all (start c.slice_count-slices.result) xs (omega (arith, reached, size)) in
     c.loop-slice.invariant.so_far

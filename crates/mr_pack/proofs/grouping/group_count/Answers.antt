@@ -10,7 +10,7 @@ returns-clause-within c =
     subst (λ m. m ≤ c.args.count) (sym (c.div_ceil.ensures ∙ rounded_up_is c.args.count c.args.capacity c.requires))
     (groups_within c.args.count c.args.capacity)
 
-pub returns-clause-some : goal.returns-clause-some
-returns-clause-some c = λ h.
+pub returns-clause-not_empty : goal.returns-clause-not_empty
+returns-clause-not_empty c = λ h.
     subst (λ m. 0 < m) (sym (c.div_ceil.ensures ∙ rounded_up_is c.args.count c.args.capacity c.requires))
     (some_groups c.args.count c.args.capacity c.requires h)

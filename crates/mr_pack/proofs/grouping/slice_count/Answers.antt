@@ -21,5 +21,5 @@ returns-clause-value c =
     slices_are c.args.groups c.loop-slices.slices c.loop-slices.invariant.within c.loop-slices-test.false
     c.loop-slices.invariant.below
 
-pub returns-clause-some : goal.returns-clause-some
-returns-clause-some c = λ h. positive c.loop-slices.slices c.args.groups h c.loop-slices-test.false
+pub returns-clause-not_empty : goal.returns-clause-not_empty
+returns-clause-not_empty c = λ h. positive c.loop-slices.slices c.args.groups h c.loop-slices-test.false

@@ -5,8 +5,8 @@ use Rattle.std.proofs.lemmas.List.Elements.{All-from_recursion}
 use Rattle.mr_record.specs.declared.version.Version.TheVariants.{One}
 use Rattle.mr_tree.specs.Tree.{level, first_level}
 use Rattle.mr_tree.specs.Digest.{by, entry, inner_tag}
-use Rattle.mr_tree.specs.Gathers.{Gathers, of_entry}
-use Rattle.mr_tree.specs.Slim.{IsSlim, IsSlimNode}
+use Rattle.mr_tree.specs.HasHashed.{HasHashed, of_entry}
+use Rattle.mr_tree.specs.private.Slim.{IsSlim, IsSlimNode}
 use Rattle.mr_tree.specs.WellFormed.{HasOneLevel}
 use Rattle.mr_tree.specs.declared.tree.Tree.{Tree}
 use Rattle.mr_tree.specs.declared.tree.Tree.TheFolds.{every-Tree}
@@ -16,7 +16,7 @@ use Rattle.mr_tree.proofs.Equations.{level-Inner, level_over-Inner, entry-Inner,
 use Rattle.mr_tree.proofs.Told.{count_told}
 use Rattle.mr_tree.proofs.Gathered.{pieces_more, inner_gathered}
 use Rattle.mr_tree.proofs.Induction.{here-Inner, every_child}
-use Rattle.mr_pack.specs.Leaves.{leaf_entries}
+use Rattle.mr_pack.specs.private.Leaves.{leaf_entries}
 use Rattle.mr_pack.proofs.Leaves.{leaf_entries-Inner, child_fits, child_front, child_back}
 use Rattle.mr_pack.proofs.joined.+entry_over.Goals as goal
 
@@ -32,7 +32,7 @@ loop-child-init g t c =
     let s = by One g.H.Hashes.of in
     record {
       gathered =
-          subst (λ head. Gathers (g.H.Hashes.holds c.inner-all.result.hasher) c.inner-all.result.rect
+          subst (λ head. HasHashed (g.H.Hashes.holds c.inner-all.result.hasher) c.inner-all.result.rect
           c.inner-all.result.mask c.inner-all.result.count head [])
           (λ i. inner_tag ∷ c.requires.level i
           ∷ length ((c.as_slice.ensures ∙ sym c.as_slice-child-items.ensures) i) ∷ [])
@@ -115,7 +115,7 @@ loop-child-preserved g t c =
     let items = c.as_slice-child-items.result.now in
     record {
       gathered =
-          subst (Gathers (g.H.Hashes.holds c.add_entry.new.self.hasher) c.add_entry.new.self.rect
+          subst (HasHashed (g.H.Hashes.holds c.add_entry.new.self.hasher) c.add_entry.new.self.rect
           c.add_entry.new.self.mask c.add_entry.new.self.count (inner_tag ∷ level c.args.tree.now ∷ length items ∷ []))
           (pieces_more (λ (u : Tree). of_entry One (entry s u)) items c.loop-child.child-index c.child-item.result
           (of_entry One c.entry_over-one.result)
@@ -144,7 +144,7 @@ returns-after-loop-child g t c =
     items (level c.args.tree.now) c.close.result
     (ap level (c.in-Inner.is ∙ ap variants.Inner (sym c.as_slice-child-items.ensures)) ∙ sym (level_over-Inner s items))
     (c.close.ensures.level ∙ c.requires.level)
-    (subst (Gathers (g.H.Hashes.holds c.loop-child.all.hasher) c.close.result.rect c.close.result.mask
+    (subst (HasHashed (g.H.Hashes.holds c.loop-child.all.hasher) c.close.result.rect c.close.result.mask
     c.close.result.count (inner_tag ∷ level c.args.tree.now ∷ length items ∷ []))
     (ap (map (λ (u : Tree). of_entry One (entry s u))) all)
     (record {

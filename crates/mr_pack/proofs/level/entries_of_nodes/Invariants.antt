@@ -1,6 +1,6 @@
 use Rattle.std.proofs.Common.{◌≡◌, map, length}
 use Rattle.mr_pack.specs.Pack.{placed_nodes}
-use Rattle.mr_pack.specs.Views.{with_tree}
+use Rattle.mr_pack.specs.private.Views.{with_tree}
 use Rattle.mr_pack.specs.declared.node.Node.{Node}
 use Rattle.mr_pack.proofs.level.entries_of_nodes.Given as goal
 

@@ -1,18 +1,19 @@
 use Rattle.std.proofs.Common.{◌≡◌, ℕ, List, length}
 use Rattle.std.specs.Prelude.{Ok}
 use Rattle.mr_pages.specs.Walking.{Saw}
-use Rattle.mr_pages.specs.Source.{Gives, Goes, Stay, left}
+use Rattle.mr_pages.specs.Source.{GivesPages, ReadsWithinRoom, Stay, left}
 use Rattle.mr_pages.proofs.Links.{Followed}
 use Rattle.mr_pages.proofs.chaining.chain.Given as goal
 
 -- the chain was followed so far without a fault
 abbrev pub invariant-loop : goal.invariant-loop
 invariant-loop g l = record {
-  told : Gives (g.P.Source.state l.fn.pages) l.fn.seen l.seen (λ f. (ps ns : List ℕ) →
+  told : GivesPages (g.P.Source.state l.fn.pages) l.fn.seen l.seen (λ f. (ps ns : List ℕ) →
       Saw (g.P.Source.state l.fn.pages).pages l.fn.seen ps ns →
       Followed f.free (g.P.Source.state l.fn.pages).pages l.first l.counter l.next ps ns l.seen);
   room : length l.seen.reached.items ≡ length l.fn.seen.reached.items;
-  goes : Goes {A = Unit {0}} (g.P.Source.state l.fn.pages) (g.P.Source.state l.pages) (left l.fn.seen) (left l.seen)
+  goes : ReadsWithinRoom {A = Unit {0}} (g.P.Source.state l.fn.pages) (g.P.Source.state l.pages) (left l.fn.seen)
+      (left l.seen)
       (Ok tt);
   stay : Stay (g.P.Source.keeps l.fn.pages) (g.P.Source.keeps l.pages);
 }

@@ -3,7 +3,7 @@ use Rattle.std.proofs.lemmas.Result.{err_from_is_err_and}
 use Rattle.mr_tree.specs.Digest.{by}
 use Rattle.mr_pages.specs.Faults.{walk, reached, all_records, numbers_of}
 use Rattle.mr_pages.specs.Stands.{whole_tree}
-use Rattle.mr_pages.specs.Spelled.{placed_at}
+use Rattle.mr_pages.specs.private.Spelled.{placed_at}
 use Rattle.mr_pages.specs.Walking.{head_of}
 use Rattle.mr_pages.proofs.Giving.{err_settles, gives_all, gives_next}
 use Rattle.mr_pages.proofs.Stops.{count_stops, lost_stops, lost_of, opens}

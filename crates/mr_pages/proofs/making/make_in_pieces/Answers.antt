@@ -2,7 +2,7 @@ use Rattle.std.proofs.Common.{◌∙◌, sym, subst, ap}
 use Rattle.std.specs.Prelude.{MatchResult}
 use Rattle.mr_tree.specs.WellFormed.{WellFormed, HasLayers}
 use Rattle.mr_tree.specs.declared.tree.Tree.TheVariants as tree
-use Rattle.mr_pages.specs.Making.{GivesUp, IsMade}
+use Rattle.mr_pages.specs.Making.{GivesUpFile, HasMadePages}
 use Rattle.mr_pages.specs.PageBytes.{form_of}
 use Rattle.mr_pages.proofs.making.make_in_pieces.Goals as goal
 
@@ -20,6 +20,6 @@ returns-in-Inner g c =
     let before = g.S.Shelf.state c.args.shelf.now in
     let after = g.S.Shelf.state c.make_inner.new.shelf in
     subst (λ t. MatchResult c.make_inner.result
-    (λ r. IsMade (form_of c.args.layout) g.H.Hashes.of t name before after r.0 r.1)
-    (GivesUp c.args.layout.size name before after))
+    (λ r. HasMadePages (form_of c.args.layout) g.H.Hashes.of t name before after r.0 r.1)
+    (GivesUpFile c.args.layout.size name before after))
     (sym (c.in-Inner.is ∙ ap tree.Inner (sym c.as_slice.ensures))) c.make_inner.ensures

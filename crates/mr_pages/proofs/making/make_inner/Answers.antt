@@ -5,7 +5,7 @@ use Rattle.mr_outside.specs.declared.shelf.ShelfErr.TheVariants as shelf
 use Rattle.mr_pages.specs.PageBytes.{form_of}
 use Rattle.mr_pages.proofs.InPieces.{row_begins, behind_zeros, row_long, links_there, links_may_tell, root_made}
 use Rattle.mr_pages.proofs.Put.{siblings}
-use Rattle.mr_pages.specs.Putting.{AreSiblings}
+use Rattle.mr_pages.specs.private.Putting.{AreSiblings}
 use Rattle.mr_pages.proofs.Written.{given_up, no_memory, not_put, has_put}
 use Rattle.mr_pages.proofs.making.make_inner.Goals as goal
 

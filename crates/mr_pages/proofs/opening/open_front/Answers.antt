@@ -1,6 +1,6 @@
 use Rattle.std.proofs.Common.{◌≡◌, ◌≤◌, ◌<◌, get_or, ◌+◌, ◌/◌, true, arith, ap, refl, subst, sym}
 use Rattle.mr_pages.specs.File.{is_odd_size}
-use Rattle.mr_pages.specs.Opening.{Tells, SomeBytes, Fails}
+use Rattle.mr_pages.specs.Opening.{TellsBytes, SomeBytes, FailsWithoutFault}
 use Rattle.std.specs.Prelude.{max, length}
 use Rattle.mr_outside.specs.Told.{OfFile}
 use Rattle.mr_pages.specs.Page.{Form, page_limit}
@@ -17,12 +17,12 @@ returns-in-None g c =
     record {
       told = told_odd (form_by c.args.version) (form_by_is c.args.version) g.H.Hashes.of g.met.H.Hashes.sized _ _
           c.args.size c.requires.are c.requires.size odd;
-      some = some_odd (form_by c.args.version) (form_by_is c.args.version) g.H.Hashes.of g.met.H.Hashes.sized
+      of_some_bytes = some_odd (form_by c.args.version) (form_by_is c.args.version) g.H.Hashes.of g.met.H.Hashes.sized
           c.args.size odd;
       causes = causes_quiet _ _ _ _ refl;
       files = refl;
       reads = omega arith;
-      once = unread (form_by c.args.version) _ _ _ _ (omega arith);
+      reads_at_most = unread (form_by c.args.version) _ _ _ _ (omega arith);
     }
 
 pub open_pages-requires : goal.open_pages-requires
@@ -54,18 +54,18 @@ returns-in-Some g c =
     let same = ap form_of c.by-layout.ensures.layout in
     let whole = whole_pages_are layout.size c.args.size (omega (arith, fits.room)) c.in-Some.ensures.0 in
     record {
-      told = subst (λ (f : Form). OfFile told name (Fails r) (λ bytes. Tells f h bytes r)) same
+      told = subst (λ (f : Form). OfFile told name (FailsWithoutFault r) (λ bytes. TellsBytes f h bytes r)) same
           (told_answers (form_of layout) (form_is layout fits) h g.met.H.Hashes.sized told name r c.requires.are
           c.open_pages.ensures.told);
-      some = subst (λ (f : Form). SomeBytes f h r) same c.open_pages.ensures.some;
+      of_some_bytes = subst (λ (f : Form). SomeBytes f h r) same c.open_pages.ensures.of_some_bytes;
       causes = c.open_pages.ensures.causes;
       files = c.open_pages.ensures.files;
       reads = c.open_pages.ensures.reads;
-      once = subst (λ (f : Form). OfFile told name ((g.S.Shelf.state c.open_pages.new.shelf).reads
+      reads_at_most = subst (λ (f : Form). OfFile told name ((g.S.Shelf.state c.open_pages.new.shelf).reads
           ≤ (g.S.Shelf.state c.args.shelf.now).reads) (λ bytes. (g.S.Shelf.state c.open_pages.new.shelf).reads + 1
           ≤ (g.S.Shelf.state c.args.shelf.now).reads + max 1 (length bytes / f.size))) same
           (once_of (form_of layout) told name _ _ c.in-Some.pages
           (paged_of (form_of layout) _ _ c.args.size c.in-Some.pages c.requires.are c.requires.size
           c.in-Some.ensures.0 c.in-Some.ensures.1) (subst (λ n. 1 ≤ n) (sym c.in-Some.ensures.1) whole.some)
-          c.open_pages.ensures.once);
+          c.open_pages.ensures.reads_at_most);
     }

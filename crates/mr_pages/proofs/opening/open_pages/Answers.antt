@@ -11,13 +11,13 @@ returns-in_err-checked-clause-told g c =
     c.args.name.now 0 c.args.pages (g.S.Shelf.state c.args.shelf.now)
     c.requires.paged c.in_err-checked.field-0.0 c.in_err-checked.ensures.told)
 
-pub returns-in_err-checked-clause-some : goal.returns-in_err-checked-clause-some
-returns-in_err-checked-clause-some g c =
+pub returns-in_err-checked-clause-of_some_bytes : goal.returns-in_err-checked-clause-of_some_bytes
+returns-in_err-checked-clause-of_some_bytes g c =
     let p = err_from_is_err_and c.from_residual.result c.from_residual.ensures.1 in
     rw (p.1, p.2) (some_err (form_of c.args.layout) (form_is c.args.layout c.requires.layout) g.H.Hashes.of
     c.args.name.now _ c.args.pages (g.S.Shelf.state c.args.shelf.now)
     c.requires.paged c.requires.some c.requires.few c.in_err-checked.field-0.0 g.met.H.Hashes.sized
-    c.in_err-checked.ensures.some)
+    c.in_err-checked.ensures.of_some_bytes)
 
 pub returns-clause-told : goal.returns-clause-told
 returns-clause-told g c =
@@ -25,8 +25,8 @@ returns-clause-told g c =
     c.args.pages (g.S.Shelf.state c.args.shelf.now) c.requires.paged
     c.in_ok-checked.checked c.in_ok-checked.ensures.told c.in_ok-checked.ensures.made
 
-pub returns-clause-some : goal.returns-clause-some
-returns-clause-some g c =
+pub returns-clause-of_some_bytes : goal.returns-clause-of_some_bytes
+returns-clause-of_some_bytes g c =
     some_ok (form_of c.args.layout) (form_is c.args.layout c.requires.layout) g.H.Hashes.of c.args.name.now _
     c.args.pages (g.S.Shelf.state c.args.shelf.now) c.requires.paged
-    c.requires.some c.requires.few c.in_ok-checked.checked c.in_ok-checked.ensures.some
+    c.requires.some c.requires.few c.in_ok-checked.checked c.in_ok-checked.ensures.of_some_bytes

@@ -13,13 +13,13 @@ returns g c =
       only = only_of form_at h told c.args.name.now r e.told;
       fault = λ f is. fault_of form_at h told c.args.name.now r e.told f is;
       exact = e.told;
-      well_formed = well_of h r e.some;
-      some = e.some;
+      well_formed = well_of h r e.of_some_bytes;
+      of_some_bytes = e.of_some_bytes;
       law = e.law;
       agrees = e.agrees;
       version = λ v bytes t b s. stands_version v h bytes t b s;
       causes = e.causes;
       files = e.files;
       reads = e.reads;
-      once = e.once;
+      reads_at_most = e.reads_at_most;
     }

@@ -9,7 +9,7 @@ use Rattle.mr_tree.specs.Tree.{level}
 use Rattle.mr_pages.specs.Stands.{all_pages}
 use Rattle.mr_pages.proofs.Put.{leaf_entries, leaf_put_at, put_none, room_for, next_behind, child_room, child_can, child_lower, put_one, put_whole, inner_put, siblings, written_whole}
 use Rattle.mr_pages.proofs.Laying.{child_layers, child_few, links_told}
-use Rattle.mr_pages.specs.Putting.{AreSiblings, IsPut, some_row}
+use Rattle.mr_pages.specs.private.Putting.{AreSiblings, IsPut, some_row}
 use Rattle.mr_pages.proofs.putting.+put_tree.Goals as goal
 
 pub set_leaf-requires-clause-some : goal.set_leaf-requires-clause-some

@@ -1,5 +1,5 @@
 use Rattle.mr_tree.specs.Tree.{level}
-use Rattle.mr_pages.specs.Putting.{PutSoFar}
+use Rattle.mr_pages.specs.private.Putting.{PutSoFar}
 use Rattle.mr_pages.specs.PageBytes.{form_of}
 use Rattle.mr_pages.proofs.putting.+put_tree.Given as goal
 

@@ -7,7 +7,7 @@ use Rattle.std.proofs.lemmas.Result.{err_from_is_err_and}
 use Rattle.mr_tree.specs.Digest.{by}
 use Rattle.mr_tree.specs.declared.child.Child.{Child}
 use Rattle.mr_pages.specs.Walking.{child_link, page_node, owned}
-use Rattle.mr_pages.specs.Source.{Knows, AreMade}
+use Rattle.mr_pages.specs.Source.{MatchesChild, AreMade}
 use Rattle.mr_pages.specs.declared.node.Node.TheVariants as owned_node
 use Rattle.mr_pages.proofs.Building.{what_is_found}
 use Rattle.mr_pages.proofs.Giving.{err_settles, gives_none, gives_one, gives_so, gives_still, gives_next}
@@ -104,7 +104,7 @@ loop-one-init g t c = record {
     | inr here ↦ inr (inl here)
   ];
   inside = All-nil _;
-  stay = c.look.ensures.stay;
+  stay = c.read_checked.ensures.stay;
 }
 
 pub returns-in_err-made-in-Inner-clause-told : goal.returns-in_err-made-in-Inner-clause-told
@@ -191,9 +191,9 @@ pub make-requires-in-Inner : goal.make-requires-in-Inner
 make-requires-in-Inner g t c =
     let pages = c.loop-one.invariant.goes.count in
     record {
-      known = subst (λ o. Knows (by o.form.version g.P.Hash.Hashes.of) c.args.child.now
+      known = subst (λ o. MatchesChild (by o.form.version g.P.Hash.Hashes.of) c.args.child.now
           (owned_node.Inner c.in-Inner.children)) (sym c.loop-one.invariant.goes.from_)
-          (subst (Knows (by (g.P.Source.state c.args.pages.now).origin.form.version g.P.Hash.Hashes.of)
+          (subst (MatchesChild (by (g.P.Source.state c.args.pages.now).origin.form.version g.P.Hash.Hashes.of)
           c.args.child.now) c.in-Inner.is c.in_ok-records.ensures.known);
       low = c.in_default.ensures.step.low;
       place = omega (arith, c.in_default.ensures.step.inside, c.requires, pages);

@@ -2,7 +2,7 @@ use Rattle.std.proofs.Common.{◌≡◌, ◌+◌, min, subst}
 use Rattle.std.specs.BinaryHeap.{heap_items}
 use Rattle.std.proofs.lemmas.List.{take_all}
 use Rattle.mr_query.specs.Nearest.{distances}
-use Rattle.mr_query.specs.Radius.{below}
+use Rattle.mr_query.specs.private.Radius.{below}
 use Rattle.mr_prove.proofs.Least.{taken_more}
 use Rattle.mr_prove.proofs.best.offer_all.Goals as goal
 

@@ -1,8 +1,8 @@
 use Rattle.std.proofs.Common.{◌≡◌, ℕ, ◌+◌, take, min}
 use Rattle.std.specs.BinaryHeap.{heap_items}
 use Rattle.mr_query.specs.Nearest.{distances}
-use Rattle.mr_query.specs.Radius.{below}
-use Rattle.mr_prove.specs.Search.{Best}
+use Rattle.mr_query.specs.private.Radius.{below}
+use Rattle.mr_prove.specs.private.Search.{Best}
 use Rattle.mr_prove.proofs.best.offer_all.Given as goal
 
 abbrev pub invariant-loop-record : goal.invariant-loop-record

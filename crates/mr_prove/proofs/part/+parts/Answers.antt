@@ -1,11 +1,11 @@
 use Rattle.std.proofs.Common.{◌+◌, ◌≤◌, ◌∙◌, sym, ap, subst, arith}
 use Rattle.std.specs.Prelude.{IsSome}
-use Rattle.mr_outside.specs.Told.{Takes, TakesFront}
+use Rattle.mr_outside.specs.Told.{TakesBytes, TakesFront}
 use Rattle.mr_tree.specs.Digest.{by}
-use Rattle.mr_tree.specs.Nodes.{Standing}
+use Rattle.mr_tree.specs.Nodes.{MapModel}
 use Rattle.mr_tree.specs.declared.child.Child.{Child}
-use Rattle.mr_prove.specs.Parts.{part_at, opened_at}
-use Rattle.mr_tree.specs.View.{entry_of}
+use Rattle.mr_prove.specs.private.Parts.{part_at, opened_at}
+use Rattle.mr_tree.specs.View.{child_entry}
 use Rattle.mr_proof.specs.Cut.{pruned_cut}
 use Rattle.mr_proof.specs.Spelling.{cut_bytes}
 use Rattle.mr_proof.specs.Tight.{is_open}
@@ -19,8 +19,8 @@ write_part-returns-then-not-is_open-clause-whole g t c =
     let way = (g.A.AsQuestion.question c.args.q.now).way c.args.radius in
     let from = g.W.Sink.state c.args.out.now in
     let to = g.W.Sink.state c.write_pruned.new.out in
-    ok_through c.write_pruned.result (Takes from to (cut_bytes (pruned_cut (entry_of c.args.child.now))))
-    (IsSome s.tree → Takes from to (part_at (by s.version g.N.Hash.Hashes.of) way (s.node c.args.child.now.id)))
+    ok_through c.write_pruned.result (TakesBytes from to (cut_bytes (pruned_cut (child_entry c.args.child.now))))
+    (IsSome s.tree → TakesBytes from to (part_at (by s.version g.N.Hash.Hashes.of) way (s.node c.args.child.now.id)))
     (λ taken told. pruned_whole g.N.Hash.Hashes.of way s c.args.child.now c.requires told from to
     (sym (ap is_open c.way.ensures) ∙ sym c.is_open.ensures ∙ c.if-not-is_open.true) taken)
     c.write_pruned.ensures.whole
@@ -61,7 +61,7 @@ write_met-returns-in_err-write_part-clause-front g t c =
     let hash = g.N.Hash.Hashes.of in
     let way = (g.A.AsQuestion.question c.args.q.now).way c.args.radius in
     let same = g.met.N.Nodes.kept_stands c.args.nodes.now c.loop-next.nodes c.loop-next.invariant.kept in
-    let next = subst (λ (s : Standing). IsSome s.tree → TakesFront (g.W.Sink.state c.loop-next.out)
+    let next = subst (λ (s : MapModel). IsSome s.tree → TakesFront (g.W.Sink.state c.loop-next.out)
     (g.W.Sink.state c.write_part.new.out) (part_at (by s.version hash) way (s.node c.next-item.result.id))) same
     c.in_err-write_part.ensures.front in
     on_err c.from_residual-in_err-write_part.result (IsSome s.tree → TakesFront (g.W.Sink.state c.args.out.now)
@@ -79,7 +79,7 @@ write_met-returns-in_err-write_part-clause-fetched g t c =
     let hash = g.N.Hash.Hashes.of in
     let way = (g.A.AsQuestion.question c.args.q.now).way c.args.radius in
     let same = g.met.N.Nodes.kept_stands c.args.nodes.now c.loop-next.nodes c.loop-next.invariant.kept in
-    let next = subst (λ (s : Standing). IsSome s.tree → g.N.Nodes.fetches c.write_part.new.nodes ≤ g.N.Nodes.fetches
+    let next = subst (λ (s : MapModel). IsSome s.tree → g.N.Nodes.fetches c.write_part.new.nodes ≤ g.N.Nodes.fetches
     c.loop-next.nodes + opened_at (by s.version hash) way (s.node c.next-item.result.id)) same
     c.write_part.ensures.fetched in
     λ told. some_fetches hash way s c.args.child.now c.requires.may told c.open_node.new.view
@@ -98,10 +98,10 @@ write_met-loop-next-preserved g t c =
     let hash = g.N.Hash.Hashes.of in
     let way = (g.A.AsQuestion.question c.args.q.now).way c.args.radius in
     let same = g.met.N.Nodes.kept_stands c.args.nodes.now c.loop-next.nodes c.loop-next.invariant.kept in
-    let written = subst (λ (s : Standing). IsSome s.tree → Takes (g.W.Sink.state c.loop-next.out)
+    let written = subst (λ (s : MapModel). IsSome s.tree → TakesBytes (g.W.Sink.state c.loop-next.out)
     (g.W.Sink.state c.write_part.new.out) (part_at (by s.version hash) way (s.node c.next-item.result.id))) same
     c.in_ok-write_part.ensures.whole in
-    let few = subst (λ (s : Standing). IsSome s.tree → g.N.Nodes.fetches c.write_part.new.nodes ≤ g.N.Nodes.fetches
+    let few = subst (λ (s : MapModel). IsSome s.tree → g.N.Nodes.fetches c.write_part.new.nodes ≤ g.N.Nodes.fetches
     c.loop-next.nodes + opened_at (by s.version hash) way (s.node c.next-item.result.id)) same
     c.write_part.ensures.fetched in
     record {

@@ -1,8 +1,8 @@
 use Rattle.std.proofs.Common.{◌≡◌, ◌+◌, ◌*◌, ◌≤◌, take}
 use Rattle.std.specs.Prelude.{IsSome}
-use Rattle.mr_outside.specs.Told.{Takes}
+use Rattle.mr_outside.specs.Told.{TakesBytes}
 use Rattle.mr_tree.specs.Digest.{by}
-use Rattle.mr_prove.specs.Parts.{parts_of, opened_in}
+use Rattle.mr_prove.specs.private.Parts.{child_parts, opened_in}
 use Rattle.mr_prove.proofs.part.+parts.Given as goal
 
 abbrev pub decreases-write_part : goal.decreases-write_part
@@ -15,8 +15,8 @@ abbrev pub invariant-write_met-loop-next : goal.invariant-write_met-loop-next
 invariant-write_met-loop-next g l = record {
   kept : g.N.Nodes.kept l.fn.nodes l.nodes;
   whole : IsSome (g.N.Nodes.stands l.fn.nodes).tree →
-      Takes (g.W.Sink.state l.initial.out) (g.W.Sink.state l.out)
-      (parts_of (by (g.N.Nodes.stands l.fn.nodes).version g.N.Hash.Hashes.of)
+      TakesBytes (g.W.Sink.state l.initial.out) (g.W.Sink.state l.out)
+      (child_parts (by (g.N.Nodes.stands l.fn.nodes).version g.N.Hash.Hashes.of)
       ((g.A.AsQuestion.question l.fn.q).way l.fn.radius) (g.N.Nodes.stands
       l.fn.nodes)
       (take l.next-index l.next-items));

@@ -1,11 +1,11 @@
 use Rattle.std.proofs.Common.{◌≤◌, ◌+◌, subst}
 use Rattle.std.specs.Prelude.{IsSome, OnOk, OnErr}
-use Rattle.mr_outside.specs.Told.{Takes, TakesFront}
+use Rattle.mr_outside.specs.Told.{TakesBytes, TakesFront}
 use Rattle.mr_tree.specs.Digest.{by}
-use Rattle.mr_tree.specs.Nodes.{Standing}
+use Rattle.mr_tree.specs.Nodes.{MapModel}
 use Rattle.mr_query.specs.declared.query.Query.TheVariants.{Nearest}
 use Rattle.mr_proof.specs.Tight.{question}
-use Rattle.mr_prove.specs.Parts.{proof_at, all_opened_at}
+use Rattle.mr_prove.specs.private.Parts.{proof_at, all_opened_at}
 use Rattle.mr_prove.proofs.Whole.{whole_told, front_told, fetched_told, front_none}
 use Rattle.mr_prove.proofs.Sums.{all_fetched, some_fetched}
 use Rattle.mr_prove.proofs.proving.prove_nearest.Goals as goal
@@ -30,7 +30,7 @@ returns-clause-written g c =
     let same = g.met.N.Nodes.kept_stands c.args.nodes.now c.kth_distance.new.nodes c.kth_distance.ensures.kept in
     whole_told (by s.version hash) s.batch q s.tree (g.W.Sink.state c.args.out.now)
     (g.W.Sink.state c.write_proof.new.out) c.write_proof.result
-    (subst (λ (s : Standing). OnOk c.write_proof.result (IsSome s.tree → Takes (g.W.Sink.state c.args.out.now)
+    (subst (λ (s : MapModel). OnOk c.write_proof.result (IsSome s.tree → TakesBytes (g.W.Sink.state c.args.out.now)
     (g.W.Sink.state c.write_proof.new.out) (proof_at (by s.version hash) s.batch q s.tree))) same
     c.write_proof.ensures.whole)
 
@@ -42,7 +42,7 @@ returns-clause-front g c =
     let same = g.met.N.Nodes.kept_stands c.args.nodes.now c.kth_distance.new.nodes c.kth_distance.ensures.kept in
     front_told (by s.version hash) s.batch q s.tree (g.W.Sink.state c.args.out.now)
     (g.W.Sink.state c.write_proof.new.out) c.write_proof.result
-    (subst (λ (s : Standing). OnErr c.write_proof.result (IsSome s.tree → TakesFront (g.W.Sink.state c.args.out.now)
+    (subst (λ (s : MapModel). OnErr c.write_proof.result (IsSome s.tree → TakesFront (g.W.Sink.state c.args.out.now)
     (g.W.Sink.state c.write_proof.new.out) (proof_at (by s.version hash) s.batch q s.tree))) same
     c.write_proof.ensures.front)
 
@@ -57,5 +57,5 @@ returns-clause-fetched g c =
     c.kth_distance.ensures.fetched
     (fetched_told (by s.version hash) q s.tree (g.N.Nodes.fetches c.kth_distance.new.nodes)
     (g.N.Nodes.fetches c.write_proof.new.nodes)
-    (subst (λ (s : Standing). IsSome s.tree → g.N.Nodes.fetches c.write_proof.new.nodes ≤ g.N.Nodes.fetches
+    (subst (λ (s : MapModel). IsSome s.tree → g.N.Nodes.fetches c.write_proof.new.nodes ≤ g.N.Nodes.fetches
     c.kth_distance.new.nodes + all_opened_at (by s.version hash) q s.tree) same c.write_proof.ensures.fetched))

@@ -1,8 +1,8 @@
 use Rattle.std.proofs.Common.{◌≤◌, ◌+◌, sym, subst}
 use Rattle.std.specs.Prelude.{IsSome}
-use Rattle.mr_outside.specs.Told.{Takes, TakesFront}
+use Rattle.mr_outside.specs.Told.{TakesBytes, TakesFront}
 use Rattle.mr_tree.specs.Digest.{by}
-use Rattle.mr_prove.specs.Parts.{part_at, proof_at}
+use Rattle.mr_prove.specs.private.Parts.{part_at, proof_at}
 use Rattle.mr_prove.proofs.Steps.{on_err}
 use Rattle.mr_prove.proofs.Whole.{whole_with_root, front_with_root, whole_of_empty, front_of_head, opened_of_root, ok_through, err_through}
 use Rattle.mr_prove.proofs.proving.write_proof.Goals as goal
@@ -35,8 +35,8 @@ returns-in-Some-clause-whole g c =
     let part = part_at (by s.version hash) ((g.A.AsQuestion.question c.args.q.now).way c.args.radius)
     (s.node c.in-Some.root.id) in
     ok_through c.write_part.result
-    (IsSome s.tree → Takes (g.W.Sink.state c.write_head.new.out) (g.W.Sink.state c.write_part.new.out) part)
-    (IsSome s.tree → Takes (g.W.Sink.state c.args.out.now) (g.W.Sink.state c.write_part.new.out)
+    (IsSome s.tree → TakesBytes (g.W.Sink.state c.write_head.new.out) (g.W.Sink.state c.write_part.new.out) part)
+    (IsSome s.tree → TakesBytes (g.W.Sink.state c.args.out.now) (g.W.Sink.state c.write_part.new.out)
     (proof_at (by s.version hash) s.batch (g.A.AsQuestion.question c.args.q.now) s.tree))
     (whole_with_root hash s c.top-top.result c.in-Some.root (g.A.AsQuestion.question c.args.q.now) c.args.radius
     c.head_of.result

@@ -2,11 +2,11 @@ use Rattle.std.proofs.Common.{◌≡◌, Bool, [], ◌∷◌, ◌∙◌, true, f
 use Rattle.std.specs.Prelude.{IfSome}
 use Rattle.std.specs.BinaryHeap.{heap_items}
 use Rattle.std.proofs.lemmas.List.Sorted.{sum_by-IsPermutation}
-use Rattle.mr_tree.specs.Nodes.{Standing}
+use Rattle.mr_tree.specs.Nodes.{MapModel}
 use Rattle.mr_tree.specs.Tree.{records}
 use Rattle.mr_tree.specs.View.{children_in}
 use Rattle.mr_query.specs.Nearest.{distances, kth_least, is_within}
-use Rattle.mr_prove.specs.Search.{IsReached, Searching, Visited, weight}
+use Rattle.mr_prove.specs.private.Search.{IsReached, Searching, Visited, weight}
 use Rattle.mr_prove.proofs.Queue.{near_from_bound, nothing_left, lighter}
 use Rattle.mr_prove.proofs.Rounds.{searching_moved, bounded_moved, visited, radius_reached, fetched_within, bounded_visited, bounded_spent, radius_at_end, fetched_so_far}
 use Rattle.mr_prove.proofs.search.best_first.Goals as goal
@@ -52,7 +52,7 @@ visit-requires-clause-within g c =
     let known = searching_moved hash k p s (heap_items c.loop-next.queue) (next ∷ rest) best
     c.in-Some.ensures.permutation c.loop-next.invariant.searching in
     let near = near_from_bound next rest (c.in-Some.ensures.below_top c.loop-next.invariant.heap) in
-    subst (λ (s : Standing). IfSome s.tree (λ t. is_within p (kth_least k (distances p (records t))) next.child.rect
+    subst (λ (s : MapModel). IfSome s.tree (λ t. is_within p (kth_least k (distances p (records t))) next.child.rect
     ≡ true)) (sym same)
     (fetched_within hash k p s (g.met.N.Nodes.well_formed c.args.nodes.now)
     (g.met.N.Nodes.numbered c.args.nodes.now) next rest best c.radius_of-radius.result known near
@@ -82,7 +82,7 @@ loop-next-preserved g c =
     let rest = heap_items c.pop.new.self in
     let best = heap_items c.loop-next.best in
     let same = g.met.N.Nodes.kept_stands c.args.nodes.now c.loop-next.nodes c.loop-next.invariant.kept in
-    let seen = subst (λ (s : Standing). Visited hash s p next.child k rest (heap_items c.visit.new.queue) best
+    let seen = subst (λ (s : MapModel). Visited hash s p next.child k rest (heap_items c.visit.new.queue) best
     (heap_items c.visit.new.best)) same c.in_ok-visit.ensures.visited in
     let known = searching_moved hash k p s (heap_items c.loop-next.queue) (next ∷ rest) best
     c.in-Some.ensures.permutation c.loop-next.invariant.searching in

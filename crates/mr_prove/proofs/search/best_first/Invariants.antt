@@ -1,7 +1,7 @@
 use Rattle.std.proofs.Common.{◌≡◌}
 use Rattle.std.specs.BinaryHeap.{IsHeap, heap_items}
 use Rattle.std.specs.List.{sum_by}
-use Rattle.mr_prove.specs.Search.{nearest_first, Best, Searching, Bounded, weight}
+use Rattle.mr_prove.specs.private.Search.{nearest_first, Best, Searching, Bounded, weight}
 use Rattle.mr_prove.proofs.search.best_first.Given as goal
 
 abbrev pub invariant-loop-next : goal.invariant-loop-next

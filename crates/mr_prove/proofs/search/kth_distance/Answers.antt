@@ -4,8 +4,8 @@ use Rattle.std.specs.BinaryHeap.{heap_items}
 use Rattle.mr_tree.specs.Tree.{records}
 use Rattle.mr_tree.specs.declared.tree.Tree.{Tree}
 use Rattle.mr_query.specs.Nearest.{distances}
-use Rattle.mr_query.specs.Radius.{IsRadius}
-use Rattle.mr_prove.specs.Search.{Searching}
+use Rattle.mr_query.specs.private.Radius.{IsRadius}
+use Rattle.mr_prove.specs.private.Search.{Searching}
 use Rattle.mr_prove.proofs.Rounds.{kth_found, searching_start, bounded_start}
 use Rattle.mr_prove.proofs.search.kth_distance.Goals as goal
 

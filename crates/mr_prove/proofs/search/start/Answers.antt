@@ -1,7 +1,7 @@
 use Rattle.std.proofs.Common.{◌∷◌, subst, sym}
 use Rattle.std.specs.BinaryHeap.{heap_items}
 use Rattle.std.specs.List.Sorted.{IsPermutation}
-use Rattle.mr_prove.specs.Search.{IsStart, waiting}
+use Rattle.mr_prove.specs.private.Search.{IsStart, waiting}
 use Rattle.mr_prove.proofs.Rounds.{start_none, start_some}
 use Rattle.mr_prove.proofs.search.start.Goals as goal
 

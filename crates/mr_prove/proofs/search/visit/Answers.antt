@@ -6,15 +6,15 @@ use Rattle.mr_record.specs.declared.record.Record.{Record}
 use Rattle.mr_tree.specs.View.{children_in}
 use Rattle.mr_tree.specs.declared.child.Child.{Child}
 use Rattle.mr_query.specs.Nearest.{distances}
-use Rattle.mr_query.specs.Radius.{below}
-use Rattle.mr_prove.specs.Search.{waiting}
+use Rattle.mr_query.specs.private.Radius.{below}
+use Rattle.mr_prove.specs.private.Search.{waiting}
 use Rattle.mr_prove.proofs.search.visit.Goals as goal
 
 pub returns-clause-visited : goal.returns-clause-visited
 returns-clause-visited g c = record {
   node = c.fetched.new.into;
   shows = c.in_ok-fetched.ensures.shows;
-  children = c.children.ensures.few;
+  children = c.children.ensures.length_at_most;
   lower =
       subst (λ n. All (λ (d : Child). d.level + 1 ≡ n) (children_in c.fetched.new.into))
       c.in_ok-fetched.ensures.shows.level c.children.ensures.alike;

@@ -2,7 +2,7 @@ use Rattle.std.proofs.Common.{subst}
 use Rattle.std.specs.BinaryHeap.{heap_items}
 use Rattle.std.specs.List.Sorted.{IsPermutation}
 use Rattle.std.proofs.lemmas.List.Sorted.{IsPermutation-push_more}
-use Rattle.mr_prove.specs.Search.{waiting}
+use Rattle.mr_prove.specs.private.Search.{waiting}
 use Rattle.mr_prove.proofs.Queue.{queued_more}
 use Rattle.mr_prove.proofs.search.wait_for_all.Goals as goal
 

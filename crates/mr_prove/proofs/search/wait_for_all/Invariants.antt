@@ -1,7 +1,7 @@
 use Rattle.std.proofs.Common.{◌++◌, map, take}
 use Rattle.std.specs.BinaryHeap.{IsHeap, heap_items}
 use Rattle.std.specs.List.Sorted.{IsPermutation}
-use Rattle.mr_prove.specs.Search.{nearest_first, waiting}
+use Rattle.mr_prove.specs.private.Search.{nearest_first, waiting}
 use Rattle.mr_prove.proofs.search.wait_for_all.Given as goal
 
 abbrev pub invariant-loop-child : goal.invariant-loop-child

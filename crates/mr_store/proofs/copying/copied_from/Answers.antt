@@ -1,7 +1,7 @@
 use Rattle.std.proofs.Common.{sym, subst, ap, length, arith, ◌∙◌}
 use Rattle.std.specs.Prelude.{IfSome}
 use Rattle.std.proofs.lemmas.Result.{err_from_is_err_and}
-use Rattle.mr_tree.specs.Nodes.{Standing, MayFetch}
+use Rattle.mr_tree.specs.Nodes.{MapModel, MayFetch}
 use Rattle.mr_store.specs.Stored.{IsSaid}
 use Rattle.mr_store.proofs.Wholes.{whole_well, whole_said, whole_snapshot, whole_stands, once_each, miscounted, refuses_all, none_fetched, root_fetched}
 use Rattle.mr_store.proofs.copying.copied_from.Goals as goal
@@ -95,9 +95,9 @@ pub returns-in_err-seen-clause-fetched : goal.returns-in_err-seen-clause-fetched
 returns-in_err-seen-clause-fetched g c =
     none_fetched (g.N.Nodes.stands c.args.nodes.now).tree (g.N.Nodes.fetches c.args.nodes.now)
 
-pub returns-clause-once : goal.returns-clause-once
-returns-clause-once g c =
-    let spans = ap (λ (s : Standing). s.span) c.over.ensures in
+pub returns-clause-fetches_at_most : goal.returns-clause-fetches_at_most
+returns-clause-fetches_at_most g c =
+    let spans = ap (λ (s : MapModel). s.span) c.over.ensures in
     omega (
       arith,
       spans,

@@ -1,7 +1,7 @@
 use Rattle.std.proofs.Common.{true}
 use Rattle.std.proofs.lemmas.Result.{err_from_is_err_and}
-use Rattle.mr_store.specs.Walk.{CanWalk}
-use Rattle.mr_store.specs.Listing.{CanList}
+use Rattle.mr_store.specs.private.Walk.{CanWalk}
+use Rattle.mr_store.specs.private.Listing.{CanList}
 use Rattle.mr_store.proofs.Walks.{refuses_as}
 use Rattle.mr_store.proofs.Listings.{can_begin, lists_at}
 use Rattle.mr_store.proofs.listing.listed.Goals as goal

@@ -45,7 +45,7 @@ returns-in-Ok g c =
             c.over.ensures.file c.over.ensures.answers);
         some = subst (IsOfSome (page_form f) g.H.Hashes.of) (sym c.over.ensures.head)
             (of_some (page_form f) (form_is f.layout f.fits) g.H.Hashes.of f.pages (state_of f) (name_of f)
-            s.paging.some s.paging.few c.in-Ok.checked e.some);
+            s.paging.some s.paging.few c.in-Ok.checked e.of_some_bytes);
         named = ap (λ x. name_of x) c.over.ensures.file ∙ ap (λ (o : Origin). o.name) e.goes.from_;
         laid = ap (λ x. x.layout) c.over.ensures.file
             ∙ laid_of c.check.new.pages.file.layout f.layout (ap (λ (o : Origin). o.form) e.goes.from_);
@@ -72,13 +72,13 @@ returns-in-Err g c =
                   c.in-Err.error s.paging.there s.paging.file_
                   (λ file is. e.told file is (version_known (page_form f) (bytes_of f) file is));
               some = some_fault (page_form f) (form_is f.layout f.fits) g.H.Hashes.of f.pages (state_of f) (name_of f)
-                  s.paging.some s.paging.few c.in-Err.error e.some;
+                  s.paging.some s.paging.few c.in-Err.error e.of_some_bytes;
               why = record {
                 missing = λ is. misses _ _ _ _ (e.goes.untold (err_is c.in-Err.error errors.Missing is))
                     (e.goes.missing (err_is c.in-Err.error errors.Missing is));
                 failed = λ is. e.goes.fault (err_is c.in-Err.error errors.Fault is);
                 quiet = quiet_or (Checked (Unit {0})) c.in-Err.error _ e.goes.quiet;
-                once = e.once;
+                once = e.of_one_read;
               };
             };
             files = ap (λ (o : Origin). o.files) e.goes.from_;

@@ -2,7 +2,7 @@ use Rattle.std.proofs.Common.{◌≤◌, ◌<◌, ◌+◌, get_or, arith, refl, 
 use Rattle.mr_pages.specs.PageBytes.{form_of, IsLayout}
 use Rattle.mr_pages.specs.declared.error.MapErr.TheVariants as errors
 use Rattle.mr_pages.proofs.Answered.{low_are_bytes, first_told}
-use Rattle.mr_store.specs.Opening.{IsRefused}
+use Rattle.mr_store.specs.Opening.{IsOpeningRefused}
 use Rattle.mr_store.proofs.Openings.{answered_at, unchecked, no_room}
 use Rattle.mr_store.proofs.opening.opened.Goals as goal
 
@@ -24,7 +24,7 @@ invariant_of-checked g c =
 
 pub returns-in-Err : goal.returns-in-Err
 returns-in-Err g c = record {
-  opened = subst (λ x. IsRefused g.H.Hashes.of c.args.name.now c.args.front.layout c.args.front.pages
+  opened = subst (λ x. IsOpeningRefused g.H.Hashes.of c.args.name.now c.args.front.layout c.args.front.pages
       (g.S.Shelf.state c.args.shelf) (g.S.Shelf.state x) errors.NoMemory) (sym c.in-Err.ensures.back) (record {
         refused = no_room (form_of c.args.front.layout) g.H.Hashes.of c.args.name.now (g.S.Shelf.state c.args.shelf)
             (g.S.Shelf.state c.args.shelf);

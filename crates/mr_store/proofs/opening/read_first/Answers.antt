@@ -9,7 +9,7 @@ use Rattle.mr_pages.specs.declared.error.MapErr.TheVariants as errors
 use Rattle.mr_pages.specs.Opening.{of_shelf}
 use Rattle.mr_pages.specs.Page.{page_limit}
 use Rattle.mr_pages.specs.PageBytes.{layout_by, form_of, form_by}
-use Rattle.mr_pages.specs.Source.{IsFront}
+use Rattle.mr_pages.specs.Source.{IsFrontOfFile}
 use Rattle.mr_pages.proofs.Agreement.{whole_pages_are}
 use Rattle.mr_pages.proofs.Answered.{bytes_there, fails_of, form_by_is, front_of, once_by, once_failed, paged_of, size_there, small_is_odd, some_failed, some_odd, tells_at, told_by, told_odd, told_small, unread}
 use Rattle.mr_store.proofs.Openings.{size_fault, why_of, why_size, why_at}
@@ -92,7 +92,7 @@ returns-in-None-clause-refused g c =
     let h = g.H.Hashes.of in
     let sized = g.met.H.Hashes.sized in
     let odd = subst (λ f. is_odd_size f.size size ≡ true) (ap form_of c.by-layout.ensures.layout) c.in-None.ensures in
-    let front = subst (λ o. OfFile o name ⊥ (λ bytes. IsFront bytes room)) c.in_ok-size.ensures.files
+    let front = subst (λ o. OfFile o name ⊥ (λ bytes. IsFrontOfFile bytes room)) c.in_ok-size.ensures.files
     (front_of (g.S.Shelf.state c.size.new.self).files name size room
     (subst (λ o. OfFile o name ⊥ (λ bytes. size ≡ length bytes)) (sym c.in_ok-size.ensures.files)
     c.in_ok-size.ensures.length) c.in_ok-version.ensures.told) in
@@ -115,7 +115,7 @@ returns-in-None-clause-reads g c =
     let v = c.in_ok-version.version in
     let before = (g.S.Shelf.state c.args.shelf.now).reads in
     let mid = (g.S.Shelf.state c.read_front.new.shelf).reads in
-    let front = subst (λ o. OfFile o name ⊥ (λ bytes. IsFront bytes room)) c.in_ok-size.ensures.files
+    let front = subst (λ o. OfFile o name ⊥ (λ bytes. IsFrontOfFile bytes room)) c.in_ok-size.ensures.files
     (front_of (g.S.Shelf.state c.size.new.self).files name size room
     (subst (λ o. OfFile o name ⊥ (λ bytes. size ≡ length bytes)) (sym c.in_ok-size.ensures.files)
     c.in_ok-size.ensures.length) c.in_ok-version.ensures.told) in
@@ -141,14 +141,14 @@ returns-in-Some-clause-paged g c =
     (bytes_there told name size c.in_ok-size.ensures.bytes c.in_ok-size.ensures.length)
     (size_there told name size c.in_ok-size.ensures.length) c.in-Some.ensures.0 c.in-Some.ensures.1
 
-pub returns-in-Some-clause-some : goal.returns-in-Some-clause-some
-returns-in-Some-clause-some g c =
+pub returns-in-Some-clause-not_empty : goal.returns-in-Some-clause-not_empty
+returns-in-Some-clause-not_empty g c =
     let fits = c.by-layout.ensures.fits in
     subst (λ n. 1 ≤ n) (sym c.in-Some.ensures.1)
     (whole_pages_are c.by-layout.result.size c.in_ok-size.size (omega (arith, fits.room)) c.in-Some.ensures.0).some
 
-pub returns-in-Some-clause-few : goal.returns-in-Some-clause-few
-returns-in-Some-clause-few g c =
+pub returns-in-Some-clause-at_most : goal.returns-in-Some-clause-at_most
+returns-in-Some-clause-at_most g c =
     let fits = c.by-layout.ensures.fits in
     subst (λ n. n ≤ page_limit) (sym c.in-Some.ensures.1)
     (whole_pages_are c.by-layout.result.size c.in_ok-size.size (omega (arith, fits.room)) c.in-Some.ensures.0).few
@@ -158,7 +158,7 @@ returns-in-Some-clause-front g c =
     let name = c.args.name.now in
     let size = c.in_ok-size.size in
     let room = c.read_front.new.room in
-    subst (λ o. OfFile o name ⊥ (λ bytes. IsFront bytes room)) c.in_ok-size.ensures.files
+    subst (λ o. OfFile o name ⊥ (λ bytes. IsFrontOfFile bytes room)) c.in_ok-size.ensures.files
     (front_of (g.S.Shelf.state c.size.new.self).files name size room
     (subst (λ o. OfFile o name ⊥ (λ bytes. size ≡ length bytes)) (sym c.in_ok-size.ensures.files)
     c.in_ok-size.ensures.length) c.in_ok-version.ensures.told)

@@ -3,11 +3,11 @@ use Rattle.std.proofs.lemmas.List.{take_all, take_more, map-append}
 use Rattle.std.proofs.lemmas.Result.{err_from_is_err_and}
 use Rattle.mr_outside.specs.Faults.{next_count}
 use Rattle.mr_tree.specs.Digest.{by}
-use Rattle.mr_tree.specs.Nodes.{Standing, Shows}
-use Rattle.mr_tree.specs.View.{count_over, entry_of}
+use Rattle.mr_tree.specs.Nodes.{MapModel, ShowsNode}
+use Rattle.mr_tree.specs.View.{count_over, child_entry}
 use Rattle.mr_tree.specs.declared.tree.Tree.TheVariants as tree
 use Rattle.mr_tree.specs.declared.tree.Tree.TheOpen.{Leaf, Inner}
-use Rattle.mr_store.specs.Walk.{Suits, IsCounted, IsFull, CanWalk, GathersAll, WalkedAll}
+use Rattle.mr_store.specs.private.Walk.{SuitsEntry, IsCounted, IsFull, CanWalk, GathersAll, WalkedAll}
 use Rattle.mr_store.proofs.Walks.{leaf_walked, inner_walked, begun, gathers_more, next_walked, refuses_as, refuses_along, twice_refuses, may_next, next_can, next_count-≤, leaf_ended, if_err}
 use Rattle.mr_store.proofs.Counted.{one_fetch, some_fetches, fetched_more}
 use Rattle.mr_store.proofs.walk.+walk.Goals as goal
@@ -32,9 +32,9 @@ returns-then-level-eq0-clause-walked g t c =
     let x = by c.args.version hash in
     let is = c.records.ensures.leaf (sym c.level.ensures.value ∙ c.if-level-eq0.true)
     ∙ ap Leaf (sym c.records.ensures.value) in
-    let shows = subst (Shows hash s c.args.child.now) is c.in_ok-look.ensures.shows in
+    let shows = subst (ShowsNode hash s c.args.child.now) is c.in_ok-look.ensures.shows in
     let suits = subst (λ n. IsCounted c.args.root c.args.child.now (count_over c.args.version n) →
-    Suits x c.args.root c.args.child.now n) is c.in_ok-look.ensures.suits in
+    SuitsEntry x c.args.root c.args.child.now n) is c.in_ok-look.ensures.suits in
     leaf_ended c.walk_leaf.result _ _ _
     (λ d made. leaf_walked x hash s c.args.root c.args.child.now c.records.result.now c.args.seen.now
     c.walk_leaf.new.seen (g.N.Nodes.fetches c.args.nodes.now) (g.N.Nodes.fetches c.look.new.nodes) _
@@ -55,7 +55,7 @@ returns-then-level-eq0-clause-cause g t c =
     if_err c.walk_leaf.result _ _
     (λ e h. twice_refuses hash s c.args.root c.args.child.now c.records.result.now c.args.seen.now
     (g.N.Nodes.faults c.args.nodes.now) (g.N.Nodes.faults c.look.new.nodes) e c.requires.may
-    (subst (Shows hash s c.args.child.now) is c.in_ok-look.ensures.shows) c.in_ok-look.ensures.quiet h)
+    (subst (ShowsNode hash s c.args.child.now) is c.in_ok-look.ensures.shows) c.in_ok-look.ensures.quiet h)
     c.walk_leaf.ensures.twice
 
 pub returns-in_err-children-clause-fetched : goal.returns-in_err-children-clause-fetched
@@ -81,7 +81,7 @@ loop-one-init g t c =
           (GathersAll (g.G.Gather.gathers x) c.args.into.now c.args.into.now cs)) (sym c.in_ok-below.ensures.items)
           (begun x s c.args.seen.now c.args.into.now (g.G.Gather.gathers x) (f + 1)
           (g.N.Nodes.fetches c.look.new.nodes) (omega (arith, c.look.ensures.counted, next_count-≤ f)));
-      same = ap (map entry_of) c.in_ok-below.ensures.items;
+      same = ap (map child_entry) c.in_ok-below.ensures.items;
       fetched = λ told. omega (arith, c.look.ensures.counted);
     }
 
@@ -94,10 +94,10 @@ walk-requires g t c κs within =
     let is = c.children.ensures.inner (subst (λ n. 0 < n) c.level.ensures.value high)
     ∙ ap Inner (sym (own ∙ c.children.ensures.value)) in
     let same = g.met.N.Nodes.kept_stands c.args.nodes.now c.loop-one.nodes c.loop-one.invariant.kept in
-    let shows = subst (Shows hash s c.args.child.now) is c.in_ok-look.ensures.shows in
+    let shows = subst (ShowsNode hash s c.args.child.now) is c.in_ok-look.ensures.shows in
     let may = may_next hash s (g.N.Nodes.stands c.loop-one.nodes) c.args.child.now c.one-item.result
     c.deref-one-items.result.now c.loop-one.one-index same shows c.loop-one-test.true c.one-item.is in
-    let one = ap (λ (y : Standing). y.version) same ∙ c.requires.version in
+    let one = ap (λ (y : MapModel). y.version) same ∙ c.requires.version in
     (search rules, (search rules, (search rules, (search rules, (one, may)))))
 
 pub returns-in_err-made-clause-fetched : goal.returns-in_err-made-clause-fetched
@@ -110,9 +110,9 @@ returns-in_err-made-clause-fetched g t c =
     let is = c.children.ensures.inner (subst (λ n. 0 < n) c.level.ensures.value high)
     ∙ ap Inner (sym (own ∙ c.children.ensures.value)) in
     let same = g.met.N.Nodes.kept_stands c.args.nodes.now c.loop-one.nodes c.loop-one.invariant.kept in
-    let shows = subst (Shows hash s c.args.child.now) is c.in_ok-look.ensures.shows in
+    let shows = subst (ShowsNode hash s c.args.child.now) is c.in_ok-look.ensures.shows in
     let suits = subst (λ n. IsCounted c.args.root c.args.child.now (count_over c.args.version n) →
-    Suits x c.args.root c.args.child.now n) is c.in_ok-look.ensures.suits in
+    SuitsEntry x c.args.root c.args.child.now n) is c.in_ok-look.ensures.suits in
     λ told. some_fetches hash s c.args.child.now c.requires.may told c.deref-one-items.result.now
     c.deref-one-items.result.now refl shows (c.loop-one.one-index + 1)
     (g.N.Nodes.fetches c.args.nodes.now) (g.N.Nodes.fetches c.walk.new.nodes)
@@ -131,9 +131,9 @@ returns-in_err-push-clause-fetched g t c =
     let is = c.children.ensures.inner (subst (λ n. 0 < n) c.level.ensures.value high)
     ∙ ap Inner (sym (own ∙ c.children.ensures.value)) in
     let same = g.met.N.Nodes.kept_stands c.args.nodes.now c.loop-one.nodes c.loop-one.invariant.kept in
-    let shows = subst (Shows hash s c.args.child.now) is c.in_ok-look.ensures.shows in
+    let shows = subst (ShowsNode hash s c.args.child.now) is c.in_ok-look.ensures.shows in
     let suits = subst (λ n. IsCounted c.args.root c.args.child.now (count_over c.args.version n) →
-    Suits x c.args.root c.args.child.now n) is c.in_ok-look.ensures.suits in
+    SuitsEntry x c.args.root c.args.child.now n) is c.in_ok-look.ensures.suits in
     λ told. some_fetches hash s c.args.child.now c.requires.may told c.deref-one-items.result.now
     c.deref-one-items.result.now refl shows (c.loop-one.one-index + 1)
     (g.N.Nodes.fetches c.args.nodes.now) (g.N.Nodes.fetches c.walk.new.nodes)
@@ -152,9 +152,9 @@ returns-in_err-id-clause-fetched g t c =
     let is = c.children.ensures.inner (subst (λ n. 0 < n) c.level.ensures.value high)
     ∙ ap Inner (sym (own ∙ c.children.ensures.value)) in
     let same = g.met.N.Nodes.kept_stands c.args.nodes.now c.loop-one.nodes c.loop-one.invariant.kept in
-    let shows = subst (Shows hash s c.args.child.now) is c.in_ok-look.ensures.shows in
+    let shows = subst (ShowsNode hash s c.args.child.now) is c.in_ok-look.ensures.shows in
     let suits = subst (λ n. IsCounted c.args.root c.args.child.now (count_over c.args.version n) →
-    Suits x c.args.root c.args.child.now n) is c.in_ok-look.ensures.suits in
+    SuitsEntry x c.args.root c.args.child.now n) is c.in_ok-look.ensures.suits in
     λ told. some_fetches hash s c.args.child.now c.requires.may told c.deref-one-items.result.now
     c.deref-one-items.result.now refl shows c.loop-one.one-index
     (g.N.Nodes.fetches c.args.nodes.now) (g.N.Nodes.fetches c.loop-one.nodes) (c.loop-one.invariant.fetched told)
@@ -169,9 +169,9 @@ returns-in_ok-id-clause-fetched g t c =
     let is = c.children.ensures.inner (subst (λ n. 0 < n) c.level.ensures.value high)
     ∙ ap Inner (sym (own ∙ c.children.ensures.value)) in
     let same = g.met.N.Nodes.kept_stands c.args.nodes.now c.loop-one.nodes c.loop-one.invariant.kept in
-    let shows = subst (Shows hash s c.args.child.now) is c.in_ok-look.ensures.shows in
+    let shows = subst (ShowsNode hash s c.args.child.now) is c.in_ok-look.ensures.shows in
     let suits = subst (λ n. IsCounted c.args.root c.args.child.now (count_over c.args.version n) →
-    Suits x c.args.root c.args.child.now n) is c.in_ok-look.ensures.suits in
+    SuitsEntry x c.args.root c.args.child.now n) is c.in_ok-look.ensures.suits in
     λ told. some_fetches hash s c.args.child.now c.requires.may told c.deref-one-items.result.now
     c.deref-one-items.result.now refl shows c.loop-one.one-index
     (g.N.Nodes.fetches c.args.nodes.now) (g.N.Nodes.fetches c.loop-one.nodes) (c.loop-one.invariant.fetched told)
@@ -186,9 +186,9 @@ returns-in_err-made-clause-cause g t c =
     let is = c.children.ensures.inner (subst (λ n. 0 < n) c.level.ensures.value high)
     ∙ ap Inner (sym (own ∙ c.children.ensures.value)) in
     let same = g.met.N.Nodes.kept_stands c.args.nodes.now c.loop-one.nodes c.loop-one.invariant.kept in
-    let shows = subst (Shows hash s c.args.child.now) is c.in_ok-look.ensures.shows in
+    let shows = subst (ShowsNode hash s c.args.child.now) is c.in_ok-look.ensures.shows in
     let suits = subst (λ n. IsCounted c.args.root c.args.child.now (count_over c.args.version n) →
-    Suits x c.args.root c.args.child.now n) is c.in_ok-look.ensures.suits in
+    SuitsEntry x c.args.root c.args.child.now n) is c.in_ok-look.ensures.suits in
     let p = err_from_is_err_and c.from_residual-in_err-made.result c.from_residual-in_err-made.ensures.1 in
     rw (p.1, p.2) (refuses_along (λ y. CanWalk y false c.loop-one.seen c.one-item.result)
     (CanWalk s c.args.root c.args.seen.now c.args.child.now) s (g.N.Nodes.stands c.loop-one.nodes)
@@ -210,9 +210,9 @@ loop-one-preserved g t c =
     let is = c.children.ensures.inner (subst (λ n. 0 < n) c.level.ensures.value high)
     ∙ ap Inner (sym (own ∙ c.children.ensures.value)) in
     let same = g.met.N.Nodes.kept_stands c.args.nodes.now c.loop-one.nodes c.loop-one.invariant.kept in
-    let shows = subst (Shows hash s c.args.child.now) is c.in_ok-look.ensures.shows in
+    let shows = subst (ShowsNode hash s c.args.child.now) is c.in_ok-look.ensures.shows in
     let suits = subst (λ n. IsCounted c.args.root c.args.child.now (count_over c.args.version n) →
-    Suits x c.args.root c.args.child.now n) is c.in_ok-look.ensures.suits in
+    SuitsEntry x c.args.root c.args.child.now n) is c.in_ok-look.ensures.suits in
     let G = g.G.Gather.gathers x in
     let list = take_more c.deref-one-items.result.now c.loop-one.one-index c.one-item.result c.loop-one-test.true in
     record {
@@ -231,11 +231,13 @@ loop-one-preserved g t c =
           (λ us one before next. subst (λ cs. GathersAll G c.args.into.now c.walk.new.into cs (us ++ one ∷ []))
           (sym c.in_ok-push.ensures.items) (gathers_more G c.args.into.now c.loop-one.into c.walk.new.into
           c.loop-one.below.items us c.in_ok-made.made one before next));
-      same = ap (map entry_of) c.in_ok-push.ensures.items
-          ∙ map-append entry_of c.loop-one.below.items (c.in_ok-made.made ∷ [])
+      same = ap (map child_entry) c.in_ok-push.ensures.items
+          ∙ map-append child_entry c.loop-one.below.items (c.in_ok-made.made ∷ [])
           ∙ (λ i. c.loop-one.invariant.same i ++ c.in_ok-made.ensures.same i ∷ [])
-          ∙ sym (map-append entry_of (take c.loop-one.one-index c.deref-one-items.result.now) (c.one-item.result ∷ []))
-          ∙ ap (map entry_of) (ap (λ y. take c.loop-one.one-index c.deref-one-items.result.now ++ y ∷ []) c.one-item.is
+          ∙ sym (map-append child_entry (take c.loop-one.one-index c.deref-one-items.result.now)
+          (c.one-item.result ∷ []))
+          ∙ ap (map child_entry) (ap (λ y. take c.loop-one.one-index c.deref-one-items.result.now ++ y ∷ [])
+          c.one-item.is
           ∙ sym list);
       fetched = λ told. fetched_more s (g.N.Nodes.stands c.loop-one.nodes) c.deref-one-items.result.now
           c.loop-one.one-index c.one-item.result (next_count (g.N.Nodes.fetches c.args.nodes.now))
@@ -253,9 +255,9 @@ returns-in_ok-id-clause-walked g t c =
     let is = c.children.ensures.inner (subst (λ n. 0 < n) c.level.ensures.value high)
     ∙ ap Inner (sym (own ∙ c.children.ensures.value)) in
     let same = g.met.N.Nodes.kept_stands c.args.nodes.now c.loop-one.nodes c.loop-one.invariant.kept in
-    let shows = subst (Shows hash s c.args.child.now) is c.in_ok-look.ensures.shows in
+    let shows = subst (ShowsNode hash s c.args.child.now) is c.in_ok-look.ensures.shows in
     let suits = subst (λ n. IsCounted c.args.root c.args.child.now (count_over c.args.version n) →
-    Suits x c.args.root c.args.child.now n) is c.in_ok-look.ensures.suits in
+    SuitsEntry x c.args.root c.args.child.now n) is c.in_ok-look.ensures.suits in
     let whole = take_all c.loop-one.one-index c.deref-one-items.result.now (omega arith) in
     let all = subst (λ cs. WalkedAll x s cs c.args.seen.now c.loop-one.seen (g.N.Nodes.fetches c.args.nodes.now + 1)
     (g.N.Nodes.fetches c.loop-one.nodes)
@@ -265,4 +267,4 @@ returns-in_ok-id-clause-walked g t c =
     (g.N.Nodes.fetches c.args.nodes.now) (g.N.Nodes.fetches c.loop-one.nodes) _ _ c.requires.may shows suits all
     (λ fit us made. subst (λ d. g.G.Gather.gathers x c.args.into.now c.inner.new.self d (tree.Inner us))
     (sym c.moved_to.ensures) (c.in_ok-id.ensures.gathers x c.args.into.now c.args.root c.deref-one-items.result.now us
-    fit (c.loop-one.invariant.same ∙ ap (map entry_of) whole) made))
+    fit (c.loop-one.invariant.same ∙ ap (map child_entry) whole) made))

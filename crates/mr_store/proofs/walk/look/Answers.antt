@@ -1,6 +1,6 @@
 use Rattle.std.proofs.Common.{sym, subst, ◌∙◌}
 use Rattle.mr_tree.specs.View as view
-use Rattle.mr_tree.specs.Nodes.{Standing}
+use Rattle.mr_tree.specs.Nodes.{MapModel}
 use Rattle.mr_tree.proofs.Told.{told_counts}
 use Rattle.mr_store.proofs.Walks.{suits_of, unfit_refuses, fetch_refuses}
 use Rattle.mr_store.proofs.walk.look.Goals as goal

@@ -4,8 +4,8 @@ use Rattle.std.proofs.lemmas.List.Elements.{All-from_recursion}
 use Rattle.mr_record.specs.declared.version.Version.TheVariants.{Two}
 use Rattle.mr_tree.specs.Tree.{level, first_level, records}
 use Rattle.mr_tree.specs.Digest.{by, entry, inner_tag}
-use Rattle.mr_tree.specs.Gathers.{Gathers, of_entry}
-use Rattle.mr_tree.specs.Slim.{IsSlim, IsSlimNode}
+use Rattle.mr_tree.specs.HasHashed.{HasHashed, of_entry}
+use Rattle.mr_tree.specs.private.Slim.{IsSlim, IsSlimNode}
 use Rattle.mr_tree.specs.WellFormed.{HasLayers}
 use Rattle.mr_tree.specs.declared.entry.Entry.{Entry}
 use Rattle.mr_tree.specs.declared.tree.Tree.{Tree}
@@ -78,7 +78,7 @@ add_entry-requires g t c = record {
 
 pub loop-child-preserved : goal.loop-child-preserved
 loop-child-preserved g t c = record {
-  all = subst (Gathers (g.H.Hashes.holds c.add_entry.new.self.hasher) c.add_entry.new.self.rect
+  all = subst (HasHashed (g.H.Hashes.holds c.add_entry.new.self.hasher) c.add_entry.new.self.rect
       c.add_entry.new.self.mask c.add_entry.new.self.count
       (inner_tag ∷ level c.args.tree.now ∷ length c.as_slice-child-items.result.now ∷ []))
       (pieces_more (λ (u : Tree). of_entry c.args.version (entry (by c.args.version g.H.Hashes.of) u))
@@ -105,7 +105,7 @@ returns-after-loop-child g t c =
     items (level c.args.tree.now) c.close.result
     (ap level (c.in-Inner.is ∙ ap variants.Inner (sym c.as_slice-child-items.ensures)) ∙ sym (level_over-Inner s items))
     (c.close.ensures.level ∙ c.height-level.ensures)
-    (subst (Gathers (g.H.Hashes.holds c.loop-child.all.hasher) c.close.result.rect c.close.result.mask
+    (subst (HasHashed (g.H.Hashes.holds c.loop-child.all.hasher) c.close.result.rect c.close.result.mask
     c.close.result.count (inner_tag ∷ level c.args.tree.now ∷ length items ∷ []))
     (ap (map (λ (u : Tree). of_entry c.args.version (entry s u))) all)
     (record {

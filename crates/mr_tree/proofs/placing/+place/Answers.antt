@@ -2,7 +2,7 @@ use Rattle.std.proofs.Common.{rules, ◌≡◌, ◌<◌, length, subst, sym, ap,
 use Rattle.std.proofs.lemmas.List.{take_all}
 use Rattle.mr_tree.specs.Tree.{level, records}
 use Rattle.mr_tree.specs.Snapshot.{trees, tree_over}
-use Rattle.mr_tree.specs.Sound.{IsSound, IsSoundNode}
+use Rattle.mr_tree.specs.private.Sound.{IsSound, IsSoundNode}
 use Rattle.mr_tree.specs.declared.stored.Stored.TheVariants.{Children}
 use Rattle.mr_tree.specs.declared.tree.Tree.TheVariants as variants
 use Rattle.mr_tree.specs.declared.tree.Tree.TheOpen.{Leaf}

@@ -1,7 +1,7 @@
 use Rattle.std.proofs.Common.{◌∷◌, ◌++◌, [], map, subst, sym, ap, ◌∙◌}
 use Rattle.std.specs.Prelude.{IsSome}
 use Rattle.mr_tree.specs.Digest.{by, entry_step}
-use Rattle.mr_tree.specs.View.{entry_of}
+use Rattle.mr_tree.specs.View.{child_entry}
 use Rattle.mr_tree.specs.Snapshot.{trees, tree_over, IsPlaced}
 use Rattle.mr_tree.specs.declared.entry.Entry.{Entry}
 use Rattle.mr_tree.specs.declared.stored.Stored.TheVariants.{Children}
@@ -13,7 +13,7 @@ pub child_with-requires : goal.child_with-requires
 child_with-requires g c =
     let s = by c.args.version g.H.Hashes.of in
     subst (λ (e : Entry). IsSome e.rect) (sym (c.inner_entry-entry.ensures
-    ∙ ap (λ cs. entry_step s (Inner (map entry_of cs))) c.as_slice-2.ensures.value))
+    ∙ ap (λ cs. entry_step s (Inner (map child_entry cs))) c.as_slice-2.ensures.value))
     (inner_there s c.args.children.items c.requires.shape.some)
 
 pub returns : goal.returns
@@ -27,4 +27,4 @@ returns g c =
     (inner_placed s ns cs c.child_with.result c.requires.linked c.requires.shape c.requires.told c.requires.links
     (c.child_with.ensures.id ∙ c.in_ok-id.ensures.id)
     (c.child_with.ensures.entry ∙ c.inner_entry-entry.ensures
-    ∙ ap (λ cs. entry_step s (Inner (map entry_of cs))) c.as_slice-2.ensures.value))
+    ∙ ap (λ cs. entry_step s (Inner (map child_entry cs))) c.as_slice-2.ensures.value))

@@ -3,7 +3,7 @@ use Rattle.std.specs.Prelude.{None}
 use Rattle.mr_query.specs.declared.query.Query.TheVariants.{Window}
 use Rattle.mr_proof.specs.declared.way.Way.{Way}
 use Rattle.mr_proof.specs.declared.way.Way.TheVariants as ways
-use Rattle.mr_proof.specs.Tight.{question, seen_at}
+use Rattle.mr_proof.specs.Tight.{question, key_at}
 use Rattle.mr_proof.proofs.Laws.{is_lawful}
 use Rattle.mr_unit_tests.specs.Outside.{whole_for_skipped}
 use Rattle.mr_unit_tests.proofs.questions.is_lawful.Goals as goal
@@ -24,5 +24,5 @@ returns c =
       around = refl;
       circle = tt;
       narrow = λ radius a b o n f g inside closed.
-          still (way (seen_at a)) (way (seen_at b)) (law.narrow None a b o n f g inside) closed;
+          still (way (key_at a)) (way (key_at b)) (law.narrow None a b o n f g inside) closed;
     }

@@ -1,6 +1,6 @@
 use Rattle.std.proofs.Common.{refl, sym, ◌∙◌}
 use Rattle.mr_proof.specs.Fields.{version}
-use Rattle.mr_tree.specs.Gathers.{of_entry}
+use Rattle.mr_tree.specs.HasHashed.{of_entry}
 use Rattle.mr_check.proofs.open_node.OpenNode.add_entry.Goals as goal
 
 pub returns : goal.returns

@@ -3,8 +3,8 @@ use Rattle.mr_tree.specs.Digest.{by}
 use Rattle.mr_store.specs.CachedFile.{state_of}
 use Rattle.mr_edit.specs.Changing.{CanReplay}
 use Rattle.mr_edit.specs.Shelves.{HasShelfCause}
-use Rattle.mr_draft.specs.Draft.{drawn, draft_of}
-use Rattle.mr_draft.specs.Sheets.{book_of}
+use Rattle.mr_draft.specs.Draft.{draft_state, draft_of}
+use Rattle.mr_draft.specs.Sheets.{page_map_of}
 use Rattle.mr_draft.proofs.Ends.{keeps_draft, blames_none, can_replay, applied, applied_within, is_top, off_none, on_any}
 use Rattle.mr_draft.proofs.draft.Draft.apply_batch.Goals as goal
 
@@ -13,7 +13,8 @@ returns-in_err-free-clause-kept g c =
     let s = c.args.self.now in
     let t = c.replay_any.new.sheets in
     let k = c.replay_any.ensures.kept in
-    keeps_draft g.H.Hashes.of (draft_of s) (drawn t.file s.free s.root s.count s.batch) t.sheets.sized k.name k.pages
+    keeps_draft g.H.Hashes.of (draft_of s) (draft_state t.file s.free s.root s.count s.batch) t.sheets.sized k.name
+    k.pages
     k.files k.faults k.reads k.layout
     t.sheets.file_
 
@@ -23,20 +24,21 @@ returns-clause-kept g c =
     let t = c.replay_any.new.sheets in
     let k = c.replay_any.ensures.kept in
     keeps_draft g.H.Hashes.of (draft_of s)
-    (drawn t.file c.in_ok-free.free c.in_ok-free.root c.len.result c.number-self.result) t.sheets.sized k.name k.pages
+    (draft_state t.file c.in_ok-free.free c.in_ok-free.root c.len.result c.number-self.result) t.sheets.sized k.name
+    k.pages
     k.files k.faults k.reads k.layout
     t.sheets.file_
 
-pub returns-in_err-free-clause-sound : goal.returns-in_err-free-clause-sound
-returns-in_err-free-clause-sound g c = λ u can.
+pub returns-in_err-free-clause-blames_none_told : goal.returns-in_err-free-clause-blames_none_told
+returns-in_err-free-clause-blames_none_told g c = λ u can.
     let s = c.args.self.now in
     let t = c.replay_any.new.sheets in
     let p = err_from_is_err_and c.from_residual.result c.from_residual.ensures.1 in
     rw (p.1, p.2)
-    (blames_none (CanReplay (by s.sheets.file.layout.version g.H.Hashes.of) (book_of s.sheets.file) s.free s.root
+    (blames_none (CanReplay (by s.sheets.file.layout.version g.H.Hashes.of) (page_map_of s.sheets.file) s.free s.root
     c.args.dir.now c.args.batch.now) (state_of s.sheets.file).faults (state_of t.file).faults
     c.in_err-free.field-0.0 (can_replay g.H.Hashes.of (draft_of s) c.args.dir.now c.args.batch.now u can)
-    c.in_err-free.ensures.cause c.in_err-free.ensures.sound)
+    c.in_err-free.ensures.cause c.in_err-free.ensures.blames_none_told)
 
 pub returns-clause-applies : goal.returns-clause-applies
 returns-clause-applies g c =
@@ -44,14 +46,14 @@ returns-clause-applies g c =
     let t = c.replay_any.new.sheets in
     on_any c.judge_top.result
     (applied g.H.Hashes.of (draft_of s) c.args.dir.now c.args.batch.now
-    (drawn t.file c.in_ok-free.free c.in_ok-free.root c.len.result c.number-self.result) c.replay_any.new.dir
+    (draft_state t.file c.in_ok-free.free c.in_ok-free.root c.len.result c.number-self.result) c.replay_any.new.dir
     c.replay_any.ensures.kept.layout c.in_ok-free.ensures.replays c.len.ensures.exact)
 
-pub returns-clause-sound : goal.returns-clause-sound
-returns-clause-sound g c = λ u can.
+pub returns-clause-blames_none_told : goal.returns-clause-blames_none_told
+returns-clause-blames_none_told g c = λ u can.
     let s = c.args.self.now in
     let t = c.replay_any.new.sheets in
-    let after = drawn t.file c.in_ok-free.free c.in_ok-free.root c.len.result c.number-self.result in
+    let after = draft_state t.file c.in_ok-free.free c.in_ok-free.root c.len.result c.number-self.result in
     let a = applied g.H.Hashes.of (draft_of s) c.args.dir.now c.args.batch.now after c.replay_any.new.dir
     c.replay_any.ensures.kept.layout c.in_ok-free.ensures.replays c.len.ensures.exact u can in
     off_none (HasShelfCause (state_of s.sheets.file).faults (state_of t.file).faults)
@@ -73,8 +75,8 @@ returns-clause-within g c =
 pub returns-clause-low : goal.returns-clause-low
 returns-clause-low g c = on_any c.judge_top.result c.in_ok-free.ensures.low
 
-pub returns-in_err-free-clause-few : goal.returns-in_err-free-clause-few
-returns-in_err-free-clause-few g c = c.replay_any.new.sheets.sheets.few
+pub returns-in_err-free-clause-at_most : goal.returns-in_err-free-clause-at_most
+returns-in_err-free-clause-at_most g c = c.replay_any.new.sheets.sheets.few
 
-pub returns-clause-few : goal.returns-clause-few
-returns-clause-few g c = c.replay_any.new.sheets.sheets.few
+pub returns-clause-at_most : goal.returns-clause-at_most
+returns-clause-at_most g c = c.replay_any.new.sheets.sheets.few

@@ -4,7 +4,7 @@ use Rattle.mr_geom.specs.Rectangle.{Rectangle, IsOrdered}
 use Rattle.std.specs.Prelude.{unsigned_abs}
 use Rattle.std.specs.Int.{int_max, int_min}
 use Rattle.mr_geom.specs.Distance.{square, IsLeastDistance}
-use Rattle.mr_geom.specs.Plane.{Holds}
+use Rattle.mr_geom.specs.Plane.{HoldsPoint}
 use Rattle.mr_geom.proofs.Distances.{IsLeastDistance-least_squared_distance, least_squared_distance-0, least_squared_distance-parts}
 use Rattle.mr_geom.proofs.rect.Rect.dist2.Goals as goal
 
@@ -40,5 +40,5 @@ returns-clause-least c =
 pub returns-clause-within : goal.returns-clause-within
 returns-clause-within c =
     let ordered = subst IsOrdered c.self.view_is c.self.invariant in
-    subst (λ n. (n ≡ 0) ↔ Holds c.args.self.now c.args.p.now) (sym (returns-clause-value c))
+    subst (λ n. (n ≡ 0) ↔ HoldsPoint c.args.self.now c.args.p.now) (sym (returns-clause-value c))
     (least_squared_distance-0 c.args.self.now c.args.p.now ordered)

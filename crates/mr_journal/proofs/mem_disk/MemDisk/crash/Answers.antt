@@ -1,8 +1,8 @@
 use Rattle.std.proofs.Common.{take, length, ap, sym, ◌∙◌}
 use Rattle.mr_journal.specs.declared.disk.Area.TheVariants.{Map, Journal}
 use Rattle.mr_journal.specs.MemoryDisk.{area_after}
-use Rattle.mr_journal.specs.Traced.{trace_of}
-use Rattle.mr_journal.specs.MemoryLaws.{fine_stored}
+use Rattle.mr_journal.specs.private.Traced.{trace_of}
+use Rattle.mr_journal.specs.private.MemoryLaws.{fine_stored}
 use Rattle.mr_journal.proofs.Picking.{picked_at, picked_may}
 use Rattle.mr_journal.proofs.mem_disk.MemDisk.crash.Goals as goal
 

@@ -4,9 +4,9 @@ use Rattle.mr_journal.specs.Images.{InArea}
 use Rattle.mr_journal.specs.Torn.{TornAt}
 use Rattle.mr_journal.specs.Images.{written}
 use Rattle.mr_journal.specs.MemoryDisk.{first_image, carried_out, contents_after}
-use Rattle.mr_journal.specs.Traced.{write_call}
+use Rattle.mr_journal.specs.private.Traced.{write_call}
 use Rattle.mr_journal.proofs.Replaying.{kept_passes, kept_held, untouched, wrote_steps_at, wrote_held, written_torn, rose_next, more_next, no_fault}
-use Rattle.mr_journal.specs.MemoryLaws.{carried_out_short}
+use Rattle.mr_journal.specs.private.MemoryLaws.{carried_out_short}
 use Rattle.mr_journal.proofs.mem_disk.MemDiskDisk.write_at.Goals as goal
 
 pub returns-in_err-bytes-clause-refused : goal.returns-in_err-bytes-clause-refused

@@ -1,6 +1,6 @@
 use Rattle.std.proofs.Common.{◌≡◌, refl, arith, rules}
 use Rattle.std.specs.String.{string_bytes}
-use Rattle.mr_journal.specs.FileChanges.{name_of}
+use Rattle.mr_journal.specs.private.FileChanges.{name_of}
 use Rattle.mr_journal.proofs.Shelving.{wrote_kept, under, refused_under, written_under, shelf_wrote}
 use Rattle.mr_journal.proofs.shelf_disk.ShelfDiskDisk.write_at.Goals as goal
 

@@ -8,5 +8,5 @@ returns-clause-next g c =
     let s = c.args.self.now in
     shelf_gives (form_of s.layout) (omega (arith, s.fits.room)) s.name.now s.shelf.ghost_name s.pages c.args.page
     c.page_into.new.into (g.S.Shelf.state s.shelf.now) _
-    s.paged c.requires c.in_ok-page_into.ensures.told c.in_ok-page_into.ensures.is
+    s.paged c.requires c.in_ok-page_into.ensures.told c.in_ok-page_into.ensures.page
     (λ f h. c.free_on.ensures.exact ∙ sym h.free)

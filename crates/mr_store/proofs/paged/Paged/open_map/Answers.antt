@@ -1,9 +1,9 @@
 use Rattle.std.proofs.Common.{arith, subst, sym}
 use Rattle.std.specs.Prelude.{⊤}
 use Rattle.mr_outside.specs.Told.{OfFile}
-use Rattle.mr_record.specs.Bytes.{AreBytes}
+use Rattle.mr_record.specs.private.Bytes.{AreBytes}
 use Rattle.mr_pages.specs.PageBytes.{form_of}
-use Rattle.mr_pages.specs.Source.{IsFront, IsPaged}
+use Rattle.mr_pages.specs.Source.{IsFrontOfFile, IsPaged}
 use Rattle.mr_store.proofs.Openings.{matched, opens_from, refuses_from}
 use Rattle.mr_store.proofs.paged.Paged.open_map.Goals as goal
 
@@ -18,7 +18,7 @@ opened-requires-clause-paged g c κs within =
 
 pub opened-requires-clause-front : goal.opened-requires-clause-front
 opened-requires-clause-front g c κs within =
-    subst (λ o. OfFile o c.args.name.now ⊥ (λ bytes. IsFront bytes c.read_first.new.room))
+    subst (λ o. OfFile o c.args.name.now ⊥ (λ bytes. IsFrontOfFile bytes c.read_first.new.room))
     (sym c.read_first.ensures.files) c.in-Ok.ensures.front
 
 pub returns-in-Err : goal.returns-in-Err
@@ -51,7 +51,7 @@ returns-in-Ok g c =
           (λ p o. opens_from g.H.Hashes.of name room layout pages before middle e.version r.files e.quiet r.more r.one
           e.large e.front e.paged p o)
           (λ x o. refuses_from g.H.Hashes.of name room layout pages before middle e.version r.files e.quiet r.more r.one
-          e.large e.front e.paged e.few c.are_sized.ensures r.are (g.S.Shelf.state x.0) x.1 o)
+          e.large e.front e.paged e.at_most c.are_sized.ensures r.are (g.S.Shelf.state x.0) x.1 o)
           c.opened.ensures.opened;
       unrefused = c.opened.ensures.unrefused;
     }

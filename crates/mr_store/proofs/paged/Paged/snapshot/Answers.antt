@@ -1,7 +1,7 @@
 use Rattle.std.proofs.Common.{subst, sym}
 use Rattle.std.specs.Prelude.{IfOk}
 use Rattle.mr_tree.specs.Nodes.{IsTop}
-use Rattle.mr_tree.specs.Snapshot.{standing}
+use Rattle.mr_tree.specs.Snapshot.{snapshot_model}
 use Rattle.mr_pages.proofs.HeadLaws.{form_is}
 use Rattle.mr_store.specs.CachedFile.{state_of, name_of, page_form, entries_of}
 use Rattle.mr_store.specs.Paged.{stands_for}
@@ -21,5 +21,5 @@ copied-requires g c =
 
 pub returns-clause-says : goal.returns-clause-says
 returns-clause-says g c =
-    subst (λ top. IfOk c.copied.result (λ p. IsSaid g.H.Hashes.of top (standing p.nodes.items p.top)))
+    subst (λ top. IfOk c.copied.result (λ p. IsSaid g.H.Hashes.of top (snapshot_model p.nodes.items p.top)))
     c.top_of-top.ensures c.copied.ensures.says

@@ -1,9 +1,0 @@
-use Rattle.std.proofs.Common.{refl}
-use Rattle.mr_check.proofs.intake.Intake.new.Goals as goal
-
-pub returns : goal.returns
-returns g c = record {
-  asked = refl;
-  is = c.is_query.ensures;
-  took = c.in_ok-collector.ensures;
-}

@@ -1,0 +1,11 @@
+use Rattle.std.proofs.Common.{subst}
+use Rattle.mr_command.specs.Ending.{RunsPlan}
+use Rattle.mr_plan.specs.Plan.{comes}
+use Rattle.mr_plan.specs.Say.{say_map}
+use Rattle.mr_command.proofs.build_command.build_records.Goals as goal
+
+pub returns : goal.returns
+returns g c =
+    subst (λ tree. RunsPlan (comes (say_map c.args.version g.H.Hashes.of c.args.map.now tree 0))
+    (g.S.Shelf.state c.args.shelf.now)
+    (g.S.Shelf.state c.save_map.new.shelf) c.save_map.result) c.in_ok-made.ensures.exact c.save_map.ensures

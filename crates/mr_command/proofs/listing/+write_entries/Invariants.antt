@@ -1,5 +1,0 @@
-use Rattle.std.proofs.Common.{length}
-use Rattle.mr_command.proofs.listing.+write_entries.Given as goal
-
-abbrev pub decreases-write_entries : goal.decreases-write_entries
-decreases-write_entries g l = length l.entries.now

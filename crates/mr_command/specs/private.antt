@@ -1,0 +1,4 @@
+pub mod Bundled
+pub mod Listing
+pub mod Taking
+pub mod Applying

@@ -1,0 +1,97 @@
+//! The command `serve`.
+
+ghost use Rattle.std.specs.Prelude.{◌≤◌, length, All, Ok};
+ghost use Rattle.mr_query.specs.Script.{script_limit};
+ghost use Rattle.mr_query.specs.Word.{IsAskable};
+ghost use Rattle.mr_command.specs.Ending.{RunsPlan, IsCarriedOut};
+ghost use Rattle.mr_plan.specs.Plan.{comes};
+ghost use Rattle.mr_plan.specs.Say.{opened_in, say_script, say_serve_of};
+ghost use Rattle.mr_plan.specs.declared.words.Command.TheVariants as commands;
+
+use crate::bundling::{bundle_size, save_proofs};
+use crate::ending::{Ending, Halt};
+use crate::fetching::unfetched;
+use crate::input::queries_from;
+use crate::opening::open_provable;
+use mr_bundle::prove_all;
+use mr_outside::{Gate, Shelf};
+use mr_plan::served_line;
+use mr_query::Query;
+use mr_tree::{Hash32, Snapshot};
+use std::alloc::Global;
+use std::thread::Threads;
+
+// The bundle for some queries on a map in memory, in a file, and the line on it.
+fn serve_queries<H: Hash32, S: Shelf, G: Gate, R: Threads + Sync>(
+    rt: &R,
+    alloc: Global,
+    nodes: &Snapshot<H>,
+    queries: &[Query],
+    bundle: &str,
+    shelf: &mut S,
+    gate: &G,
+) -> Result<Ending, Halt>
+    requires askable { All IsAskable queries.now }
+    requires few { length queries.now ≤ script_limit }
+    ensures { let map = opened_in nodes.now.nodes.items nodes.now.top in
+        RunsPlan (comes (say_serve_of H.of bundle.now map (Ok queries.now))) (S.state shelf.old)
+        (S.state shelf.new) result }
+{
+    let list = prove_all::<H, G, R>(rt, alloc, nodes, queries, gate)?;
+    let line = served_line(alloc, queries.len(), bundle_size(&list))?;
+    save_proofs(alloc, line, bundle, &list, shelf)
+}
+
+// The same for the script in a file.
+fn serve_script<H: Hash32, S: Shelf, G: Gate, R: Threads + Sync>(
+    rt: &R,
+    alloc: Global,
+    nodes: &Snapshot<H>,
+    script: &str,
+    bundle: &str,
+    shelf: &mut S,
+    gate: &G,
+) -> Result<Ending, Halt>
+    ensures { let map = opened_in nodes.now.nodes.items nodes.now.top in
+        RunsPlan (say_script H.of script.now bundle.now map) (S.state shelf.old)
+        (S.state shelf.new) result }
+{
+    match queries_from(alloc, script, shelf) {
+        Ok(queries) => {
+            serve_queries::<H, S, G, R>(rt, alloc, nodes, &queries, bundle, shelf, gate)
+        }
+        Err(came) => came,
+    }
+}
+
+/// The proofs for the queries of a script on the map in a file, written to another one. The map is
+/// taken into memory, once, and the script is read behind it. The shelf is handed back.
+pub fn serve<H: Hash32, S: Shelf, G: Gate, R: Threads + Sync>(
+    rt: &R,
+    alloc: Global,
+    map: &str,
+    script: &str,
+    bundle: &str,
+    shelf: S,
+    gate: &G,
+) -> (Result<Ending, Halt>, S)
+    ensures { IsCarriedOut H.of (commands.Serve map.entry script.entry bundle.entry) (S.state shelf)
+        (S.state result.1) result.0 }
+{
+    match open_provable::<H, S>(alloc, map, shelf) {
+        Err(ended) => ended,
+        Ok(paged) => {
+            let mut paged = paged;
+            match paged.snapshot() {
+                Err(error) => (unfetched(alloc, map, &error), paged.close()),
+                Ok(nodes) => {
+                    let mut shelf = paged.close();
+                    let came = serve_script::<H, S, G, R>(
+                        rt, alloc, &nodes, script, bundle, &mut shelf, gate,
+                    );
+                    (came, shelf)
+                }
+            }
+        }
+    }
+}

@@ -1,0 +1,5 @@
+pub mod Spelled
+pub mod Places
+pub mod Numbers
+pub mod Judging
+pub mod Putting

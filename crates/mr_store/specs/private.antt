@@ -1,0 +1,8 @@
+pub mod Paging
+pub mod PartLaws
+pub mod Ids
+pub mod Told
+pub mod Laws
+pub mod Walk
+pub mod Copying
+pub mod Listing

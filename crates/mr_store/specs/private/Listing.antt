@@ -1,0 +1,45 @@
+-- What the directory of a map is made of.
+use Rattle.std.specs.Prelude.{◌≡◌, ◌≢◌, ℕ, true, List, map, length, AllPairs, Some, IsSome}
+use Rattle.mr_geom.specs.Rectangle.{Rectangle}
+use Rattle.mr_record.specs.declared.record.Record.{Record}
+use Rattle.mr_tree.specs.Tree.{records}
+use Rattle.mr_tree.specs.Nodes.{MapModel}
+use Rattle.mr_tree.specs.declared.child.Child.{Child}
+use Rattle.mr_tree.specs.declared.tree.Tree.{Tree}
+use Rattle.mr_store.specs.private.Walk.{IsFull}
+use Rattle.mr_batch.specs.Directory.{DirectoryEntries, IsDirectoryOf}
+
+-- what is listed of a record: its entry in a directory
+abbrev pub directory_entry : Record → ℕ × Rectangle
+directory_entry r = (r.number, r.rect)
+
+-- the records have different numbers
+abbrev pub AreApart : List Record → Type 0
+AreApart rs = AllPairs (λ (a b : Record). a.number ≢ b.number) rs
+
+-- where the tree is told, these are the entries of all records below the child
+abbrev pub ListsAt : MapModel → Child → DirectoryEntries → Type 0
+ListsAt s c all = IsSome s.tree → (t : Tree) × (s.node c.id ≡ Some t)
+    × (all ≡ map directory_entry (records t)) × AreApart (records t)
+
+-- it is the directory of what was listed
+abbrev pub GathersDirectory : (all d : DirectoryEntries) → Type 0
+GathersDirectory all d = (rs : List Record) → all ≡ map directory_entry rs → AreApart rs →
+    IsDirectoryOf d rs
+
+-- where the tree is told, it is the directory of the records below the child
+abbrev pub HasAt : MapModel → Child → DirectoryEntries → Type 0
+HasAt s c d = IsSome s.tree →
+    (t : Tree) × (s.node c.id ≡ Some t) × IsDirectoryOf d (records t)
+
+-- ---- why it stops
+
+-- the tree below the root is full, and its records have different numbers
+pub record CanList (s : MapModel) (root : Child) : Type 0 where
+  pub full : IsFull s true root
+  pub apart : (t : Tree) → s.node root.id ≡ Some t → AreApart (records t)
+
+-- and there are so many of them
+pub record CanListAll (s : MapModel) (root : Child) (count : ℕ) : Type 0 where
+  pub can : CanList s root
+  pub counted : (t : Tree) → s.node root.id ≡ Some t → count ≡ length (records t)

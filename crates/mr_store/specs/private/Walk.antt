@@ -1,0 +1,144 @@
+-- What a walk over the nodes of a map knows on its way. Nothing of this has to be believed: no
+-- public contract cites it.
+use Rattle.std.specs.Prelude.{◌≡◌, ◌≢◌, ⊤, ℕ, ◌+◌, ◌≤◌, Bool, true, false, List, [], ◌∷◌, ◌++◌, map, length, All, Option, Some, None, IsSome}
+use Rattle.std.specs.List.{flat_map, sum_by, AllByRecursion}
+use Rattle.mr_record.specs.Record.{IsRecord}
+use Rattle.mr_record.specs.declared.record.Record.{Record}
+use Rattle.mr_record.specs.declared.version.Version.{Version}
+use Rattle.mr_tree.specs.Tree.{records}
+use Rattle.mr_tree.specs.Digest.{Scheme, entry}
+use Rattle.mr_tree.specs.WellFormed.{HasOneLevel, HasLayers}
+use Rattle.mr_tree.specs.View as view
+use Rattle.mr_tree.specs.Nodes.{MapModel, IsId, HasSomeCause, subtrees}
+use Rattle.mr_tree.specs.declared.child.Child.{Child}
+use Rattle.mr_tree.specs.declared.nodes.NodesErr.{NodesErr}
+use Rattle.mr_tree.specs.declared.nodes.NodesErr.TheVariants as errors
+use Rattle.mr_tree.specs.declared.tree.Tree.{Tree}
+use Rattle.mr_tree.specs.declared.tree.Tree.TheVariants as tree
+use Rattle.mr_tree.specs.declared.tree.Tree.TheFolds.{every-Tree}
+use Rattle.mr_pages.specs.Faults.{numbers_of, repeats, size, least_fill}
+use Rattle.mr_pages.specs.Walking.{page_node, Saw}
+use Rattle.mr_pages.specs.declared.visited.Visited.{Visited}
+use Rattle.mr_pages.proofs.Building.{FilledAs}
+use Rattle.mr_pages.proofs.Lists.{Fresh}
+
+-- ---- one node
+
+-- a node that breaks no rule by itself: what is said of it is its entry, and it is full, as a root
+-- or below it
+pub record SuitsEntry (x : Scheme) (root : Bool) (c : Child) (n : view.Node) : Type 0 where
+  pub fits : view.IsView n
+  pub some : 1 ≤ view.size n
+  pub told : view.AreTold x.version n
+  pub known : view.child_entry c ≡ view.entry_over x n
+  pub full : least_fill root (page_node n) ≤ size (page_node n)
+
+-- a tree that may stand in a map of this version below this place
+pub record IsFine (v : Version) (root : Bool) (t : Tree) : Type 0 where
+  pub one_level : every-Tree HasOneLevel t
+  pub there : t ≢ tree.Empty
+  pub filled : FilledAs root t
+  pub each : All IsRecord (records t)
+  pub layers : HasLayers v t
+
+-- the tree below the child is as full as it has to be, where it is told
+abbrev pub IsFull : MapModel → Bool → Child → Type 0
+IsFull s root c = (t : Tree) → s.node c.id ≡ Some t → FilledAs root t
+
+-- what was met, and that no number below the child is among it, where the tree is told
+pub record CanWalk (s : MapModel) (root : Bool) (seen : Visited) (c : Child) : Type 0 where
+  pub pages : ℕ
+  pub ns : List ℕ
+  pub saw : Saw pages seen [] ns
+  pub full : IsFull s root c
+  pub fresh : (t : Tree) → s.node c.id ≡ Some t → Fresh ns (numbers_of (records t))
+
+-- the same entry, by which the node is found in another place
+abbrev pub moved : (id : ℕ) → Child → Child
+moved id c = record {
+  id = id;
+  level = c.level;
+  rect = c.rect;
+  mask = c.mask;
+  count = c.count;
+  digest = c.digest;
+}
+
+-- the numbers of these records were met, none of them twice
+abbrev pub AddsNumbers : Visited → Visited → List Record → Type 0
+AddsNumbers before after rs = (pages : ℕ) (ns : List ℕ) → Saw pages before [] ns →
+    Fresh ns (numbers_of rs) × Saw pages after [] (ns ++ numbers_of rs)
+
+-- no number was met
+abbrev pub HasSeenNone : Visited → Type 0
+HasSeenNone seen = (pages : ℕ) × Saw pages seen [] []
+
+-- the count that is said of a root is the head's, and is compared behind a walk
+abbrev pub IsCounted : (root : Bool) → Child → (count : ℕ) → Type 0
+IsCounted root c count = root ≡ true → c.count ≡ count
+
+-- ---- how many nodes
+
+-- how many nodes a tree has, where it is told
+unfoldable pub nodes_at : Option Tree → ℕ
+nodes_at None = 0
+nodes_at (Some t) = length (subtrees t)
+
+-- how many there are below some children
+abbrev pub nodes_in : MapModel → List Child → ℕ
+nodes_in s children = sum_by (λ (d : Child). nodes_at (s.node d.id)) children
+
+-- ---- what was walked over
+
+-- what comes of adding nodes one after another, where this comes of adding one
+unfoldable pub GathersAll : {S : Type 0} → (S → S → Child → Tree → Type 0) → S → S → List Child
+    → List Tree → Type 0
+GathersAll gathers s u [] [] = u ≡ s
+GathersAll gathers s u (c ∷ cs) (t ∷ ts) =
+    (m : _) × gathers s m c t × GathersAll gathers m u cs ts
+GathersAll gathers s u [] (t ∷ ts) = ⊥
+GathersAll gathers s u (c ∷ cs) [] = ⊥
+
+-- the tree is the one that is said of, and breaks no rule, and this was made of it
+pub record IsMadeOf (x : Scheme) (root : Bool) (c : Child) (t : Tree) (Made : Type 0)
+    : Type 0 where
+  pub known : view.child_entry c ≡ entry x t
+  pub fine : IsFine x.version root t
+  pub made : Made
+
+-- Below the child stands this tree, told or not, of which each node was fetched once. It is the one
+-- that is said of, where a root has the count that is said.
+pub record Walked (x : Scheme) (s : MapModel) (root : Bool) (c : Child) (before after : Visited)
+    (fetches fetches' : ℕ) (Made : Tree → Type 0) : Type 0 where
+  pub under : Tree
+  pub met : AddsNumbers before after (records under)
+  pub same : IsSome s.tree → s.node c.id ≡ Some under
+  pub once : fetches' ≤ fetches + length (subtrees under)
+  pub is : IsCounted root c (entry x under).count → IsMadeOf x root c under (Made under)
+
+-- the same of some children one after another
+pub record WalkedAll (x : Scheme) (s : MapModel) (cs : List Child) (before after : Visited)
+    (fetches fetches' : ℕ) (Made : List Tree → Type 0) : Type 0 where
+  pub below : List Tree
+  pub known : map view.child_entry cs ≡ map (entry x) below
+  pub fine : AllByRecursion (IsFine x.version false) below
+  pub met : AddsNumbers before after (flat_map records below)
+  pub same : IsSome s.tree → map (λ (d : Child). s.node d.id) cs ≡ map Some below
+  pub once : fetches' ≤ fetches + length (flat_map subtrees below)
+  pub made : Made below
+
+-- ---- why it stops
+
+-- Between these counts of faults a fetch was refused; or a page holds what breaks a rule, which
+-- counts none, and which it cannot where the tree is told and what is known beforehand holds.
+abbrev pub StopsWalk : MapModel → (before after : ℕ) → (known : Type 0) → NodesErr → Type 0
+StopsWalk s before after known (errors.Page page) = IsId s page × (after ≡ before)
+    × (IsSome s.tree → known → ⊥)
+StopsWalk s before after known e = HasSomeCause s before after e
+
+-- a record's number was met before
+abbrev pub IsTwice : (page : ℕ) → Visited → List Record → NodesErr → Type 0
+IsTwice page before rs (errors.Page p) = (p ≡ page)
+    × ((pages : ℕ) (ns : List ℕ) → Saw pages before [] ns → repeats ns (numbers_of rs) ≡ true)
+IsTwice page before rs errors.NoMemory = ⊤
+IsTwice page before rs e = ⊥

@@ -1,0 +1,4 @@
+pub mod Slim
+pub mod Sound
+pub mod HashLaws
+pub mod SnapshotLaws
