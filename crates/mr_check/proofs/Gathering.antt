@@ -21,7 +21,8 @@ use Rattle.mr_check.specs.declared.error.CheckErr.TheVariants as errors
 use Rattle.mr_check.specs.declared.outline.Outline.{Outline}
 use Rattle.mr_check.specs.declared.outline.Collected.{Collected}
 use Rattle.mr_check.specs.declared.verifier.Verifier.{Verifier}
-use Rattle.mr_check.specs.Judged.{WasFed, Took, IsStopped, TookSoFar, EndsAs, AnswersCollected}
+use Rattle.mr_check.specs.Judged.{WasFed, Took, IsStopped, EndsAs, AnswersCollected}
+use Rattle.mr_check.specs.private.Pieces.{TookSoFar}
 use Rattle.mr_check.specs.Answers.{AnswersVerdict}
 use Rattle.mr_check.proofs.Pieces.{take_both}
 use Rattle.mr_check.proofs.Judging.{none_out, refused}

@@ -43,7 +43,7 @@ use Rattle.mr_check.specs.Judged.{EndsAs}
 use Rattle.mr_check.specs.Answers.{taken_of, FeedsPiece}
 use Rattle.mr_check.specs.private.Stages.{head_want, want_at, room_in}
 use Rattle.mr_check.specs.private.Counting.{no_counts}
-use Rattle.mr_check.specs.Machine.{is_handed_out, IsOpen, AtEnd}
+use Rattle.mr_check.specs.private.Machine.{is_handed_out, IsOpen, AtEnd}
 use Rattle.mr_check.specs.private.Reads.{want_of, StandsAt, StandsBy, FedBy, FaultFed, found_at, EndsAt}
 use Rattle.mr_check.proofs.Stopping.{ends_at, checked_stop, fault_settled}
 use Rattle.mr_check.proofs.Turning.{stays, stands_in}

@@ -21,7 +21,7 @@ use Rattle.mr_check.specs.declared.stage.Stage.TheVariants as stage
 use Rattle.mr_check.specs.declared.radius_counts.RadiusCounts.{RadiusCounts}
 use Rattle.mr_check.specs.declared.machine.Machine.{Machine}
 use Rattle.mr_check.specs.private.Stops.{past_notes}
-use Rattle.mr_check.specs.Machine.{Open, after, node_next, ways_at, is_handed_out, scheme, AreFrames, HasReadCut, WaitsPast, ClosesNode}
+use Rattle.mr_check.specs.private.Machine.{Open, after, node_next, ways_at, is_handed_out, scheme, AreFrames, HasReadCut, WaitsPast, ClosesNode}
 use Rattle.mr_check.proofs.Opening.{Adds, IsClosing, grown, one_on, stays_open, closed, said_closed, rect_closed, records_closed, records_on, item_waits, after_more, after_last, past_met, past_missed}
 
 -- the root node

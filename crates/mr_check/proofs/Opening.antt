@@ -26,7 +26,7 @@ use Rattle.mr_proof.specs.Grammar.{Grammar, reads, opened, some_items, item, tag
 use Rattle.mr_proof.proofs.Preimages.{entries-rects}
 use Rattle.mr_check.specs.declared.frame.Frame.{Frame}
 use Rattle.mr_check.specs.private.Stops.{past_notes, noted}
-use Rattle.mr_check.specs.Machine.{Open, with_front, after, node_next, said_of, levels_of, pieces_of_cuts, IsFrame, so_far}
+use Rattle.mr_check.specs.private.Machine.{Open, with_front, after, node_next, said_of, levels_of, pieces_of_cuts, IsFrame, so_far}
 
 -- ---- cuts of children
 

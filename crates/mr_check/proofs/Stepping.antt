@@ -35,7 +35,7 @@ use Rattle.mr_check.specs.declared.machine.StepResult.TheVariants as stepped
 use Rattle.mr_check.specs.private.Stops.{past_notes, noted}
 use Rattle.mr_check.specs.private.Counting.{CountsRecords}
 use Rattle.mr_check.specs.private.Heads.{head_left}
-use Rattle.mr_check.specs.Machine.{Open, Above, after, after_record, node_next, shown_next, stage_of, stage_behind, opened_item, behind_number, behind_sides, behind_length, head_next, ways_at, is_handed_out, frames_of, AreFrames, IsLeaf, so_far, scheme, InTree, InHead, HasReadCut, LeafRead, WaitsForField, WaitsPast, StepsPastField, ClosesNode, stepped_by, found_by, plus}
+use Rattle.mr_check.specs.private.Machine.{Open, Above, after, after_record, node_next, shown_next, stage_of, stage_behind, opened_item, behind_number, behind_sides, behind_length, head_next, ways_at, is_handed_out, frames_of, AreFrames, IsLeaf, so_far, scheme, InTree, InHead, HasReadCut, LeafRead, WaitsForField, WaitsPast, StepsPastField, ClosesNode, stepped_by, found_by, plus}
 use Rattle.mr_check.proofs.Opening.{IsClosing, item_waits, after_quiet, past_met, past_missed}
 
 -- ---- a step from what it waits for

@@ -27,7 +27,7 @@ use Rattle.mr_check.specs.declared.reader.Progress.TheVariants as turns
 use Rattle.mr_proof.specs.Handed.{is_fixed, handed, handed_out}
 use Rattle.mr_check.specs.private.Stops.{Stop, waits, fails, stop, longer, cursor_at, resume, noted, stop_of}
 use Rattle.mr_check.specs.private.Stages.{want_at, size_in, room_in}
-use Rattle.mr_check.specs.Machine.{Above, IsOpen, WaitsForField, WaitsPast, after_record, behind_number, next_at, left_at, ways_at}
+use Rattle.mr_check.specs.private.Machine.{Above, IsOpen, WaitsForField, WaitsPast, after_record, behind_number, next_at, left_at, ways_at}
 use Rattle.mr_check.specs.private.Reads.{want_of, last_field, IsWhole, StandsAt, WaitsBehind, Behind, MakesProgress, TakesSome, TakesJust}
 use Rattle.mr_check.proofs.Whole.{record_on, quiet_on}
 use Rattle.mr_check.proofs.Stopping.{stop_more, handed_on, handed_more}

@@ -22,7 +22,7 @@ use Rattle.mr_proof.specs.Handed.{handed}
 use Rattle.mr_proof.proofs.Values.{word_long, rectangle_long}
 use Rattle.mr_proof.proofs.FieldValues.{number_value, rect_value, length_value, payload_value}
 use Rattle.mr_check.specs.private.Stops.{stop}
-use Rattle.mr_check.specs.Machine.{behind_number, behind_sides, behind_length}
+use Rattle.mr_check.specs.private.Machine.{behind_number, behind_sides, behind_length}
 use Rattle.mr_check.specs.private.Reads.{last_field}
 use Rattle.mr_check.proofs.Noting.{short_handed}
 

@@ -1,8 +1,10 @@
 -- What the check of a proof answers, whole or by pieces.
-use Rattle.std.specs.Prelude.{◌≡◌, ℕ, ◌≤◌, ⊤, List, ◌++◌, take, Result, Ok, Err}
+use Rattle.std.specs.Prelude.{◌≡◌, ℕ, ◌≤◌, ⊤, List, ◌++◌, take, Option, Some, None, Result, Ok, Err}
 use Rattle.std.specs.Global.{Vec}
+use Rattle.mr_geom.specs.Rectangle.{Rectangle}
 use Rattle.mr_record.specs.declared.record.Record.{Record}
 use Rattle.mr_proof.specs.declared.rule.Fault.{Fault}
+use Rattle.mr_proof.specs.Cut.{Cut, rect}
 use Rattle.mr_proof.specs.Tight.{Question}
 use Rattle.mr_proof.specs.Handed.{handed_out}
 use Rattle.mr_proof.specs.Feeding.{IsUnsettled, CompletesRecord, IsFinal}
@@ -37,3 +39,8 @@ FeedsPiece hash root q so_far piece fed.More =
 FeedsPiece hash root q so_far piece (fed.Found taken item) =
     IsUnsettled hash root q (so_far ++ take taken piece) × CompletesRecord q so_far piece taken item
 FeedsPiece hash root q so_far piece (fed.Fault f) = IsFinal hash root q so_far piece f
+
+-- the rectangle round the map of which a cut is
+abbrev pub rect_round : Option Cut → Option Rectangle
+rect_round None = None
+rect_round (Some P) = rect P

@@ -1,7 +1,7 @@
 -- What a verifier and a judge stand for. They do not keep the bytes that they were fed, so
 -- contracts go
 -- by a relation between them and a byte string, which is known by what they say of it.
-use Rattle.std.specs.Prelude.{◌≡◌, ◌≤◌, ℕ, List, ◌++◌, length, take, filter, vec_capacity, ⊤, Result, Ok, Err}
+use Rattle.std.specs.Prelude.{◌≡◌, ℕ, List, ◌++◌, filter, vec_capacity, ⊤, Result, Ok, Err}
 use Rattle.mr_record.specs.private.Bytes.{AreBytes}
 use Rattle.mr_record.specs.declared.record.Record.{Record}
 use Rattle.mr_query.specs.Word.{IsQuery}
@@ -10,7 +10,7 @@ use Rattle.mr_proof.specs.declared.rule.Fault.{Fault}
 use Rattle.mr_proof.specs.Spelling.{Parsed, opened_records}
 use Rattle.mr_proof.specs.Tight.{Question, question, keeps_at, IsLawful}
 use Rattle.mr_proof.specs.Handed.{handed_out}
-use Rattle.mr_proof.specs.Feeding.{IsUnsettled, HandsOut}
+use Rattle.mr_proof.specs.Feeding.{HandsOut}
 use Rattle.mr_proof.specs.Reading.{checked}
 use Rattle.mr_check.specs.declared.error.CheckErr.{CheckErr}
 use Rattle.mr_check.specs.declared.error.CheckErr.TheVariants as errors
@@ -21,7 +21,7 @@ use Rattle.mr_check.specs.declared.outline.Collected.{Collected}
 use Rattle.mr_check.specs.declared.collector.Collector.{Collector}
 use Rattle.mr_check.specs.declared.piece_check.PieceCheck.{PieceCheck}
 use Rattle.mr_check.specs.declared.judge.Judge.{Judge}
-use Rattle.mr_check.specs.Machine.{rect_round}
+use Rattle.mr_check.specs.Answers.{rect_round}
 use Rattle.mr_check.specs.private.Reads.{StandsBy}
 
 -- ---- whatever is asked
@@ -71,31 +71,6 @@ abbrev pub IsStopped : (List ℕ → List ℕ) → List ℕ → Question → Lis
 IsStopped hash root q bytes (errors.Fault f) =
     (more : List ℕ) → checked hash root q (bytes ++ more) ≡ Err f
 IsStopped hash root q bytes errors.NoMemory = ⊤
-
--- these bytes were taken, and have no fault that stays; or that is so
-abbrev pub TakesPiece : {X H : Type 0} {G : Ghosts H} → (List ℕ → List ℕ) → (H → List ℕ → Type 0)
-    → List ℕ → Question → Verifier H G → List Record → List ℕ → Result X CheckErr → Type 0
-TakesPiece hash holds root q w kept bytes (Ok x) = Took hash holds root q w kept bytes
-    × IsUnsettled hash root q bytes
-TakesPiece hash holds root q w kept bytes (Err e) = IsStopped hash root q bytes e
-
--- whatever was taken before the piece. This serves private functions.
-abbrev pub TakesNextPiece : {X H : Type 0} {G : Ghosts H} → (List ℕ → List ℕ) →
-    (H → List ℕ → Type 0)
-    → Question → Verifier H G → Verifier H G → List ℕ → List Record → List Record
-    → Result X CheckErr
-    → Type 0
-TakesNextPiece hash holds q before after piece old new result = (root : List ℕ) (bytes : List ℕ)
-    → Took hash holds root q before old bytes
-    → TakesPiece hash holds root q after new (bytes ++ piece) result
-
--- so far of the piece was taken. This serves private functions.
-pub record TookSoFar {H : Type 0} {G : Ghosts H} (hash : List ℕ → List ℕ)
-    (holds : H → List ℕ → Type 0) (q : Question)
-    (first now : Verifier H G) (piece : List ℕ) (at : ℕ) (old kept : List Record) : Type 0 where
-  pub within : at ≤ length piece
-  pub so : (root : List ℕ) (bytes : List ℕ) → Took hash holds root q first old bytes
-      → Took hash holds root q now kept (bytes ++ take at piece)
 
 -- this much of the proof was gathered in, of what is asked and against the root digest
 abbrev pub HasCollected : {H : Type 0} {G : Ghosts H} → (List ℕ → List ℕ) → (H → List ℕ → Type 0)

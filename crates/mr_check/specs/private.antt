@@ -6,3 +6,5 @@ pub mod OpenNodes
 pub mod Heads
 pub mod Reads
 pub mod Differing
+pub mod Machine
+pub mod Pieces

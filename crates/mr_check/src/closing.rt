@@ -4,7 +4,7 @@ ghost use Rattle.std.specs.Prelude.{◌≡◌, ◌+◌, ◌≤◌, List, option_
 ghost use Rattle.mr_record.specs.declared.record.Record as types;
 ghost use Rattle.mr_proof.specs.Cut.{Cut};
 ghost use Rattle.mr_proof.specs.Tight.{opens_seen, key_at};
-ghost use Rattle.mr_check.specs.Machine.{frames_of, Open, HasReadCut, ClosesNode, CloseFits, after, ways_at};
+ghost use Rattle.mr_check.specs.private.Machine.{frames_of, Open, HasReadCut, ClosesNode, CloseFits, after, ways_at};
 
 use crate::frame::{pop, push};
 use crate::machine::Machine;

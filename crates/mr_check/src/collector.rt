@@ -8,7 +8,8 @@ ghost use Rattle.mr_proof.specs.Tight.{IsLawful};
 ghost use Rattle.mr_proof.specs.Halves.{ShowsJust, FaultsJust, SpellsOneOf, FindsPairOf, StaysRefused, AcceptsHonestProof};
 ghost use Rattle.mr_proof.specs.Headline.{AcceptedMatchesHonest};
 ghost use Rattle.mr_proof.specs.Feeding.{IsUnsettled, HandsOpened};
-ghost use Rattle.mr_check.specs.Judged.{Took, TakesNextPiece, IsStopped, AnswersCollected};
+ghost use Rattle.mr_check.specs.Judged.{Took, IsStopped, AnswersCollected};
+ghost use Rattle.mr_check.specs.private.Pieces.{TakesNextPiece};
 
 use crate::outline::Collected;
 use crate::{CheckErr, Fed, Verifier};

@@ -4,7 +4,7 @@ ghost use Rattle.std.specs.Prelude.{◌≡◌, ◌+◌, ◌≤◌, [], List, vec
 ghost use Rattle.mr_record.specs.declared.record.Record as types;
 ghost use Rattle.mr_proof.specs.Cut.{Pruned, Inner, Leaf};
 ghost use Rattle.mr_proof.specs.Grammar.{item, some_items, some_records, opened};
-ghost use Rattle.mr_check.specs.Machine.{frames_of, Above, InTree, StepsPastField, StepFits, after, node_next, ways_at, shown_next, stage_of, stepped_by};
+ghost use Rattle.mr_check.specs.private.Machine.{frames_of, Above, InTree, StepsPastField, StepFits, after, node_next, ways_at, shown_next, stage_of, stepped_by};
 
 use crate::closing::close;
 use crate::frame::{Frame, push};

@@ -3,7 +3,7 @@
 ghost use Rattle.std.specs.Prelude.{◌≡◌, ◌≤◌, [], List, vec_len};
 ghost use Rattle.mr_record.specs.declared.record.Record as types;
 ghost use Rattle.mr_check.specs.private.Counting.{CountsRecords};
-ghost use Rattle.mr_check.specs.Machine.{frames_of, Above, InTree, IsLeaf, LeafRead, StepsPastField, StepFits, after_record, is_handed_out, ways_at, found_by, plus, behind_length};
+ghost use Rattle.mr_check.specs.private.Machine.{frames_of, Above, InTree, IsLeaf, LeafRead, StepsPastField, StepFits, after_record, is_handed_out, ways_at, found_by, plus, behind_length};
 ghost use Rattle.mr_record.specs.Record.{payload_limit, HasLayer};
 ghost use Rattle.mr_proof.specs.Fields.{version};
 

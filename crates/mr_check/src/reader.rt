@@ -11,7 +11,7 @@ ghost use Rattle.mr_proof.specs.Grammar.{Grammar};
 ghost use Rattle.mr_check.specs.declared.reader.Progress.TheVariants as turns;
 ghost use Rattle.mr_check.specs.private.Stops.{noted};
 ghost use Rattle.mr_check.specs.private.Stages.{want_at, size_in, MayBe, FitsStage};
-ghost use Rattle.mr_check.specs.Machine.{Above, IsOpen, StepsPastField, StepFits, WaitsPast, next_at};
+ghost use Rattle.mr_check.specs.private.Machine.{Above, IsOpen, StepsPastField, StepFits, WaitsPast, next_at};
 ghost use Rattle.mr_check.specs.private.Reads.{want_of, last_field, FitsReader, IsWhole, StandsAt, Behind, MakesProgress, TakesSome, TakesJust, FaultOf};
 ghost use Rattle.mr_record.specs.Record.{payload_limit};
 

@@ -7,7 +7,7 @@ ghost use Rattle.mr_check.specs.private.Stages.{want_at, head_want, MayBe, FitsS
 ghost use Rattle.mr_proof.specs.Fields.{HasForm};
 ghost use Rattle.mr_proof.specs.Tight.{Question};
 ghost use Rattle.mr_check.specs.declared.machine.StepResult.TheVariants as stepped;
-ghost use Rattle.mr_check.specs.Machine.{frames_of, Above, IsOpen, InHead, StepsPastField, StepFits, next_at, head_next, stage_behind};
+ghost use Rattle.mr_check.specs.private.Machine.{frames_of, Above, IsOpen, InHead, StepsPastField, StepFits, next_at, head_next, stage_behind};
 
 use crate::headed::behind_field;
 use crate::inner::{opened_inner, opened_leaf, pruned, shown, tagged};

@@ -23,7 +23,7 @@ use Rattle.mr_tree.specs.declared.nodes.NodesErr.{NodesErr}
 use Rattle.mr_tree.specs.declared.tree.Tree.{Tree}
 use Rattle.mr_pages.specs.File.{version_of}
 use Rattle.mr_pages.specs.Law.{IsMapFile, map_in}
-use Rattle.mr_pages.specs.Opening.{pages_in}
+use Rattle.mr_pages.specs.Opening.{pages_in, of_nodes}
 use Rattle.mr_pages.specs.PageBytes.{form_by, form_of}
 use Rattle.mr_pages.specs.declared.error.MapErr.{MapErr}
 use Rattle.mr_pages.specs.declared.head.MapHead.{MapHead}
@@ -46,9 +46,9 @@ use Rattle.mr_batch.proofs.Replaying.{numbers_of}
 use Rattle.mr_plan.specs.First.{pages_by}
 use Rattle.mr_command.specs.private.Applying.{MayApply, ComesBehind, IsFewOfCopy, IsFewOfChanges, IsFewOfText, IsFewOfFile}
 use Rattle.mr_command.specs.Counting.{nodes_listed, pieces_of, AllowsApply, IsFewApplied, IsFewOfBatch, ReadsWithinPlan}
-use Rattle.mr_command.specs.Ending.{map_at, RunsPlan, ComesAsSaid, ComesBut, with_reads, AreJudged, BlamesOutside, Came, EndsPlan, IsEndingOrHalt, GivesUpPlan, GoesOn, NoneFalls, ReadsInput, SaysRefusal, printed_of}
-use Rattle.mr_command.specs.Inputs.{ReadsValue, SaysText}
-use Rattle.mr_plan.specs.Found.{as_map_error}
+use Rattle.mr_command.specs.Ending.{RunsPlan, ComesAsSaid, AreJudged, BlamesOutside, Came, EndsPlan, IsEndingOrHalt, GivesUpPlan, NoneFalls, printed_of}
+use Rattle.mr_command.specs.private.Steps.{map_at, ComesBut, with_reads, GoesOn, ReadsInput, SaysRefusal}
+use Rattle.mr_command.specs.private.Inputs.{ReadsValue, SaysText}
 use Rattle.mr_plan.specs.Lines.{bad_batch_line, bad_text_line}
 use Rattle.mr_plan.specs.Outcome.{Outcome}
 use Rattle.mr_plan.specs.Plan.{Plan, Input, comes, opens, IsInput, LacksInput}
@@ -120,7 +120,7 @@ module _ {S H : Type 0} {G : shelves.Ghosts S} {K : hashes.Ghosts H} (hash : Lis
 
   -- a node was not fetched
   pub unlisted : (e : NodesErr) (result : Result Ending Halt) → HasSomeCause standing before.faults mid.faults e
-      → SaysRefusal map (as_map_error e) result
+      → SaysRefusal map (of_nodes e) result
       → ComesBehind applies_batch standing (λ m. comes (said_of_batch m)) (few_of_batch mid) before mid result
   unlisted e result cause says = record {
     counts = counts_listed;
@@ -131,7 +131,7 @@ module _ {S H : Type 0} {G : shelves.Ghosts S} {K : hashes.Ghosts H} (hash : Lis
         (halts_but (said_of_batch (map_at standing t)) before mid stop.halt counts_listed stop.stops
         (stays (said_of_batch (map_at standing t)).written before.files mid.files kept.files)));
     untold = λ none.
-        says_refused hash applies_batch map (λ o is. inl is) before mid kept.files (as_map_error e) result
+        says_refused hash applies_batch map (λ o is. inl is) before mid kept.files (of_nodes e) result
         (fetch_blamed hash standing e before mid cause) says;
     few_read = few_listed;
   }

@@ -15,7 +15,7 @@ use Rattle.mr_tree.specs.Nodes.{MapModel, HasSomeCause}
 use Rattle.mr_tree.specs.declared.hash.Hashes as hashes
 use Rattle.mr_tree.specs.declared.nodes.NodesErr.{NodesErr}
 use Rattle.mr_tree.specs.declared.tree.Tree.{Tree}
-use Rattle.mr_pages.specs.Opening.{pages_in}
+use Rattle.mr_pages.specs.Opening.{pages_in, of_nodes}
 use Rattle.mr_pages.specs.PageBytes.{form_of}
 use Rattle.mr_pages.specs.declared.opening.Opened.{Opened}
 use Rattle.mr_query.specs.declared.query.Query.{Query}
@@ -27,8 +27,8 @@ use Rattle.mr_store.specs.Paged.{IsSameMap, shelved, stands_for}
 use Rattle.mr_store.specs.Stored.{read_map, told_bytes}
 use Rattle.mr_store.specs.declared.paged.Paged.{Paged}
 use Rattle.mr_command.specs.Counting.{opened_beside, AllowsAudit, IsFewBeside, ReadsWithinPlan}
-use Rattle.mr_command.specs.Ending.{RunsPlan, ComesAsSaid, ComesBut, with_reads, map_at, IsEndingOrHalt, IsBeside, IsUnread, NoneFalls, ReadsInput, ReadsBeside, ReadsOpened, SaysRefusal, SaysUntold, StopsCommand}
-use Rattle.mr_plan.specs.Found.{as_map_error}
+use Rattle.mr_command.specs.Ending.{RunsPlan, ComesAsSaid, IsEndingOrHalt, NoneFalls, StopsCommand}
+use Rattle.mr_command.specs.private.Steps.{ComesBut, with_reads, map_at, IsBeside, IsUnread, ReadsInput, ReadsBeside, ReadsOpened, SaysRefusal, SaysUntold}
 use Rattle.mr_plan.specs.Outcome.{Outcome, Nothing, LeavesWritten, MayLeave}
 use Rattle.mr_plan.specs.First.{first}
 use Rattle.mr_plan.specs.Plan.{Plan, comes, IsAbsent, IsInput}
@@ -104,7 +104,7 @@ module _ (hash : List ℕ → List ℕ) (map : List ℕ) (q : Query) (proof byte
       (finding_writes f) files quiet result gives
 
   pub unfetched_told : (e : NodesErr) (result : Result Ending Halt) → HasSomeCause s old.faults new.faults e
-      → SaysRefusal map (as_map_error e) result
+      → SaysRefusal map (of_nodes e) result
       → IfSome s.tree (λ t. ComesBut (comes (say_audit_of hash q (map_at s t) bytes)) old new result)
   unfetched_told e result cause says = by_tree s.tree refl
     where
@@ -118,9 +118,9 @@ module _ (hash : List ℕ → List ℕ) (map : List ℕ) (q : Query) (proof byte
           stop.stops)
 
   pub unfetched_untold : (e : NodesErr) (result : Result Ending Halt) → HasSomeCause s old.faults new.faults e
-      → SaysRefusal map (as_map_error e) result → SaysUntold (MaySayAudit hash map q proof) old new result
+      → SaysRefusal map (of_nodes e) result → SaysUntold (MaySayAudit hash map q proof) old new result
   unfetched_untold e result cause says =
-      says_refused hash (MaySayAudit hash map q proof) map (λ said is. inl is) old new files (as_map_error e) result
+      says_refused hash (MaySayAudit hash map q proof) map (λ said is. inl is) old new files (of_nodes e) result
       (fetch_blamed hash s e old new cause) says
 
 -- ---- behind the file of a proof

@@ -20,7 +20,7 @@ use Rattle.mr_bundle.specs.declared.verdict.Verdict.{Verdict}
 use Rattle.mr_pages.specs.declared.opening.Opened.{Opened}
 use Rattle.mr_command.specs.Answer.{IsSettled}
 use Rattle.mr_command.specs.Ending.{AreJudged, RunsPlan, IsEndingOf, IsEndingOrHalt, printed_of}
-use Rattle.mr_command.specs.Inputs.{FollowsText}
+use Rattle.mr_command.specs.private.Inputs.{FollowsText}
 use Rattle.mr_plan.specs.Judged.{is_accepted, IsAccepted, accepted_count, bundle_text, bundle_status}
 use Rattle.mr_plan.specs.Lines.{bad_text_line}
 use Rattle.mr_plan.specs.Outcome.{Nothing}

@@ -42,7 +42,8 @@ use Rattle.mr_edit.specs.Shelves.{HasShelfCause}
 use Rattle.mr_edit.specs.declared.error.EditErr.{EditErr}
 use Rattle.mr_edit.specs.declared.error.EditErr.TheVariants as edits
 use Rattle.mr_command.specs.private.Applying.{of_copy, of_edit, SaysSealed, MayApply, ComesBehind, IsFewOfCopy}
-use Rattle.mr_command.specs.Ending.{map_at, ComesBut, IsEndingOf, IsEndingOrHalt, NoneFalls, SaysRefusal, StopsCommand}
+use Rattle.mr_command.specs.Ending.{IsEndingOf, IsEndingOrHalt, NoneFalls, StopsCommand}
+use Rattle.mr_command.specs.private.Steps.{map_at, ComesBut, SaysRefusal}
 use Rattle.mr_plan.specs.First.{pages_by}
 use Rattle.mr_plan.specs.Lines.{digest_line}
 use Rattle.mr_plan.specs.Outcome.{Outcome, Nothing, IsChangedMap, LeavesWritten, MayLeave}

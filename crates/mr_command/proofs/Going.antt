@@ -24,7 +24,8 @@ use Rattle.mr_pages.specs.Opening.{AnswersMap, FailsWithoutFault, MapCauses, OrF
 use Rattle.mr_pages.specs.declared.error.MapErr.{MapErr}
 use Rattle.mr_pages.specs.declared.error.MapErr.TheVariants as errors
 use Rattle.mr_pages.specs.declared.rule.MapFault.{MapFault}
-use Rattle.mr_command.specs.Ending.{IsEndingOf, IsEndingOrHalt, SaysMissing, RunsPlan, Came, StopsCommand, EndsPlan, GivesUpPlan, AreJudged, IsJudged, GoesOn, BlamesOutside, IsCalm, NoneFalls, IsWell, WasFound, IsAsRead, IsUnread, Read, ReadsInput, ReadsPages, HasReadMap, OpensMapOrEnds, SavesFile, SaysRefusal, halt_of, printed_of}
+use Rattle.mr_command.specs.Ending.{IsEndingOf, IsEndingOrHalt, RunsPlan, Came, StopsCommand, EndsPlan, GivesUpPlan, AreJudged, BlamesOutside, IsCalm, NoneFalls, IsWell, WasFound, halt_of, printed_of}
+use Rattle.mr_command.specs.private.Steps.{SaysMissing, IsJudged, GoesOn, IsAsRead, IsUnread, Read, ReadsInput, ReadsPages, HasReadMap, OpensMapOrEnds, SavesFile, SaysRefusal}
 use Rattle.mr_plan.specs.Found.{Found, ShowsMap, bad_map_line}
 use Rattle.mr_plan.specs.Outcome.{Outcome, Content, Nothing, File, map_of, IsLaidOut, LeavesWritten, MayLeave}
 use Rattle.mr_plan.specs.Plan.{Plan, comes, opens, Input, IsInput, IsAbsent, LacksInput}

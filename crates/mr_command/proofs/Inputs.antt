@@ -9,8 +9,9 @@ use Rattle.mr_record.specs.declared.text_fault.TextErr.{TextErr}
 use Rattle.mr_record.specs.declared.text_fault.TextErr.TheVariants as texts
 use Rattle.mr_record.specs.declared.text_fault.TextFault.{TextFault}
 use Rattle.mr_command.specs.Counting.{pieces_of, reads_taken}
-use Rattle.mr_command.specs.Ending.{AreJudged, RunsPlan, ReadsInput}
-use Rattle.mr_command.specs.Inputs.{FollowsBytes, FollowsText, GoesOnOrEnds, ReadsText, SaysText}
+use Rattle.mr_command.specs.Ending.{AreJudged, RunsPlan}
+use Rattle.mr_command.specs.private.Steps.{ReadsInput}
+use Rattle.mr_command.specs.private.Inputs.{FollowsBytes, FollowsText, GoesOnOrEnds, ReadsText, SaysText}
 use Rattle.mr_plan.specs.Lines.{bad_text_line}
 use Rattle.mr_plan.specs.Outcome.{Outcome}
 use Rattle.mr_plan.specs.Plan.{Input, Plan, comes}

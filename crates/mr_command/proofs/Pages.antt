@@ -17,7 +17,7 @@ use Rattle.mr_tree.specs.declared.nodes.NodesErr.{NodesErr}
 use Rattle.mr_tree.specs.declared.tree.Tree.{Tree}
 use Rattle.mr_pages.specs.File.{form_at, version_of}
 use Rattle.mr_pages.specs.Law.{AgreesWithFault, IsMap, IsMapFile, map_in}
-use Rattle.mr_pages.specs.Opening.{FailsWithoutFault, SomeFile, TellsBytes, pages_in}
+use Rattle.mr_pages.specs.Opening.{FailsWithoutFault, SomeFile, TellsBytes, pages_in, of_nodes}
 use Rattle.mr_pages.specs.Page.{Form}
 use Rattle.mr_pages.specs.PageBytes.{form_by, page_size}
 use Rattle.mr_pages.specs.declared.error.MapErr.{MapErr}
@@ -38,11 +38,11 @@ use Rattle.mr_store.specs.Paged.{Keeps, ReadsFew as FewFetches, shelved, stands_
 use Rattle.mr_store.specs.Stored.{read_map, told_bytes}
 use Rattle.mr_store.specs.declared.paged.Paged.{Paged}
 use Rattle.mr_command.specs.Counting.{pieces_of, opened_beside, AllowsProve, IsFewOf, IsFewBeside, ReadsWithinPlan}
-use Rattle.mr_command.specs.Ending.{RunsPlan, ComesAsSaid, ComesBut, with_reads, map_at, AreJudged, IsEndingOrHalt, GoesOn, HasReadMap, IsBeside, IsJudged, KeepsProof, NoneFalls, ReadsOpened, SaysRefusal, StopsCommand}
-use Rattle.mr_command.specs.Inputs.{HasNoProofs, IsUnprovable, WasOpened}
+use Rattle.mr_command.specs.Ending.{RunsPlan, ComesAsSaid, AreJudged, IsEndingOrHalt, NoneFalls, StopsCommand}
+use Rattle.mr_command.specs.private.Steps.{ComesBut, with_reads, map_at, GoesOn, HasReadMap, IsBeside, IsJudged, KeepsProof, ReadsOpened, SaysRefusal}
+use Rattle.mr_command.specs.private.Inputs.{HasNoProofs, IsUnprovable, WasOpened}
 use Rattle.mr_plan.specs.First.{first, first_map}
 use Rattle.mr_plan.specs.Lines.{needs_version_2_line}
-use Rattle.mr_plan.specs.Found.{as_map_error}
 use Rattle.mr_plan.specs.Outcome.{Outcome}
 use Rattle.mr_plan.specs.Plan.{Plan, comes, Input, IsInput}
 use Rattle.mr_plan.specs.Say.{at_first, ends, needs_any_map, needs_map, say_prove_of, say_written, says_missing}
@@ -608,7 +608,7 @@ module _ {S H : Type 0} {G : shelves.Ghosts S} {K : hashes.Ghosts H} (hash : Lis
       by_files None none =
           comes_untold plan may allows before end none (says_missing map, inl (inl refl)) result counts
           (says_refused hash may map (λ said is. inl is) before end (kept.files ∙ o.files)
-          (as_map_error e) result (fetch_blamed hash s e before end shifted) keeps.1)
+          (of_nodes e) result (fetch_blamed hash s e before end shifted) keeps.1)
       by_files (Some files) told =
           let has = has_map hash sized map before s mid w files told in
           let stop = fetch_stopped map s has.tree e before end result has.told shifted keeps.1 in

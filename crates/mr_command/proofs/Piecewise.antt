@@ -10,7 +10,8 @@ use Rattle.mr_outside.specs.declared.shelf.ShelfErr.{ShelfErr}
 use Rattle.mr_outside.proofs.Changes.{IsChanged-grown}
 use Rattle.mr_bundle.specs.Bundle.{bundle_of, part_bytes}
 use Rattle.mr_command.specs.private.Bundled.{IsGivenUp, HasMadeText}
-use Rattle.mr_command.specs.Ending.{SavesFile, halt_of}
+use Rattle.mr_command.specs.Ending.{halt_of}
+use Rattle.mr_command.specs.private.Steps.{SavesFile}
 use Rattle.mr_plan.specs.Outcome.{text}
 use Rattle.mr_command.specs.declared.ending.Halt.{Halt}
 use Rattle.mr_command.specs.declared.ending.Halt.TheVariants as halts

@@ -29,7 +29,7 @@ use Rattle.mr_bundle.specs.declared.reading.Part.{Part}
 use Rattle.mr_clash.specs.Finding.{FindsFor, finding_by, finding_of, root_at}
 use Rattle.mr_clash.specs.declared.finding.Finding.{Finding}
 use Rattle.mr_plan.specs.Judged.{IsPlain}
-use Rattle.mr_command.specs.Ending.{HasPlainAnswer}
+use Rattle.mr_command.specs.private.Steps.{HasPlainAnswer}
 use Rattle.mr_command.proofs.Layered.{numbered_layers, sorted_each}
 
 -- ---- what is opened

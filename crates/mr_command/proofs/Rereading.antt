@@ -15,8 +15,10 @@ use Rattle.mr_pages.specs.declared.error.MapErr.TheVariants as errors
 use Rattle.mr_pages.specs.declared.rule.MapFault.{MapFault}
 use Rattle.mr_pages.specs.declared.rule.MapRule.TheVariants as rule
 use Rattle.mr_command.specs.Counting.{AllowsReads, MayRead, ReadsWithinPlan}
-use Rattle.mr_command.specs.Ending.{RunsPlan, ComesAsSaid, ComesBut, with_reads, Came, CameAsSaid, EndsPlan, EndsAsSaid, IsEndingOrHalt, GivesUpPlan, GivesUpAsSaid, AreJudged, BlamesOutside, IsCalm, IsCarriedOut, NoneFalls, StopsCommand, SaysRefusal, SaysUntold, printed_of}
-use Rattle.mr_plan.specs.Found.{as_map_error, bad_map_line}
+use Rattle.mr_command.specs.Ending.{RunsPlan, ComesAsSaid, Came, CameAsSaid, EndsPlan, EndsAsSaid, IsEndingOrHalt, GivesUpPlan, GivesUpAsSaid, AreJudged, BlamesOutside, IsCalm, IsCarriedOut, NoneFalls, StopsCommand, printed_of}
+use Rattle.mr_command.specs.private.Steps.{ComesBut, with_reads, SaysRefusal, SaysUntold}
+use Rattle.mr_pages.specs.Opening.{of_nodes}
+use Rattle.mr_plan.specs.Found.{bad_map_line}
 use Rattle.mr_plan.specs.Outcome.{Outcome, Nothing, LeavesWritten, MayLeave}
 use Rattle.mr_plan.specs.Plan.{Plan, comes, LacksInput, LeadsToOutcome}
 use Rattle.mr_plan.specs.Say.{ends, needs, say, says_missing}
@@ -376,7 +378,7 @@ page_blamed hash f before after some same = record {
 
 -- why a node was not fetched
 pub fetch_blamed : (hash : List ℕ → List ℕ) (s : MapModel) (e : NodesErr) (before after : Shelved)
-    → HasSomeCause s before.faults after.faults e → IsBlamed hash before after (as_map_error e)
+    → HasSomeCause s before.faults after.faults e → IsBlamed hash before after (of_nodes e)
 fetch_blamed hash s (nodes.Changed page held found) before after cause =
     page_blamed hash (record { page = page; rule = rule.Changed held found }) before after (inr cause.2) cause.3
 fetch_blamed hash s (nodes.Page page) before after cause =
@@ -402,7 +404,7 @@ pub record IsStopped (before after : Shelved) (result : Result Ending Halt) : Ty
 
 pub fetch_stopped : (map : List ℕ) (s : MapModel) (t : Tree) (e : NodesErr) (before after : Shelved)
     (result : Result Ending Halt) → s.tree ≡ Some t → HasSomeCause s before.faults after.faults e
-    → SaysRefusal map (as_map_error e) result → IsStopped before after result
+    → SaysRefusal map (of_nodes e) result → IsStopped before after result
 fetch_stopped map s t (nodes.Changed page held found) before after result told cause says =
     none_told s.tree t told cause.0
 fetch_stopped map s t (nodes.Page page) before after result told cause says = none_told s.tree t told cause.0

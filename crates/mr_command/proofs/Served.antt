@@ -20,7 +20,7 @@ use Rattle.mr_tree.specs.declared.nodes.Top.{Top}
 use Rattle.mr_tree.specs.declared.stored.Stored.{Stored}
 use Rattle.mr_tree.specs.declared.tree.Tree.{Tree}
 use Rattle.mr_pages.specs.Law.{IsMapFile}
-use Rattle.mr_pages.specs.Opening.{pages_in}
+use Rattle.mr_pages.specs.Opening.{pages_in, of_nodes}
 use Rattle.mr_pages.specs.Page.{Form}
 use Rattle.mr_pages.specs.declared.head.MapHead.{MapHead}
 use Rattle.mr_pages.specs.declared.opening.Opened.{Opened}
@@ -32,8 +32,8 @@ use Rattle.mr_store.specs.Paged.{Keeps, ReadsFew as FewFetches, shelved, stands_
 use Rattle.mr_store.specs.Stored.{IsSnapshotOf, read_map}
 use Rattle.mr_store.specs.declared.paged.Paged.{Paged}
 use Rattle.mr_command.specs.Counting.{pieces_of, AllowsServe, IsFewServed, ReadsWithinPlan}
-use Rattle.mr_command.specs.Ending.{map_at, RunsPlan, ComesAsSaid, EndsPlan, GivesUpPlan, GoesOn, NoneFalls, SaysRefusal, SaysUntold, printed_of}
-use Rattle.mr_plan.specs.Found.{as_map_error}
+use Rattle.mr_command.specs.Ending.{RunsPlan, ComesAsSaid, EndsPlan, GivesUpPlan, NoneFalls, printed_of}
+use Rattle.mr_command.specs.private.Steps.{map_at, GoesOn, SaysRefusal, SaysUntold}
 use Rattle.mr_plan.specs.Outcome.{Outcome}
 use Rattle.mr_plan.specs.Plan.{Plan, Input, comes, LacksInput}
 use Rattle.mr_plan.specs.Untold.{MaySayServe}
@@ -240,7 +240,7 @@ module _ {S H : Type 0} {G : shelves.Ghosts S} {K : hashes.Ghosts H} (hash : Lis
 
   -- a node was not fetched
   pub unserved : (e : NodesErr) (result : Result Ending Halt) → HasSomeCause s mid.faults end.faults e
-      → SaysRefusal map (as_map_error e) result
+      → SaysRefusal map (of_nodes e) result
       → ComesAsSaid plan_served may_serve allows before end result
   unserved e result cause says = by_files before.files refl
     where
@@ -254,7 +254,7 @@ module _ {S H : Type 0} {G : shelves.Ghosts S} {K : hashes.Ghosts H} (hash : Lis
           → ComesAsSaid plan_served may_serve allows before end result
       by_files None none =
           comes_untold plan_served may_serve allows before end none (says_missing map, inl (inl refl)) result counts
-          (says_refused hash may_serve map (λ said is. inl is) before end (kept.files ∙ o.files) (as_map_error e)
+          (says_refused hash may_serve map (λ said is. inl is) before end (kept.files ∙ o.files) (of_nodes e)
           result (fetch_blamed hash s e before end shifted) says)
       by_files (Some files) told =
           let w = was_opened hash map before p o in

@@ -10,7 +10,8 @@ use Rattle.mr_outside.specs.Writing.{IsChanged, IsChangedPartly}
 use Rattle.mr_outside.specs.declared.shelf.ShelfErr.{ShelfErr}
 use Rattle.mr_outside.specs.declared.shelf.ShelfErr.TheVariants as shelf
 use Rattle.mr_outside.proofs.Changes.{IsChanged-grown, OfFile-put}
-use Rattle.mr_command.specs.Ending.{SavesFile, StopsCommand, halt_of}
+use Rattle.mr_command.specs.Ending.{StopsCommand, halt_of}
+use Rattle.mr_command.specs.private.Steps.{SavesFile}
 use Rattle.mr_plan.specs.First.{first}
 use Rattle.mr_plan.specs.Outcome.{text}
 use Rattle.mr_record.specs.RecordText.{text_of}

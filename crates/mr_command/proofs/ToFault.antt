@@ -10,7 +10,8 @@ use Rattle.mr_query.specs.declared.query.Query.{Query}
 use Rattle.mr_proof.specs.Feeding.{IsUnsettled}
 use Rattle.mr_proof.specs.Tight.{question}
 use Rattle.mr_command.specs.Counting.{pieces_of, reads_taken, AllowsReads, IsToFault}
-use Rattle.mr_command.specs.Ending.{RunsPlan, ComesAsSaid, ReadsFileOnce}
+use Rattle.mr_command.specs.Ending.{RunsPlan, ComesAsSaid}
+use Rattle.mr_command.specs.private.Steps.{ReadsFileOnce}
 use Rattle.mr_plan.specs.Outcome.{Outcome}
 use Rattle.mr_plan.specs.Plan.{Input, LeadsToOutcome, Plan, comes}
 use Rattle.mr_plan.specs.Say.{given, needs}

@@ -2,5 +2,4 @@ pub mod Counting
 pub mod Answer
 pub mod Shown
 pub mod Ending
-pub mod Inputs
 pub mod private

@@ -2,3 +2,5 @@ pub mod Bundled
 pub mod Listing
 pub mod Taking
 pub mod Applying
+pub mod Inputs
+pub mod Steps

@@ -6,13 +6,13 @@ ghost use Rattle.mr_tree.specs.Nodes.{HasSomeCause, TellsRefusal};
 ghost use Rattle.mr_query.specs.Word.{IsAskable};
 ghost use Rattle.mr_clash.specs.Finding.{found, opened_accepted, ShowsCollision, FetchesFew, FindsFor};
 ghost use Rattle.mr_bundle.specs.Proofs.{as_given};
-ghost use Rattle.mr_command.specs.Ending.{SaysRefusal};
-ghost use Rattle.mr_plan.specs.Found.{as_map_error};
+ghost use Rattle.mr_command.specs.private.Steps.{SaysRefusal};
+ghost use Rattle.mr_pages.specs.Opening.{of_nodes};
 
 use crate::ending::{Ending, Halt};
 use crate::opening::unopened;
 use mr_clash::{AuditErr, Finding, audit};
-use mr_plan::unfetched_error;
+use mr_pages::MapErr;
 use mr_query::Query;
 use mr_tree::{Nodes, NodesErr};
 use std::alloc::Global;
@@ -51,7 +51,7 @@ pub(crate) fn finding_of_nodes<N: Nodes>(
 
 // What a command comes to without a node of the map in a file, by why that was not fetched.
 pub(crate) fn unfetched(alloc: Global, name: &str, error: &NodesErr) -> Result<Ending, Halt>
-    ensures { SaysRefusal name.now (as_map_error error.now) result }
+    ensures { SaysRefusal name.now (of_nodes error.now) result }
 {
-    unopened(alloc, name, &unfetched_error(error))
+    unopened(alloc, name, &MapErr::from(*error))
 }

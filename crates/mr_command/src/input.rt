@@ -5,8 +5,8 @@ ghost use Rattle.mr_record.specs.private.Bytes.{AreBytes};
 ghost use Rattle.mr_record.specs.RecordText.{IsRecordList, records_of_text};
 ghost use Rattle.mr_query.specs.Script.{queries_of_text, script_limit};
 ghost use Rattle.mr_query.specs.Word.{IsAskable};
-ghost use Rattle.mr_command.specs.Ending.{IsAsRead, SaysMissing, ReadsInput};
-ghost use Rattle.mr_command.specs.Inputs.{ReadsText, SaysText};
+ghost use Rattle.mr_command.specs.private.Steps.{IsAsRead, SaysMissing, ReadsInput};
+ghost use Rattle.mr_command.specs.private.Inputs.{ReadsText, SaysText};
 
 use crate::ending::{Ending, Halt, Step};
 use mr_outside::{Shelf, ShelfErr, read_all};

@@ -1,7 +1,8 @@
 //! The command `prove`.
 
 ghost use Rattle.mr_query.specs.Word.{IsAskable};
-ghost use Rattle.mr_command.specs.Ending.{RunsPlan, IsCarriedOut, KeepsProof};
+ghost use Rattle.mr_command.specs.Ending.{RunsPlan, IsCarriedOut};
+ghost use Rattle.mr_command.specs.private.Steps.{KeepsProof};
 ghost use Rattle.mr_plan.specs.Plan.{comes};
 ghost use Rattle.mr_plan.specs.Say.{say_written};
 ghost use Rattle.mr_plan.specs.declared.words.Command.TheVariants as commands;

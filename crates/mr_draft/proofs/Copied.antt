@@ -15,7 +15,7 @@ use Rattle.mr_outside.proofs.Changes.{IsChanged-grown, file-with_file, file-with
 use Rattle.mr_pages.specs.Page.{Form}
 use Rattle.mr_pages.specs.Source.{told_bytes}
 use Rattle.mr_draft.specs.Sheets.{zeros, HasMadeEmpty, WasRead, HasCopied, CopyStops, IsFiled}
-use Rattle.mr_edit.specs.Shelves.{HasShelfCause, RefusesAsEdit, RefusesMade}
+use Rattle.mr_edit.specs.Shelves.{HasShelfCause, of_shelf, of_made}
 use Rattle.mr_edit.specs.declared.error.EditErr.{EditErr}
 use Rattle.mr_edit.specs.declared.error.EditErr.TheVariants as errors
 use Rattle.mr_draft.proofs.Filed.{shelf_cause}
@@ -66,7 +66,7 @@ none_before name bytes (Some files) after put none =
 
 -- a file that is there is missing only where no file is told
 not_told : {A : Type 0} (name : List ℕ) (before after : Shelved) (e : ShelfErr) (r : EditErr) →
-    IsFiled before.files name → ShelfCauses {A = A} name before after (Err e) → RefusesAsEdit e r → r ≡ errors.Missing →
+    IsFiled before.files name → ShelfCauses {A = A} name before after (Err e) → r ≡ of_shelf e → r ≡ errors.Missing →
     before.files ≡ None
 not_told name before after shelf.Missing r there c is missing = at before.files refl there (c.missing refl)
   where
@@ -81,7 +81,7 @@ not_told name before after shelf.NoMemory r there c is missing =
     let no : ◌≡◌ {A = EditErr} errors.NoMemory errors.Missing = sym is ∙ missing in absurd cc
 
 -- the file that is made is never said to be missing
-not_missing : (e : ShelfErr) (r : EditErr) → RefusesMade e r → r ≡ errors.Missing → ⊥
+not_missing : (e : ShelfErr) (r : EditErr) → r ≡ of_made e → r ≡ errors.Missing → ⊥
 not_missing shelf.Missing r is missing =
     let no : ◌≡◌ {A = EditErr} errors.Fault errors.Missing = sym is ∙ missing in cc
 not_missing shelf.Fault r is missing =
@@ -90,7 +90,7 @@ not_missing shelf.NoMemory r is missing =
     let no : ◌≡◌ {A = EditErr} errors.NoMemory errors.Missing = sym is ∙ missing in cc
 
 made_cause : {A : Type 0} (name : List ℕ) (before after : Shelved) (e : ShelfErr) (r : EditErr) →
-    IsFiled before.files name → ShelfCauses {A = A} name before after (Err e) → RefusesMade e r →
+    IsFiled before.files name → ShelfCauses {A = A} name before after (Err e) → r ≡ of_made e →
     HasShelfCause before.faults after.faults r
 made_cause name before after shelf.Missing r there c is =
     subst (HasShelfCause before.faults after.faults) (sym is)
@@ -105,7 +105,7 @@ create_rose told name a b none miss = subst (λ o. MayMiss o name a b) none miss
 
 pub create_stops : {A : Type 0} (form : Form) (new : List ℕ) (pages : ℕ) (s b : Shelved) (e : ShelfErr) (r : EditErr) →
     (IsErrOf {T = A} (Err e) shelf.Missing → s.files ≡ None) → b.files ≡ s.files → b.reads ≡ s.reads →
-    ShelfCauses {A = A} new s b (Err e) → RefusesMade e r → CopyStops form new pages s b r
+    ShelfCauses {A = A} new s b (Err e) → r ≡ of_made e → CopyStops form new pages s b r
 create_stops {A = A} form new pages s b e r never files reads c is = record {
   left = inl files;
   cause = at e c never is;
@@ -117,7 +117,7 @@ create_stops {A = A} form new pages s b e r never files reads c is = record {
   where
     at : (e : ShelfErr) → ShelfCauses {A = A} new s b (Err e) → (IsErrOf {T = A} (Err e) shelf.Missing →
         s.files ≡ None) →
-        RefusesMade e r → HasShelfCause s.faults b.faults r
+        r ≡ of_made e → HasShelfCause s.faults b.faults r
     at shelf.Missing c never is =
         subst (HasShelfCause s.faults b.faults) (sym is)
         (create_rose s.files new s.faults b.faults (never refl) (c.missing refl))
@@ -141,7 +141,7 @@ module _ (form : Form) (new : List ℕ) (pages : ℕ) (page : List ℕ) (zero_pa
   }
 
   pub first_stops : {A : Type 0} (e : ShelfErr) (r : EditErr) → IsChangedPartly (grown new) page a.files b.files →
-      ShelfCauses {A = A} new a b (Err e) → RefusesMade e r → CopyStops form new pages s b r
+      ShelfCauses {A = A} new a b (Err e) → r ≡ of_made e → CopyStops form new pages s b r
   first_stops e r p c is = record {
     left = inr (
       p.front,
@@ -200,7 +200,7 @@ module _ (form : Form) (old new : List ℕ) (pages page count : ℕ) (s a : Shel
       }
 
   pub read_stops : {A : Type 0} (b : Shelved) (e : ShelfErr) (r : EditErr) → IsFiled s.files old → b.files ≡ a.files →
-      CountsRead {A = A} a b (Err e) → ShelfCauses {A = A} old a b (Err e) → RefusesAsEdit e r →
+      CountsRead {A = A} a b (Err e) → ShelfCauses {A = A} old a b (Err e) → r ≡ of_shelf e →
       CopyStops form new pages s b r
   read_stops b e r there files reads c is = record {
     left = inr (
@@ -248,7 +248,7 @@ module _ (form : Form) (old new : List ℕ) (pages page count : ℕ) (piece : Li
     }
 
     pub piece_stops : {A : Type 0} (e : ShelfErr) (r : EditErr) → IsChangedPartly (grown new) piece a.files b.files →
-        ShelfCauses {A = A} new a b (Err e) → RefusesMade e r → CopyStops form new pages s b r
+        ShelfCauses {A = A} new a b (Err e) → r ≡ of_made e → CopyStops form new pages s b r
     piece_stops e r p c is = record {
       left = inr (
         (zeros form.size ++ w.nodes) ++ p.front,

@@ -1,5 +1,7 @@
 -- What the calls of a draft come to.
 use Rattle.std.proofs.Common.{◌≡◌, ℕ, ◌+◌, ◌≤◌, List, [], ◌∷◌, ◌++◌, length, inl, inr, sym, ap, subst, ◌∙◌, append-nil, arith}
+use Rattle.std.specs.Result.{IsErrAnd}
+use Rattle.std.proofs.lemmas.Result.{err_from_is_err_and}
 use Rattle.std.specs.Prelude.{⊤, Option, Some, None, option_map, IfSome, IfErr, OnOk, Result, Ok, Err}
 use Rattle.mr_record.specs.declared.version.Version.{Version}
 use Rattle.mr_outside.specs.Files.{Files, with_file}
@@ -201,7 +203,7 @@ is_top hash d t of = at d.root of.drafted.placed of.drafted.root_is of.drafted.t
 pub off_none : {A : Type 0} (Q : EditErr → Type 0) (r : Result A EditErr) (count : ℕ) (top : Option Child) →
     IfErr r (IsOff count top) → IsTop count top → IfErr r Q
 off_none Q (Ok a) count top off fits = tt
-off_none Q (Err (errors.Map fault)) count top off fits = absurd (off.1 fits)
+off_none Q (Err (errors.Map fault)) count top off fits = absurd (off.2 fits)
 off_none Q (Err errors.Missing) count top off fits = absurd off
 off_none Q (Err errors.Fault) count top off fits = absurd off
 off_none Q (Err errors.NoMemory) count top off fits = absurd off
@@ -209,3 +211,9 @@ off_none Q (Err errors.NoMemory) count top off fits = absurd off
 pub on_any : {A E P : Type 0} (r : Result A E) → P → OnOk r P
 on_any (Ok a) p = p
 on_any (Err e) p = tt
+
+-- a refusal that is handed on
+pub stopped : {A : Type 0} (r : Result A EditErr) (e : EditErr) (Q : EditErr → Type 0) → IsErrAnd r (λ y. y ≡ e) →
+    Q e → IfErr r Q
+stopped r e Q is held =
+    let p = err_from_is_err_and r is in subst (λ x. IfErr x Q) (sym p.1) (subst Q (sym p.2) held)

@@ -23,7 +23,7 @@ use Rattle.mr_store.specs.declared.cached_file.CachedFile.{CachedFile}
 use Rattle.mr_edit.specs.PageMap.{with_content, longer}
 use Rattle.mr_edit.specs.Causes.{HasEditCause}
 use Rattle.mr_edit.specs.Outcome.{NeverMap}
-use Rattle.mr_edit.specs.Shelves.{HasShelfCause, RefusesAsEdit}
+use Rattle.mr_edit.specs.Shelves.{HasShelfCause, of_shelf}
 use Rattle.mr_draft.specs.Sheets.{content_of, page_map_in, page_map_on, zeros, HasUnsealedPages, ArePages, KeepsSheets, ChangesPage, LosesPages}
 use Rattle.mr_edit.specs.declared.error.EditErr.{EditErr}
 use Rattle.mr_edit.specs.declared.error.EditErr.TheVariants as errors
@@ -40,7 +40,7 @@ absent_rose (Some files) name before after there miss =
 
 pub shelf_cause : {A : Type 0} (name : List ℕ) (before after : Shelved) (e : ShelfErr) (r : EditErr) →
     MatchOption before.files ⊤ (λ files. IsSome (file files name)) →
-    ShelfCauses {A = A} name before after (Err e) → RefusesAsEdit e r → HasShelfCause before.faults after.faults r
+    ShelfCauses {A = A} name before after (Err e) → r ≡ of_shelf e → HasShelfCause before.faults after.faults r
 shelf_cause name before after shelf.Missing r there c is =
     subst (HasShelfCause before.faults after.faults) (sym is)
     (absent_rose before.files name before.faults after.faults there (c.missing refl))

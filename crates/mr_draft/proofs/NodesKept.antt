@@ -34,7 +34,7 @@ use Rattle.mr_edit.specs.PageMap.{PageContent, PageMap, HasNode, node_content, f
 use Rattle.mr_edit.specs.Causes.{CanRead, HasEditCause}
 use Rattle.mr_edit.specs.Held.{IsEntryOf}
 use Rattle.mr_edit.specs.Outcome.{NeverMap}
-use Rattle.mr_edit.specs.Shelves.{blamed}
+use Rattle.mr_edit.specs.Shelves.{of_nodes}
 use Rattle.mr_edit.specs.declared.error.EditErr.{EditErr}
 use Rattle.mr_edit.specs.declared.error.EditErr.TheVariants as errors
 use Rattle.mr_draft.specs.Sheets.{content_of, page_map_on, AreOn, AreKept, IsFiled, RefusesRead, ChangesPage, LosesPages}
@@ -307,7 +307,7 @@ module _ (layout : Layout) (pages : ℕ) (hash : List ℕ → List ℕ) where
 
   -- nor is it blamed
   tells_none : (A : Type 0) (e : NodesErr) (n : view.Node) (P : Type 0) →
-      (P → (m : Node) × TellsNode {A = A} m (Err e) n) → NeverMap (blamed e) P
+      (P → (m : Node) × TellsNode {A = A} m (Err e) n) → NeverMap (of_nodes e) P
   tells_none A (nodes.Changed page held found) n P t = λ p. (t p).1
   tells_none A (nodes.Page page) n P t = λ p. (t p).1
   tells_none A (nodes.Outside page) n P t = λ p. (t p).1
@@ -316,7 +316,7 @@ module _ (layout : Layout) (pages : ℕ) (hash : List ℕ → List ℕ) where
   tells_none A nodes.NoMemory n P t = tt
 
   pub never_blamed : (A : Type 0) (files : Option Files) (name : List ℕ) (c : Child) (e : NodesErr) (r : EditErr)
-      (n : view.Node) → OfFile files name ⊤ (TellsAgain {A = A} form hash pages c (Err e) n) → r ≡ blamed e →
+      (n : view.Node) → OfFile files name ⊤ (TellsAgain {A = A} form hash pages c (Err e) n) → r ≡ of_nodes e →
       NeverMap r (CanRead scheme (page_map_on form files name pages) c)
   never_blamed A files name c e r n tells is =
       let told : Option PageMap = page_map_on form files name pages in
@@ -338,7 +338,7 @@ module _ (form : Form) (hash : List ℕ → List ℕ) (pages : ℕ) (c : Child) 
   memory_refuses = record { error = nodes.NoMemory; is = refl; given = inl tt }
 
   pub outside_refuses : (c.id ≡ 0) ⊎ (pages ≤ c.id) →
-      RefusesRead form hash pages c (blamed (nodes.Outside c.id))
+      RefusesRead form hash pages c (of_nodes (nodes.Outside c.id))
   outside_refuses out = record {
     error = nodes.Outside c.id;
     is = refl;
@@ -347,13 +347,13 @@ module _ (form : Form) (hash : List ℕ → List ℕ) (pages : ℕ) (c : Child) 
 
 -- what was read is blamed without a fault, and what failed was counted
 pub refused_cause : (pages : ℕ) (name : List ℕ) (c : Child) (before after : Shelved) (e : NodesErr) (r : EditErr) →
-    IsFiled before.files name → IsFetchRefused pages name c before after e → r ≡ blamed e →
+    IsFiled before.files name → IsFetchRefused pages name c before after e → r ≡ of_nodes e →
     HasEditCause before.faults after.faults r
 refused_cause pages name c before after e r there refused is =
     subst (HasEditCause before.faults after.faults) (sym is) (at e refused)
   where
     at : (e : NodesErr) → IsFetchRefused pages name c before after e → HasEditCause before.faults after.faults
-        (blamed e)
+        (of_nodes e)
     at (nodes.Changed page held found) h = (h.0.2, h.2)
     at (nodes.Page page) h = (tt, h.2)
     at (nodes.Outside page) h = (tt, h.2)

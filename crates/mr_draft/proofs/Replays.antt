@@ -38,11 +38,11 @@ module _ {S : Type 0} {G : Ghosts S} (s : Scheme) (root : Option Child) (dir : D
 -- in the file's version
 module _ {S : Type 0} {G : Ghosts S} (hash : List ℕ → List ℕ) (v w : Version) (same : v ≡ w) (root : Option Child)
     (dir : DirectoryEntries) (b : Changes) (f f' : CachedFile S G) (m : ℕ) where
-  pub replays_in : {E : Type 0} (r : Result (ℕ × Option Child) E) (dir' : DirectoryEntries) →
-      IfOk r (λ x. ReplaysBatch (by w hash) (page_map_of f) m root dir (page_map_of f') x.0 x.1 dir' b) →
-      IfOk r (λ x. ReplaysBatch (by v hash) (page_map_of f) m root dir (page_map_of f') x.0 x.1 dir' b)
-  replays_in r dir' x =
-      subst (λ u. IfOk r (λ x. ReplaysBatch (by u hash) (page_map_of f) m root dir (page_map_of f') x.0 x.1 dir' b))
+  pub replays_in : {E : Type 0} (r : Result ℕ E) (root' : Option Child) (dir' : DirectoryEntries) →
+      IfOk r (λ k. ReplaysBatch (by w hash) (page_map_of f) m root dir (page_map_of f') k root' dir' b) →
+      IfOk r (λ k. ReplaysBatch (by v hash) (page_map_of f) m root dir (page_map_of f') k root' dir' b)
+  replays_in r root' dir' x =
+      subst (λ u. IfOk r (λ k. ReplaysBatch (by u hash) (page_map_of f) m root dir (page_map_of f') k root' dir' b))
       (sym same) x
 
   pub within_in : ReplaysWithin (by w hash) (page_map_of f) m root dir b (state_of f).reads (state_of f').reads →

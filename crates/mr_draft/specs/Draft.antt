@@ -28,7 +28,7 @@ use Rattle.mr_batch.specs.Directory.{DirectoryEntries, IsDirectoryOf}
 use Rattle.mr_batch.specs.Peak.{peak}
 use Rattle.mr_batch.specs.Replay.{replay}
 use Rattle.mr_edit.specs.Drafted.{Drafted}
-use Rattle.mr_edit.specs.Outcome.{IsLow}
+use Rattle.mr_edit.specs.Outcome.{IsLow, IsOfRoot, root_page}
 use Rattle.mr_draft.specs.Sheets.{page_map_on, zeros}
 use Rattle.mr_edit.specs.Shelves.{HasShelfCause}
 use Rattle.mr_draft.specs.declared.draft.Draft.{Draft}
@@ -94,9 +94,10 @@ abbrev pub IsTop : (count : ℕ) → Option Child → Type 0
 IsTop count None = count ≡ 0
 IsTop count (Some c) = (0 < count) × (count ≤ count_limit)
 
--- it may not, and a page is blamed for it
+-- it may not, and the page of the root is blamed for it, page 0 where there is none
 abbrev pub IsOff : (count : ℕ) → Option Child → EditErr → Type 0
-IsOff count root (errors.Map fault) = (fault.rule ≡ rule.Page) × (IsTop count root → ⊥)
+IsOff count root (errors.Map fault) =
+    (fault.rule ≡ rule.Page) × (fault.page ≡ root_page root) × (IsTop count root → ⊥)
 IsOff count root e = ⊥
 
 -- ---- a map is copied
@@ -163,6 +164,22 @@ abbrev pub AppliesBatch : (List ℕ → List ℕ) → (before : DraftState) → 
     (after : DraftState) → (dir' : DirectoryEntries) → Type 0
 AppliesBatch hash before dir b after dir' =
     (t : Tree) → CanApply hash before dir b t → Applied hash before b t after dir'
+
+-- A change was refused, and the draft has the root that the change met, beside the count and the
+-- batch from before. Page 0 is said to be none that may stand there only where that root's is 0.
+pub record StopsAtChange (before after : DraftState) (e : EditErr) : Type 0 where
+  pub count : after.count ≡ before.count
+  pub batch : after.batch ≡ before.batch
+  pub page : IsOfRoot (root_page after.root) e
+
+-- All changes were made, and a map may not have so many records and this root.
+pub record StopsAtCount (number : ℕ) (after : DraftState) (e : EditErr) : Type 0 where
+  pub batch : after.batch ≡ number
+  pub off : IsOff after.count after.root e
+
+-- one of the two
+abbrev pub StopsBatch : (number : ℕ) → (before after : DraftState) → EditErr → Type 0
+StopsBatch number before after e = StopsAtChange before after e ⊎ StopsAtCount number after e
 
 -- Whatever was answered, the file is laid out as before and not sealed, and each other file is as
 -- before.

@@ -25,7 +25,7 @@ use Rattle.mr_store.specs.Kept.{CacheEntries, node_of, room}
 use Rattle.mr_store.specs.declared.cached_file.CachedFile.{CachedFile}
 use Rattle.mr_store.specs.declared.cached_node.CachedNode.{CachedNode}
 use Rattle.mr_edit.specs.PageMap.{PageContent, PageMap, HasNode}
-use Rattle.mr_edit.specs.Shelves.{HasShelfCause, blamed}
+use Rattle.mr_edit.specs.Shelves.{HasShelfCause, of_nodes}
 use Rattle.mr_edit.specs.declared.error.EditErr.{EditErr}
 use Rattle.mr_edit.specs.declared.error.EditErr.TheVariants as errors
 
@@ -88,7 +88,7 @@ pub record AreKept (s : Scheme) (told : Option PageMap) (es : CacheEntries) (cap
 pub record RefusesRead (form : Form) (hash : List ℕ → List ℕ) (pages : ℕ) (c : Child) (e : EditErr)
     : Type 0 where
   pub error : NodesErr
-  pub is : e ≡ blamed error
+  pub is : e ≡ of_nodes error
   pub given : IsGiven form hash pages c error
       ⊎ ((error ≡ nodes.Outside c.id) × (1 ≤ c.id → pages ≤ c.id))
 

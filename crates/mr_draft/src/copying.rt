@@ -3,10 +3,10 @@
 ghost use Rattle.std.specs.Prelude.{◌≡◌, ◌≢◌, ◌+◌, ◌-◌, ◌*◌, ◌≤◌, ◌<◌, max, min, length, IfOk, MatchResult, ℕ, List};
 ghost use Rattle.mr_outside.specs.State.{Shelved};
 ghost use Rattle.mr_store.specs.CachedFile.{state_of, name_of, page_form};
-ghost use Rattle.mr_edit.specs.Shelves.{RefusesMade};
+ghost use Rattle.mr_edit.specs.Shelves.{of_made};
 ghost use Rattle.mr_draft.specs.Sheets.{zeros, HasMadeEmpty, WasRead, HasCopied, CopyStops, IsFiled, OnlyWrites};
 
-use crate::pages::{clear, refusal};
+use crate::pages::clear;
 use mr_edit::EditErr;
 use mr_outside::{Shelf, ShelfErr};
 use mr_pages::{SECOND_SIZE, read_filled};
@@ -23,14 +23,13 @@ fn bytes_of(alloc: Global, size: usize) -> Result<Vec<u8>, AllocError>
     vec![in alloc; 0u8; size]
 }
 
-// The same cause in a change's own words, of the file that is made: that it is missing is a fault.
+// The refusal of a file that is made: that it is missing is a fault.
 fn refusal_of_made(error: ShelfErr) -> EditErr
-    ensures { RefusesMade error result }
+    ensures { result ≡ of_made error }
 {
     match error {
         ShelfErr::Missing => EditErr::Fault,
-        ShelfErr::Fault => EditErr::Fault,
-        ShelfErr::NoMemory => EditErr::NoMemory,
+        _ => EditErr::from(error),
     }
 }
 
@@ -121,7 +120,7 @@ fn copy_piece<S: Shelf>(
     let at = page as u64 * file.layout.size as u64;
     match read_filled(&mut file.shelf, old, at, piece) {
         Ok(_) => append_piece(file, page, count, piece),
-        Err(error) => Err(refusal(error)),
+        Err(error) => Err(EditErr::from(error)),
     }
 }
 

@@ -9,11 +9,11 @@ ghost use Rattle.mr_store.specs.CachedFile.{state_of, scheme_of};
 ghost use Rattle.mr_edit.specs.Causes.{HasEditCause};
 ghost use Rattle.mr_edit.specs.Changing.{CanReplay};
 ghost use Rattle.mr_edit.specs.Counted.{ReplaysWithin};
-ghost use Rattle.mr_edit.specs.Outcome.{IsLow, NeverMap};
+ghost use Rattle.mr_edit.specs.Outcome.{IsLow, IsOfRoot, NeverMap, root_page};
 ghost use Rattle.mr_edit.specs.Reads.{reads_along};
 ghost use Rattle.mr_edit.specs.Replayed.{IsOfVersion, ReplaysBatch};
 ghost use Rattle.mr_edit.specs.Shelves.{HasShelfCause};
-ghost use Rattle.mr_draft.specs.Draft.{draft_state, draft_of, shelved, IsTop, IsOff, CopiesMap, CopyFails, CanApply, AppliesBatch, KeepsDraft};
+ghost use Rattle.mr_draft.specs.Draft.{draft_state, draft_of, shelved, IsTop, IsOff, CopiesMap, CopyFails, CanApply, AppliesBatch, StopsBatch, KeepsDraft};
 ghost use Rattle.mr_draft.specs.Sheets.{page_map_of, KeepsSheets};
 
 use crate::copying::copy_file;
@@ -105,7 +105,9 @@ fn is_top(count: u64, root: &Option<Child>) -> bool
 }
 
 // The page of a root node, 0 where there is none.
-fn root_page(root: &Option<Child>) -> u32 {
+fn page_of(root: &Option<Child>) -> u32
+    ensures { result ≡ root_page root.now }
+{
     match root {
         None => 0,
         Some(child) => child.id,
@@ -119,7 +121,7 @@ fn judge_top(count: u64, root: &Option<Child>) -> Result<(), EditErr>
 {
     if !is_top(count, root) {
         return Err(EditErr::Map(MapFault {
-            page: root_page(root),
+            page: page_of(root),
             rule: MapRule::Page,
         }));
     }
@@ -156,39 +158,39 @@ fn sheets_of<'a, S: Shelf, H: Hashes, V: StaticVersion>(
 }
 
 // Makes the changes of a batch on the pages of a file in this version, from a first free page and
-// a root, and answers those that there are then.
+// a root, and answers the first free page then. The root follows, as far as the changes come.
 fn replay_in<'a, S: Shelf, H: Hashes, V: StaticVersion>(
     alloc: Global,
     sheets: &'a mut Sheets<S, H>,
     free: u32,
-    root: Option<Child>,
+    root: &mut Option<Child>,
     dir: &mut Directory,
     batch: &Batch,
-) -> Result<(u32, Option<Child>), EditErr>
+) -> Result<u32, EditErr>
     requires version { sheets.old.file.layout.version ≡ V.version }
     requires batch { All (IsOfVersion sheets.old.file.layout.version) batch.now.list }
-    ensures replays { IfOk result (λ r. ReplaysBatch (by V.version H.of)
-        (page_map_of sheets.old.file) free root dir.old (page_map_of sheets.new.file) r.0 r.1
-        dir.new
-        batch.now) }
+    ensures replays { IfOk result (λ f. ReplaysBatch (by V.version H.of)
+        (page_map_of sheets.old.file) free root.old dir.old (page_map_of sheets.new.file) f
+        root.new dir.new batch.now) }
+    ensures page { IfErr result (IsOfRoot (root_page root.new)) }
     ensures kept { KeepsSheets sheets.old.file sheets.new.file }
     ensures within { ReplaysWithin (by V.version H.of) (page_map_of sheets.old.file)
-        free root dir.old batch.now (state_of sheets.old.file).reads
+        free root.old dir.old batch.now (state_of sheets.old.file).reads
         (state_of sheets.new.file).reads }
     ensures quiet { OnOk result
         ((state_of sheets.new.file).faults ≡ (state_of sheets.old.file).faults) }
-    ensures low { IfOk result (λ r. IsLow root → IsLow r.1) }
+    ensures low { IsLow root.old → IsLow root.new }
     ensures cause { IfErr result (HasEditCause (state_of sheets.old.file).faults
         (state_of sheets.new.file).faults) }
     ensures blames_none_told { IfErr result (λ e. NeverMap e (CanReplay (by V.version H.of)
-        (page_map_of sheets.old.file) free root dir.old batch.now)) }
+        (page_map_of sheets.old.file) free root.old dir.old batch.now)) }
 {
     let mut pager = pager_of::<S, H, V>(alloc, sheets, free);
     let replayed = replay::<Versioned<'a, S, H, V>>(alloc, &mut pager, root, dir, batch);
     let free = pager.free;
     let _sheets = sheets_of(pager);
     match replayed {
-        Ok(root) => Ok((free, root)),
+        Ok(()) => Ok(free),
         Err(error) => Err(error),
     }
 }
@@ -198,27 +200,27 @@ fn replay_any<S: Shelf, H: Hashes>(
     alloc: Global,
     sheets: &mut Sheets<S, H>,
     free: u32,
-    root: Option<Child>,
+    root: &mut Option<Child>,
     dir: &mut Directory,
     batch: &Batch,
-) -> Result<(u32, Option<Child>), EditErr>
+) -> Result<u32, EditErr>
     requires { All (IsOfVersion sheets.old.file.layout.version) batch.now.list }
-    ensures replays { IfOk result (λ r. ReplaysBatch (scheme_of H.of sheets.old.file)
-        (page_map_of sheets.old.file) free root dir.old (page_map_of sheets.new.file) r.0 r.1
-        dir.new
-        batch.now) }
+    ensures replays { IfOk result (λ f. ReplaysBatch (scheme_of H.of sheets.old.file)
+        (page_map_of sheets.old.file) free root.old dir.old (page_map_of sheets.new.file) f
+        root.new dir.new batch.now) }
+    ensures page { IfErr result (IsOfRoot (root_page root.new)) }
     ensures kept { KeepsSheets sheets.old.file sheets.new.file }
     ensures within { ReplaysWithin (scheme_of H.of sheets.old.file) (page_map_of sheets.old.file)
-        free root dir.old batch.now (state_of sheets.old.file).reads
+        free root.old dir.old batch.now (state_of sheets.old.file).reads
         (state_of sheets.new.file).reads }
     ensures quiet { OnOk result
         ((state_of sheets.new.file).faults ≡ (state_of sheets.old.file).faults) }
-    ensures low { IfOk result (λ r. IsLow root → IsLow r.1) }
+    ensures low { IsLow root.old → IsLow root.new }
     ensures cause { IfErr result (HasEditCause (state_of sheets.old.file).faults
         (state_of sheets.new.file).faults) }
     ensures blames_none_told { IfErr result
         (λ e. NeverMap e (CanReplay (scheme_of H.of sheets.old.file)
-        (page_map_of sheets.old.file) free root dir.old batch.now)) }
+        (page_map_of sheets.old.file) free root.old dir.old batch.now)) }
 {
     match sheets.file.layout.version {
         Version::One => replay_in::<S, H, First>(alloc, sheets, free, root, dir, batch),
@@ -230,7 +232,9 @@ impl<S: Shelf, H: Hashes> Draft<S, H> {
     /// Makes the changes of a batch on the pages. The directory, which is that of the map's
     /// records, follows them. Each record that comes has a layer of the map's version.
     ///
-    /// Where the files are told, the batch is to be one that may be applied to the map.
+    /// Where the files are told, the batch is to be one that may be applied to the map. Where they
+    /// are not, `Page` blames besides what the changes blame; and the root, or page 0 where there
+    /// is none, where a map may not have so many records and this root.
     pub fn apply_batch(&mut self, dir: &mut Directory, batch: &Batch) -> Result<(), EditErr>
         requires { All (IsOfVersion self.old.sheets.file.layout.version) batch.now.list }
         ensures applies { OnOk result (AppliesBatch H.of (draft_of self.old) dir.old batch.now
@@ -239,6 +243,10 @@ impl<S: Shelf, H: Hashes> Draft<S, H> {
         // Whether or not the files are told, a map may have so many records and this root.
         ensures top { OnOk result (IsTop self.new.count self.new.root) }
         ensures low { OnOk result (IsLow self.old.root → IsLow self.new.root) }
+        // Whether a change is refused or the count, and which page is blamed where no page of a
+        // node is: that of the root which the draft then has.
+        ensures page { IfErr result (StopsBatch batch.now.number (draft_of self.old)
+            (draft_of self.new)) }
         ensures at_most { self.new.sheets.file.pages ≤ page_limit }
         ensures kept { KeepsDraft H.of (draft_of self.old) (draft_of self.new) }
         ensures quiet { OnOk result ((shelved self.new).faults ≡ (shelved self.old).faults) }
@@ -252,19 +260,18 @@ impl<S: Shelf, H: Hashes> Draft<S, H> {
             batch.now t →
             IfErr result (HasShelfCause (shelved self.old).faults (shelved self.new).faults) }
     {
-        let (free, root) = replay_any::<S, H>(
+        let free = replay_any::<S, H>(
             self.alloc,
             &mut self.sheets,
             self.free,
-            self.root,
+            &mut self.root,
             dir,
             batch,
         )?;
         self.free = free;
-        self.root = root;
         self.count = dir.len() as u64;
         self.batch = batch.number();
-        judge_top(self.count, &root)
+        judge_top(self.count, &self.root)
     }
 
     /// The shelf, as it stands.

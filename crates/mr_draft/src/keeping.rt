@@ -8,7 +8,6 @@ ghost use Rattle.mr_edit.specs.PageMap.{HasNode, node_content, free_content, wit
 ghost use Rattle.mr_edit.specs.Causes.{HasEditCause, CanRead};
 ghost use Rattle.mr_edit.specs.Held.{IsEntryOf};
 ghost use Rattle.mr_edit.specs.Outcome.{NeverMap, CanWrite};
-ghost use Rattle.mr_edit.specs.Shelves.{blamed};
 ghost use Rattle.mr_draft.specs.Sheets.{page_map_of, HasAllPages, IsSheets, KeepsSheets, RefusesRead};
 
 use crate::pages::put_page;
@@ -16,31 +15,8 @@ use mr_edit::EditErr;
 use mr_outside::Shelf;
 use mr_pages::{MapFault, MapRule, SECOND_SIZE, put_free, put_node};
 use mr_store::CachedFile;
-use mr_tree::{Child, Hashes, NodeView, NodesErr, is_view};
+use mr_tree::{Child, Hashes, NodeView, is_view};
 use std::alloc::Global;
-
-// What is said of a node that was read, in a change's own words.
-fn blame(error: NodesErr) -> EditErr
-    ensures { result ≡ blamed error }
-{
-    match error {
-        NodesErr::Changed { page, held, found } => EditErr::Map(MapFault {
-            page,
-            rule: MapRule::Changed { held, found },
-        }),
-        NodesErr::Page { page } => EditErr::Map(MapFault {
-            page,
-            rule: MapRule::Page,
-        }),
-        NodesErr::Outside { page } => EditErr::Map(MapFault {
-            page,
-            rule: MapRule::Outside,
-        }),
-        NodesErr::Missing => EditErr::Missing,
-        NodesErr::Fault => EditErr::Fault,
-        NodesErr::NoMemory => EditErr::NoMemory,
-    }
-}
 
 // Reads the page of the child, and shows its node if it is what is said of the child.
 fn read_node<H: Hashes, S: Shelf>(
@@ -67,7 +43,7 @@ fn read_node<H: Hashes, S: Shelf>(
 {
     match file.read_node::<H>(child, into) {
         Ok(()) => Ok(()),
-        Err(error) => Err(blame(error)),
+        Err(error) => Err(EditErr::from(error)),
     }
 }
 

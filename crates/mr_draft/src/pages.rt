@@ -7,24 +7,13 @@ ghost use Rattle.mr_store.specs.CachedFile.{state_of, name_of, page_form, OnlyRe
 ghost use Rattle.mr_edit.specs.PageMap.{HasFree, with_content, longer};
 ghost use Rattle.mr_edit.specs.Causes.{HasEditCause};
 ghost use Rattle.mr_edit.specs.Outcome.{NeverMap, CanWrite};
-ghost use Rattle.mr_edit.specs.Shelves.{HasShelfCause, RefusesAsEdit};
+ghost use Rattle.mr_edit.specs.Shelves.{HasShelfCause};
 ghost use Rattle.mr_draft.specs.Sheets.{content_of, page_map_on, page_map_of, zeros, ArePages, HasAllPages, KeepsSheets, OnlyWrites, ChangesPage, LosesPages};
 
 use mr_edit::EditErr;
-use mr_outside::{Shelf, ShelfErr};
+use mr_outside::Shelf;
 use mr_pages::{MapFault, MapRule, PAGE_LIMIT, SECOND_SIZE};
 use mr_store::CachedFile;
-
-// The same cause in a change's own words.
-pub(crate) fn refusal(error: ShelfErr) -> EditErr
-    ensures { RefusesAsEdit error result }
-{
-    match error {
-        ShelfErr::Missing => EditErr::Missing,
-        ShelfErr::Fault => EditErr::Fault,
-        ShelfErr::NoMemory => EditErr::NoMemory,
-    }
-}
 
 // Makes all bytes zeros.
 fn clear_all(bytes: &mut [u8])
@@ -67,7 +56,7 @@ fn write_at<S: Shelf>(file: &mut CachedFile<S>, page: u32, bytes: &[u8]) -> Resu
     let at = page as u64 * file.layout.size as u64;
     match file.shelf.write_at(file.name.as_str(), at, bytes) {
         Ok(()) => Ok(()),
-        Err(error) => Err(refusal(error)),
+        Err(error) => Err(EditErr::from(error)),
     }
 }
 
@@ -125,7 +114,7 @@ fn append_page<S: Shelf>(file: &mut CachedFile<S>) -> Result<(), EditErr>
     clear(page);
     match file.shelf.append(file.name.as_str(), page) {
         Ok(()) => Ok(()),
-        Err(error) => Err(refusal(error)),
+        Err(error) => Err(EditErr::from(error)),
     }
 }
 
@@ -194,6 +183,6 @@ pub(crate) fn next_free<S: Shelf>(file: &mut CachedFile<S>, page: u32) -> Result
             page,
             rule: MapRule::Page,
         })),
-        Err(error) => Err(refusal(error)),
+        Err(error) => Err(EditErr::from(error)),
     }
 }

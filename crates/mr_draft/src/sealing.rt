@@ -14,7 +14,6 @@ ghost use Rattle.mr_draft.specs.Draft.{draft_state, draft_of, shelved, SealsMap,
 ghost use Rattle.mr_draft.specs.Sheets.{HasAllPages, IsFiled, OnlyWrites};
 
 use crate::draft::Draft;
-use crate::pages::refusal;
 use mr_edit::EditErr;
 use mr_outside::Shelf;
 use mr_pages::{MapHead, SECOND_SIZE, level_of_root, put_head};
@@ -35,7 +34,7 @@ fn sync<S: Shelf>(file: &mut CachedFile<S>) -> Result<(), EditErr>
 {
     match file.shelf.sync(file.name.as_str()) {
         Ok(()) => Ok(()),
-        Err(error) => Err(refusal(error)),
+        Err(error) => Err(EditErr::from(error)),
     }
 }
 
@@ -57,7 +56,7 @@ fn put_first<S: Shelf>(file: &mut CachedFile<S>, page: &[u8]) -> Result<(), Edit
 {
     match file.shelf.write_at(file.name.as_str(), 0, page) {
         Ok(()) => Ok(()),
-        Err(error) => Err(refusal(error)),
+        Err(error) => Err(EditErr::from(error)),
     }
 }
 

@@ -1,6 +1,8 @@
 -- A refusal that blames another page.
-use Rattle.std.proofs.Common.{ℕ, refl, sym, subst}
+use Rattle.std.proofs.Common.{◌≡◌, ℕ, refl, sym, subst}
 use Rattle.std.specs.Prelude.{Result, IfErr, Ok, Err}
+use Rattle.std.specs.Result.{IsErrAnd}
+use Rattle.std.proofs.lemmas.Result.{err_from_is_err_and}
 use Rattle.mr_edit.specs.Causes.{HasEditCause, IsOfPages}
 use Rattle.mr_edit.specs.Outcome.{NeverMap, IsAlike, IsOfRoot}
 use Rattle.mr_edit.specs.declared.error.EditErr.{EditErr}
@@ -27,3 +29,10 @@ of_no_root (Err (errors.Map fault)) = λ is first. refl
 of_no_root (Err errors.Missing) = tt
 of_no_root (Err errors.Fault) = tt
 of_no_root (Err errors.NoMemory) = tt
+
+-- a refusal that is handed on
+pub handed_page : {T : Type 0} (r : Result T EditErr) (e : EditErr) (root : ℕ) → IsErrAnd r (λ y. y ≡ e) →
+    IsOfRoot root e → IfErr r (IsOfRoot root)
+handed_page r e root is of =
+    let p = err_from_is_err_and r is in
+    subst (λ x. IfErr x (IsOfRoot root)) (sym p.1) (subst (IsOfRoot root) (sym p.2) of)

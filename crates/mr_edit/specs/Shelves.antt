@@ -1,5 +1,5 @@
 -- Why a change is refused by the shelf, or for want of memory.
-use Rattle.std.specs.Prelude.{◌≡◌, ⊤, ℕ}
+use Rattle.std.specs.Prelude.{⊤, ℕ}
 use Rattle.mr_outside.specs.Faults.{Rose}
 use Rattle.mr_outside.specs.declared.shelf.ShelfErr.{ShelfErr}
 use Rattle.mr_outside.specs.declared.shelf.ShelfErr.TheVariants as shelf
@@ -17,23 +17,22 @@ HasShelfCause before after errors.Fault = Rose before after
 HasShelfCause before after errors.NoMemory = ⊤
 
 -- a shelf's refusal in a change's own words
-abbrev pub RefusesAsEdit : ShelfErr → EditErr → Type 0
-RefusesAsEdit shelf.Missing e = e ≡ errors.Missing
-RefusesAsEdit shelf.Fault e = e ≡ errors.Fault
-RefusesAsEdit shelf.NoMemory e = e ≡ errors.NoMemory
+abbrev pub of_shelf : ShelfErr → EditErr
+of_shelf shelf.Missing = errors.Missing
+of_shelf shelf.Fault = errors.Fault
+of_shelf shelf.NoMemory = errors.NoMemory
 
 -- the same of a file that is made: that it is missing is a fault
-abbrev pub RefusesMade : ShelfErr → EditErr → Type 0
-RefusesMade shelf.Missing e = e ≡ errors.Fault
-RefusesMade shelf.Fault e = e ≡ errors.Fault
-RefusesMade shelf.NoMemory e = e ≡ errors.NoMemory
+abbrev pub of_made : ShelfErr → EditErr
+of_made shelf.Missing = errors.Fault
+of_made e = of_shelf e
 
 -- what is said of a node that was read, in a change's own words
-abbrev pub blamed : NodesErr → EditErr
-blamed (nodes.Changed page held found) =
+abbrev pub of_nodes : NodesErr → EditErr
+of_nodes (nodes.Changed page held found) =
     errors.Map (record { page = page; rule = rule.Changed held found })
-blamed (nodes.Page page) = errors.Map (record { page = page; rule = rule.Page })
-blamed (nodes.Outside page) = errors.Map (record { page = page; rule = rule.Outside })
-blamed nodes.Missing = errors.Missing
-blamed nodes.Fault = errors.Fault
-blamed nodes.NoMemory = errors.NoMemory
+of_nodes (nodes.Page page) = errors.Map (record { page = page; rule = rule.Page })
+of_nodes (nodes.Outside page) = errors.Map (record { page = page; rule = rule.Outside })
+of_nodes nodes.Missing = errors.Missing
+of_nodes nodes.Fault = errors.Fault
+of_nodes nodes.NoMemory = errors.NoMemory

@@ -7,12 +7,13 @@ ghost use Rattle.mr_edit.specs.Causes.{HasEditCause};
 ghost use Rattle.mr_edit.specs.Changing.{CanChange, CanReplay};
 ghost use Rattle.mr_edit.specs.Counted.{ChangesWithin, ReplaysWithin};
 ghost use Rattle.mr_edit.specs.Held.{IsTold};
-ghost use Rattle.mr_edit.specs.Outcome.{NeverMap, IsLow};
+ghost use Rattle.mr_edit.specs.Outcome.{NeverMap, IsLow, root_page, IsOfRoot};
 ghost use Rattle.mr_edit.specs.Reads.{insertion_reads};
 ghost use Rattle.mr_edit.specs.Replayed.{IsOfVersion, ChangesOne, ReplaysBatch};
 
 use crate::deleting::delete;
 use crate::learning::learn_once;
+use crate::root::at_root;
 use crate::{EditErr, PageFile, Pager, insert};
 use mr_batch::{Batch, Change, Directory};
 use mr_pages::{MapFault, MapRule};
@@ -88,8 +89,8 @@ fn remove<F: PageFile>(
     Ok(root)
 }
 
-// Makes a change.
-fn make_change<F: PageFile>(
+// Puts a record in, or takes one out.
+fn add_or_remove<F: PageFile>(
     alloc: Global,
     pager: &mut Pager<F>,
     root: Option<Child>,
@@ -119,37 +120,87 @@ fn make_change<F: PageFile>(
     }
 }
 
-/// Makes the changes of a batch in their order, and answers the root then. The directory, which is
-/// that of the map's records, follows them: a record that goes out is searched by the rectangle
-/// that it has there. `Page` blames what insertions and deletions blame.
+// The page of a root node, 0 where there is none.
+fn page_of(root: &Option<Child>) -> u32
+    ensures { result ≡ root_page root.now }
+{
+    match root {
+        None => 0,
+        Some(child) => child.id,
+    }
+}
+
+// Makes a change. The root is blamed where no page of a node is.
+fn make_change<F: PageFile>(
+    alloc: Global,
+    pager: &mut Pager<F>,
+    root: Option<Child>,
+    dir: &mut Directory,
+    learned: &mut bool,
+    change: &Change,
+) -> Result<Option<Child>, EditErr>
+    requires { IsOfVersion F.scheme.version change.now }
+    ensures changes { IfOk result (λ r. ChangesOne F.scheme (F.told pager.old.file)
+        pager.old.free root dir.old (F.told pager.new.file) pager.new.free r dir.new change.now) }
+    ensures page { IfErr result (IsOfRoot (root_page root)) }
+    ensures kept { F.kept pager.old.file pager.new.file }
+    ensures within { ChangesWithin F.scheme (F.told pager.old.file) pager.old.free root
+        dir.old change.now learned.old learned.new (F.reads pager.old.file)
+        (F.reads pager.new.file) }
+    ensures quiet { OnOk result (F.faults pager.new.file ≡ F.faults pager.old.file) }
+    ensures low { IfOk result IsLow }
+    ensures told { IfOk result (λ r. IfSome r (IsTold F.scheme.version)) }
+    ensures cause { IfErr result (HasEditCause (F.faults pager.old.file)
+        (F.faults pager.new.file)) }
+    ensures blames_none_told { IfErr result
+        (λ e. NeverMap e (CanChange F.scheme (F.told pager.old.file)
+        pager.old.free root dir.old change.now)) }
+{
+    let page = page_of(&root);
+    match add_or_remove::<F>(alloc, pager, root, dir, learned, change) {
+        Ok(changed) => Ok(changed),
+        Err(error) => Err(at_root(error, page)),
+    }
+}
+
+/// Makes the changes of a batch in their order. The root follows them: where a change is refused,
+/// it is the one that stood before that change. The directory, which is that of the map's records,
+/// follows them too: a record that goes out is searched by the rectangle that it has there.
+///
+/// `Page` blames what insertions and deletions blame; and the root, or page 0 where there is none,
+/// where the directory has no record with a number that is to go out.
 pub fn replay<F: PageFile>(
     alloc: Global,
     pager: &mut Pager<F>,
-    mut root: Option<Child>,
+    root: &mut Option<Child>,
     dir: &mut Directory,
     batch: &Batch,
-) -> Result<Option<Child>, EditErr>
+) -> Result<(), EditErr>
     requires { All (IsOfVersion F.scheme.version) batch.now.list }
-    ensures replays { IfOk result (λ r. ReplaysBatch F.scheme (F.told pager.old.file)
-        pager.old.free root dir.old (F.told pager.new.file) pager.new.free r dir.new batch.now) }
+    ensures replays { OnOk result (ReplaysBatch F.scheme (F.told pager.old.file)
+        pager.old.free root.old dir.old (F.told pager.new.file) pager.new.free root.new dir.new
+        batch.now) }
+    // The page that is blamed is page 0 only where the change that is refused met no root.
+    ensures page { IfErr result (IsOfRoot (root_page root.new)) }
     ensures kept { F.kept pager.old.file pager.new.file }
-    ensures within { ReplaysWithin F.scheme (F.told pager.old.file) pager.old.free root
+    ensures within { ReplaysWithin F.scheme (F.told pager.old.file) pager.old.free root.old
         dir.old batch.now (F.reads pager.old.file) (F.reads pager.new.file) }
     ensures quiet { OnOk result (F.faults pager.new.file ≡ F.faults pager.old.file) }
-    // Told or not, the root is no higher than a map's may be.
-    ensures low { IfOk result (λ r. IsLow root → IsLow r) }
+    // Told or not, and whatever is answered, the root is no higher than a map's may be.
+    ensures low { IsLow root.old → IsLow root.new }
     // Nor does it tell more than its version may.
-    ensures told { IfOk result
-        (λ r. IfSome root (IsTold F.scheme.version) → IfSome r (IsTold F.scheme.version)) }
+    ensures told { IfSome root.old (IsTold F.scheme.version) →
+        IfSome root.new (IsTold F.scheme.version) }
     ensures cause { IfErr result (HasEditCause (F.faults pager.old.file)
         (F.faults pager.new.file)) }
     ensures blames_none_told { IfErr result
         (λ e. NeverMap e (CanReplay F.scheme (F.told pager.old.file)
-        pager.old.free root dir.old batch.now)) }
+        pager.old.free root.old dir.old batch.now)) }
 {
     let mut learned = false;
     for i in 0..batch.len() {
-        root = make_change::<F>(alloc, pager, root, dir, &mut learned, batch.change(i))?;
+        let then = make_change::<F>(alloc, pager, *root, dir, &mut learned, batch.change(i))?;
+        *root = then;
     }
-    Ok(root)
+    Ok(())
 }

@@ -26,14 +26,16 @@ use Rattle.mr_pages.specs.File.{File, page_at, is_odd_size, pages_of, file_of, v
 use Rattle.mr_pages.specs.Stands.{StandsForTree}
 use Rattle.mr_pages.specs.Faults.{file_faults, first_of, mapfault}
 use Rattle.mr_pages.specs.Law.{IsOnlyMap, AgreesWithFault}
-use Rattle.mr_pages.specs.Walking.{OpensFile, child_link, head_of}
+use Rattle.mr_pages.specs.Walking.{child_link, head_of}
+use Rattle.mr_pages.specs.private.Walks.{OpensFile}
 use Rattle.mr_pages.specs.declared.checking.Checked.{Checked}
 use Rattle.mr_record.specs.declared.version.Version.{Version}
 use Rattle.mr_record.specs.declared.version.Version.TheVariants.{One, Two}
 use Rattle.std.proofs.Math.Nat.{mul-div_cancel}
 use Rattle.mr_pages.specs.PageBytes.{page_size, head_bytes, form_by}
 use Rattle.mr_pages.specs.Opening.{of_shelf, pages_in, FailsWithoutFault, OrFails, AnswersMap, SomeBytes, SomeFile, TellsBytes, MapCauses}
-use Rattle.mr_pages.specs.Source.{IfNotFailed, GivesFile, CheckedWhole, ChecksFile, MakesTree, HasWholePages, IsPaged, IsFrontOfFile, HasFirst, TellsPage, on_shelf, told_bytes}
+use Rattle.mr_pages.specs.Source.{IfNotFailed, GivesFile, CheckedWhole, ChecksFile, MakesTree, IsFrontOfFile, TellsPage, told_bytes}
+use Rattle.mr_pages.specs.private.Walks.{HasWholePages, IsPaged, HasFirst, on_shelf}
 use Rattle.mr_pages.proofs.HeadLaws.{first_form_is, second_form_is}
 use Rattle.mr_pages.proofs.PageReads.{if_there}
 use Rattle.mr_pages.proofs.Short.{at_least}

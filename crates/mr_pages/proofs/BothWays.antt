@@ -1,19 +1,19 @@
 -- What a call that reads a page answered is what the page spells, and it answers what a page spells.
-use Rattle.std.proofs.Common.{◌≡◌, ℕ, ◌^◌, ◌<◌, ◌≤◌, Bool, true, false, eqb, List, Result, Ok, Err, Option, Some, None, refl, sym, ap, ◌∙◌}
-use Rattle.std.specs.Prelude.{IfOk, IfSome, MatchResult}
+use Rattle.std.proofs.Common.{◌≡◌, ◌≢◌, ℕ, ◌≤◌, Bool, true, false, eqb, List, length, Result, Ok, Err, Option, Some, None, refl, sym, ap, ◌∙◌}
+use Rattle.std.specs.Prelude.{IfOk, MatchResult, if◌then◌else◌}
 use Rattle.std.specs.Result.{result_ok}
-use Rattle.std.proofs.lemmas.Bool.{eqb-true}
+use Rattle.std.proofs.lemmas.Bool.{eqb-true, eq-eqb, ne_eqb}
 use Rattle.mr_record.proofs.Encodings.{IsBytes}
 use Rattle.mr_tree.specs.View as view
 use Rattle.mr_pages.specs.declared.rule.MapRule.{MapRule}
 use Rattle.mr_pages.specs.declared.head.MapHead.{MapHead}
 use Rattle.mr_pages.specs.Page.{Node, level_of, Head, page_limit}
 use Rattle.mr_pages.specs.declared.layout.Layout.{Layout}
-use Rattle.mr_pages.specs.PageBytes.{form_of, node_limit, node_in, free_in, free_page, head_in, SpellsNode, SpellsHead}
+use Rattle.mr_pages.specs.PageBytes.{form_of, node_limit, node_in, tagged_in, head_in, SpellsNode, SpellsHead}
 use Rattle.mr_pages.specs.Faults.{of_level}
 use Rattle.mr_pages.specs.Walking.{page_node, ShowsWanted, head_of, AnswersHead}
 use Rattle.mr_pages.proofs.PageLaws.{chosen, node_again, node_is}
-use Rattle.mr_pages.proofs.HeadLaws.{free_again, free_is, head_again, head_is}
+use Rattle.mr_pages.proofs.HeadLaws.{head_again, head_is}
 use Rattle.mr_pages.proofs.ManyReads.{of_same}
 
 -- ---- nodes
@@ -53,16 +53,17 @@ node_found layout page level shown n m room s is =
     shows_it true n m o s e = (refl, some_same (page_node n) m (sym s ∙ e))
     shows_it false n m o s e = let none : None ≡ Some m = sym s ∙ e in absurd cc
 
--- ---- free pages
+-- a page of another size spells no node, one of this size what stands behind its tag
+abbrev if_sized : Layout → List ℕ → ℕ → Bool → Option Node
+if_sized layout page level sized = of_level level (if sized then tagged_in layout.version page else None)
 
-pub free_written : (size : ℕ) (page : List ℕ) (o : Option ℕ) → IsBytes page → o ≡ free_in size page →
-    IfSome o (λ next. page ≡ free_page size next)
-free_written size page None fits e = tt
-free_written size page (Some g) fits e = sym (free_is size page g fits (sym e)).1
+pub odd_node : (layout : Layout) (page : List ℕ) (level : ℕ) → length page ≢ layout.size →
+    of_level level (node_in layout page) ≡ None
+odd_node layout page level odd = ap (if_sized layout page level) (ne_eqb (length page) layout.size odd)
 
-pub free_found : (size : ℕ) (page : List ℕ) (o : Option ℕ) (g : ℕ) → o ≡ free_in size page → g < 2 ^ 32 →
-    page ≡ free_page size g → o ≡ Some g
-free_found size page o g e below is = e ∙ ap (free_in size) is ∙ free_again size g below
+pub sized_node : (layout : Layout) (page : List ℕ) (level : ℕ) → length page ≡ layout.size →
+    of_level level (tagged_in layout.version page) ≡ of_level level (node_in layout page)
+sized_node layout page level even = sym (ap (if_sized layout page level) (eq-eqb (length page) layout.size even))
 
 -- ---- page 0
 

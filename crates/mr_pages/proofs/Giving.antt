@@ -14,7 +14,8 @@ use Rattle.mr_pages.specs.File.{File, page_at, pages_of}
 use Rattle.mr_pages.specs.declared.rule.MapRule.{MapRule}
 use Rattle.mr_pages.specs.Faults.{file_faults, first_of, mapfault}
 use Rattle.mr_pages.specs.Opening.{of_shelf}
-use Rattle.mr_pages.specs.Source.{Sourced, Origin, IsPage, HasPage, GivesPage, GivesHead, GivesPages, GivesAll, GivesFile, IsAsRead, ReachesNewPage, IfNotFailed, ChecksFile, ChecksBehind}
+use Rattle.mr_pages.specs.Source.{Sourced, Origin, IsPage, HasPage, GivesPage, GivesHead, GivesFile, ReachesNewPage, IfNotFailed, ChecksFile}
+use Rattle.mr_pages.specs.private.Walks.{GivesPages, GivesAll, IsAsRead, ChecksBehind}
 
 -- ---- what settles nothing
 

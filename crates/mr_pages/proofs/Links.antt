@@ -8,7 +8,7 @@ use Rattle.mr_pages.specs.declared.rule.MapRule.TheVariants as rule
 use Rattle.mr_pages.specs.declared.visited.Visited.{Visited}
 use Rattle.mr_pages.specs.Faults.{fault_if, has, chain, chain_faults, count_from, first_of}
 use Rattle.mr_pages.specs.Walking.{Saw, LosesPage}
-use Rattle.mr_pages.specs.Source.{StepsOnChain}
+use Rattle.mr_pages.specs.private.Walks.{StepsOnChain}
 use Rattle.mr_pages.proofs.Lists.{nil_both, no_fault}
 use Rattle.mr_pages.proofs.Walks.{first_front, first_behind}
 

@@ -10,8 +10,10 @@ use Rattle.mr_pages.specs.declared.visited.Visited.{Visited}
 use Rattle.mr_pages.specs.Page.{Link, Node, Head}
 use Rattle.mr_pages.specs.File.{File}
 use Rattle.mr_pages.specs.Faults.{has, Visit, walk, walk_faults, reached, all_records, numbers_of, chain, mapfault, first_of}
-use Rattle.mr_pages.specs.Walking.{Saw, Passed}
-use Rattle.mr_pages.specs.Source.{Sourced, WalksBelowLink, WalksFromRoot, WalkedAll, GivesPages, IfNotFailed, FollowsChain, ChecksBehind, AreKept, AllKept}
+use Rattle.mr_pages.specs.Walking.{Saw}
+use Rattle.mr_pages.specs.private.Walks.{Passed}
+use Rattle.mr_pages.specs.Source.{Sourced, IfNotFailed, AllKept}
+use Rattle.mr_pages.specs.private.Walks.{WalksBelowLink, WalksFromRoot, WalkedAll, GivesPages, FollowsChain, ChecksBehind, AreKept}
 use Rattle.mr_pages.proofs.Lists.{all_has}
 use Rattle.mr_pages.proofs.Rules.{walk_sound}
 use Rattle.mr_pages.proofs.AsRead.{within_pages}

@@ -8,7 +8,8 @@ use Rattle.mr_outside.specs.Told.{OfFile}
 use Rattle.mr_pages.specs.declared.rule.MapRule.TheVariants as rule
 use Rattle.mr_pages.specs.Page.{Form}
 use Rattle.mr_pages.specs.File.{File, page_at, file_of}
-use Rattle.mr_pages.specs.Source.{told_bytes, on_shelf, HasWholePages, IsPaged, IsPage, HasFirst, HasPage, GivesPage, GivesHead, TellsPage}
+use Rattle.mr_pages.specs.Source.{told_bytes, IsPage, HasPage, GivesPage, GivesHead, TellsPage}
+use Rattle.mr_pages.specs.private.Walks.{on_shelf, HasWholePages, IsPaged, HasFirst}
 use Rattle.mr_pages.proofs.Agreement.{whole_pages_are}
 use Rattle.mr_pages.proofs.Filled.{IsPiece}
 

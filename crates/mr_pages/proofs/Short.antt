@@ -1,7 +1,6 @@
 -- Bytes that are no whole page, and pages that have a piece in front and zeros behind it.
-use Rattle.std.proofs.Common.{◌≡◌, ◌≢◌, ℕ, zero, suc, ◌+◌, ◌-◌, ◌*◌, ◌<◌, ◌≤◌, ◌^◌, min, Bool, true, false, List, [], ◌∷◌, ◌++◌, length, take, drop, replicate, refl, sym, ap, ◌∙◌, inl, inr, arith, length-drop, length-take-le, take_all}
-use Rattle.std.specs.Prelude.{◌&&◌, Option, Some, None, Result, Err, not, bytes_eq, slice_range, if◌then◌else◌}
-use Rattle.std.specs.Int.{w32, to_be_bytes, from_be_bytes}
+use Rattle.std.proofs.Common.{◌≡◌, ◌≢◌, ℕ, zero, suc, ◌+◌, ◌-◌, ◌*◌, ◌<◌, ◌≤◌, ◌^◌, min, Bool, true, false, List, [], ◌++◌, length, take, drop, replicate, refl, sym, ap, ◌∙◌, inl, inr, arith, length-drop, length-take-le, take_all}
+use Rattle.std.specs.Prelude.{◌&&◌, Result, Err, not, bytes_eq, if◌then◌else◌}
 use Rattle.std.proofs.lemmas.Bool.{and_parts, cases_lt}
 use Rattle.std.proofs.lemmas.List.{take_at, drop_at, drop_all, take-append-drop}
 use Rattle.std.proofs.lemmas.Nat.{mul-le}
@@ -10,7 +9,7 @@ use Rattle.mr_pages.specs.declared.layout.Layout.{Layout}
 use Rattle.mr_pages.specs.declared.rule.MapRule.{MapRule}
 use Rattle.mr_pages.specs.declared.rule.MapRule.TheVariants as rule
 use Rattle.mr_pages.specs.Page.{Head}
-use Rattle.mr_pages.specs.PageBytes.{node_limit, filled, are_zeros, head_bytes, head_page, is_sealed, free_in, free_page, free_tag, seal, seal_place}
+use Rattle.mr_pages.specs.PageBytes.{node_limit, filled, are_zeros, head_bytes, head_page, is_sealed, seal, seal_place}
 use Rattle.mr_pages.proofs.PageLaws.{both_true, length-filled, filled_is, are_zeros-replicate}
 
 -- ---- what is no whole page is read as nothing
@@ -21,17 +20,6 @@ different xs ys apart = at (bytes_eq xs ys) refl
     at : (b : Bool) → bytes_eq xs ys ≡ b → b ≡ false
     at false e = refl
     at true e = absurd (apart (ap length ((bytes_eq-Decides xs ys).0 e)))
-
-none_if : {A : Type 0} (b : Bool) (o : Option A) → b ≡ false → (if b then o else None) ≡ None
-none_if b o e = ap (λ c. if c then o else None) e
-
-pub odd_free : (size : ℕ) (page : List ℕ) → 5 ≤ size → length page ≢ size → free_in size page ≡ None
-odd_free size page room odd =
-    let next = from_be_bytes w32 (slice_range page 1 5) in
-    let long : length (free_page size next) ≡ size = length-filled size (free_tag ∷ to_be_bytes w32 next)
-    (omega (arith, room)) in
-    none_if (bytes_eq (free_page size next) page) (Some next)
-    (different (free_page size next) page (λ e. odd (sym e ∙ long)))
 
 pub unsealed_if : (b : Bool) (r : Result Head MapRule) → b ≡ false →
     (if not b then Err rule.Unsealed else r) ≡ Err rule.Unsealed

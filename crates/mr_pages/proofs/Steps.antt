@@ -9,7 +9,7 @@ use Rattle.mr_pages.specs.declared.rule.MapRule.TheVariants as rule
 use Rattle.mr_pages.specs.declared.visited.Visited.{Visited}
 use Rattle.mr_pages.specs.Faults.{fault_if, has, chain, first_of}
 use Rattle.mr_pages.specs.Walking.{enter_faults, Saw}
-use Rattle.mr_pages.specs.Source.{StepsOnChain, FollowsChain}
+use Rattle.mr_pages.specs.private.Walks.{StepsOnChain, FollowsChain}
 use Rattle.mr_pages.proofs.Lists.{nil_left, nil_right, not_broken}
 use Rattle.mr_pages.proofs.Links.{Followed, follow_fails}
 

@@ -9,7 +9,8 @@ use Rattle.mr_tree.specs.declared.tree.Tree.{Tree}
 use Rattle.mr_pages.specs.declared.rule.MapRule.TheVariants as rule
 use Rattle.mr_pages.specs.declared.rule.MapFault.{MapFault}
 use Rattle.mr_pages.specs.declared.visited.Visited.{Visited}
-use Rattle.mr_pages.specs.Walking.{Saw, LosesPage, OpensFile}
+use Rattle.mr_pages.specs.Walking.{Saw, LosesPage}
+use Rattle.mr_pages.specs.private.Walks.{OpensFile}
 use Rattle.mr_pages.specs.Page.{Head}
 use Rattle.mr_pages.specs.File.{File}
 use Rattle.mr_pages.specs.Stands.{whole_tree}

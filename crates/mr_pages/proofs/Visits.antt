@@ -22,8 +22,10 @@ use Rattle.mr_pages.specs.declared.visited.Visited.{Visited}
 use Rattle.mr_pages.specs.Page.{Link, Node, level_of, IsNode}
 use Rattle.mr_pages.specs.File.{File}
 use Rattle.mr_pages.specs.Faults.{repeats, found, children, Visit, records_in, visit, visits, reached, all_records, numbers_of, node_faults, walk_faults, first_of}
-use Rattle.mr_pages.specs.Walking.{child_link, page_node, owned, enter_faults, Saw, MeetsNumbers, Passed}
-use Rattle.mr_pages.specs.Source.{Sourced, MatchesChild, ReadsChecked, WalksBelowLink, ReadsWithinRoom, AreMade}
+use Rattle.mr_pages.specs.Walking.{child_link, page_node, owned, enter_faults, Saw, MeetsNumbers}
+use Rattle.mr_pages.specs.private.Walks.{Passed}
+use Rattle.mr_pages.specs.Source.{Sourced, MatchesChild, ReadsWithinRoom, AreMade}
+use Rattle.mr_pages.specs.private.Walks.{ReadsChecked, WalksBelowLink}
 use Rattle.mr_tree.specs.Tree.{first_level}
 use Rattle.mr_pages.specs.Stands as placed
 use Rattle.mr_pages.specs.Stands.{tree_of}

@@ -15,7 +15,8 @@ use Rattle.mr_pages.specs.Stands as placed
 use Rattle.mr_pages.specs.Stands.{Placed, Row, tree_of, trees_of}
 use Rattle.mr_pages.specs.private.Spelled.{row, place}
 use Rattle.mr_pages.specs.Faults.{fault_if, has, repeats, found, children, Visit, records_in, visit, visits, reached, all_records, numbers_of, node_faults, visit_faults, walk_faults, first_of}
-use Rattle.mr_pages.specs.Walking.{child_link, enter_faults, Saw, Passed}
+use Rattle.mr_pages.specs.Walking.{child_link, enter_faults, Saw}
+use Rattle.mr_pages.specs.private.Walks.{Passed}
 use Rattle.mr_pages.proofs.Lists.{nil_both, no_fault}
 use Rattle.mr_pages.proofs.Rules.{reached_more, numbers_more}
 use Rattle.mr_pages.proofs.Building.{what_is_found}

@@ -1,25 +1,18 @@
 -- What the walk keeps, and what it answers.
-use Rattle.std.specs.Prelude.{◌≡◌, ⊤, ℕ, ◌<◌, ◌==◌, ◌||◌, nat_le, Bool, true, List, [], ◌∷◌, ◌++◌, map, length, slice_index_or, false, Option, Some, None, option_map, Result, Ok, Err}
+use Rattle.std.specs.Prelude.{◌≡◌, ℕ, ◌<◌, ◌==◌, ◌||◌, nat_le, Bool, true, List, [], ◌∷◌, ◌++◌, map, length, slice_index_or, false, Option, Some, None, option_map, Result, Ok, Err}
 use Rattle.std.specs.Bool.{OnFalse}
-use Rattle.mr_tree.specs.Digest.{Scheme}
 use Rattle.mr_tree.specs.declared.child.Child.{Child}
 use Rattle.mr_tree.specs.declared.tree.Tree.TheOpen.{Empty, Leaf, Inner}
 use Rattle.mr_tree.specs.View as view
 use Rattle.mr_pages.specs.declared.rule.MapRule.{MapRule}
 use Rattle.mr_pages.specs.declared.rule.MapRule.TheVariants as rule
 use Rattle.mr_pages.specs.declared.rule.MapFault.{MapFault}
-use Rattle.mr_pages.specs.declared.error.MapErr.{MapErr}
-use Rattle.mr_pages.specs.declared.error.MapErr.TheVariants as errors
 use Rattle.mr_pages.specs.declared.node.Node as owned_type
 use Rattle.mr_pages.specs.declared.node.Node.TheVariants as owned_node
 use Rattle.mr_pages.specs.declared.head.MapHead.{MapHead}
-use Rattle.mr_pages.specs.declared.opening.Opened.{Opened}
 use Rattle.mr_pages.specs.declared.visited.Visited.{Visited}
 use Rattle.mr_pages.specs.Page.{Link, Node, Head}
-use Rattle.mr_pages.specs.File.{File}
-use Rattle.mr_pages.specs.Stands.{whole_tree}
-use Rattle.mr_pages.specs.Faults.{fault_if, has, repeats, Visit, reached, all_records, numbers_of, walk_faults, lost_faults, mapfault, first_of}
-use Rattle.mr_pages.specs.private.Spelled.{placed_at}
+use Rattle.mr_pages.specs.Faults.{fault_if, has, repeats, lost_faults, first_of}
 use Rattle.mr_pages.specs.private.Numbers.{Met}
 
 -- what is said of a node, and a node, as the definitions have them
@@ -68,12 +61,6 @@ MeetsNumbers pages ps ns new twice after =
 
 -- ---- what is answered
 
--- a walk behind these visits met no fault among these, and this is what it keeps then
-pub record Passed (s : Scheme) (pages : ℕ) (before vs : List Visit) (after : Visited)
-    : Type 0 where
-  pub none : walk_faults s pages before vs ≡ []
-  pub saw : Saw pages after (reached (before ++ vs)) (numbers_of (all_records (before ++ vs)))
-
 -- page 0
 abbrev pub head_of : MapHead → Head
 head_of h = record {
@@ -91,14 +78,3 @@ AnswersHead (Err r) head = head ≡ Err r
 -- the least page that was never reached
 abbrev pub LosesPage : ℕ → List ℕ → Option MapFault → Type 0
 LosesPage pages ps r = first_of (lost_faults pages ps) ≡ r
-
--- what opening a file answers: the map that its pages spell, where it has no fault
-abbrev pub OpensFile : (List ℕ → List ℕ) → File → Result Opened MapErr → Type 0
-OpensFile hash file (Ok map) =
-    (mapfault hash file ≡ None)
-    × (map.version ≡ file.version)
-    × (h : Head) × (file.head ≡ Ok h)
-    × (map.tree ≡ whole_tree (placed_at file.node h.root))
-    × (map.batch ≡ h.batch)
-OpensFile hash file (Err (errors.Map f)) = mapfault hash file ≡ Some f
-OpensFile hash file (Err _) = ⊤

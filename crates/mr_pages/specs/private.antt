@@ -3,3 +3,4 @@ pub mod Places
 pub mod Numbers
 pub mod Judging
 pub mod Putting
+pub mod Walks

@@ -1,7 +1,8 @@
 //! The chain of free pages, page by page.
 
 ghost use Rattle.std.specs.Prelude.{◌≡◌, ◌≢◌, length, IfErr};
-ghost use Rattle.mr_pages.specs.Source.{ChainsOn, GivesPages, ReadsWithinRoom, SaysOnce, IfNotFailed, Stay, StepsOn, left};
+ghost use Rattle.mr_pages.specs.Source.{ReadsWithinRoom, SaysOnce, IfNotFailed, Stay, left};
+ghost use Rattle.mr_pages.specs.private.Walks.{ChainsOn, GivesPages, StepsOn};
 
 use crate::source::Source;
 use crate::visited::Visited;

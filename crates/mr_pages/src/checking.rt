@@ -6,7 +6,8 @@ ghost use Rattle.mr_tree.specs.Digest.{by};
 ghost use Rattle.mr_pages.specs.File.{File};
 ghost use Rattle.mr_pages.specs.Stands.{whole_tree};
 ghost use Rattle.mr_pages.specs.private.Spelled.{placed_at};
-ghost use Rattle.mr_pages.specs.Source.{AllKept, CheckedBehind, CheckedWhole, ChecksFile, GivesPages, GivesAll, GivesFile, ReadsWithinRoom, IsRootIn, SaysHead, SaysOnce, IfNotFailed, Stay, WalkedAll, left};
+ghost use Rattle.mr_pages.specs.Source.{AllKept, CheckedWhole, ChecksFile, GivesFile, ReadsWithinRoom, IsRootIn, SaysHead, SaysOnce, IfNotFailed, Stay, left};
+ghost use Rattle.mr_pages.specs.private.Walks.{CheckedBehind, GivesPages, GivesAll, WalkedAll};
 ghost use Rattle.mr_pages.specs.Walking.{child_link, Saw};
 
 use crate::chaining::chain;

@@ -6,7 +6,8 @@ ghost use Rattle.mr_tree.specs.declared.tree.Tree as trees;
 ghost use Rattle.mr_pages.specs.PageBytes.{form_of, IsLayout};
 ghost use Rattle.mr_pages.specs.File.{is_odd_size};
 ghost use Rattle.mr_pages.specs.Page.{page_limit};
-ghost use Rattle.mr_pages.specs.Source.{AreMade, HasFirst, IsPaged, Stay, on_shelf, tree_over};
+ghost use Rattle.mr_pages.specs.Source.{AreMade, Stay, tree_over};
+ghost use Rattle.mr_pages.specs.private.Walks.{HasFirst, IsPaged, on_shelf};
 
 use crate::head::MapHead;
 use crate::layout::{Layout, PAGE_LIMIT, SECOND_SIZE};

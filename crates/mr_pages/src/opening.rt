@@ -14,7 +14,8 @@ ghost use Rattle.mr_pages.specs.Stands.{StandsForTree};
 ghost use Rattle.mr_pages.specs.Faults.{mapfault};
 ghost use Rattle.mr_pages.specs.Law.{IsOnlyMap, AgreesWithFault};
 ghost use Rattle.mr_pages.specs.Opening.{pages_in, FailsWithoutFault, AnswersMap, SomeBytes, SomeFile, TellsBytes, MapCauses};
-ghost use Rattle.mr_pages.specs.Source.{HasFirst, IsFrontOfFile, IsPaged};
+ghost use Rattle.mr_pages.specs.Source.{IsFrontOfFile};
+ghost use Rattle.mr_pages.specs.private.Walks.{HasFirst, IsPaged};
 
 use crate::checking::{Checked, check};
 use crate::file_pages::{FilePages, page_count};

@@ -2,7 +2,8 @@
 
 ghost use Rattle.std.specs.Prelude.{◌≡◌, ◌≤◌, ◌<◌, length, OnOk, IfOk, IfErr};
 ghost use Rattle.mr_tree.specs.Digest.{by};
-ghost use Rattle.mr_pages.specs.Source.{ReadsWithinRoom, Stay, AreKept, GivesPages, GivesPage, MatchesChild, ReadsChecked, IfNotFailed, Walked, SaysOnce, left};
+ghost use Rattle.mr_pages.specs.Source.{ReadsWithinRoom, Stay, GivesPage, MatchesChild, IfNotFailed, SaysOnce, left};
+ghost use Rattle.mr_pages.specs.private.Walks.{AreKept, GivesPages, ReadsChecked, Walked};
 ghost use Rattle.mr_pages.specs.Walking.{child_link};
 
 use crate::judging::check_node;

@@ -10,7 +10,7 @@ use Rattle.hex.proofs.HexLemmas.{length-encode_with, decode_of-encode_lower}
 use Rattle.mr_record.specs.private.Bytes.{AreBytes}
 use Rattle.mr_record.specs.RecordText.{is_lower_digit, ok_bytes, payload_of}
 use Rattle.mr_record.proofs.Payloads.{IsPayload, payload_of-written, all_lower_text}
-use Rattle.mr_plan.specs.Spelling.{digest_of_word}
+use Rattle.mr_plan.specs.private.Asking.{digest_of_word}
 use Rattle.mr_plan.specs.Words.{IsDigest}
 
 guard_some : (b : Bool) (x : Option (List ℕ)) (y : List ℕ) → cond b x None ≡ Some y → (b ≡ true)

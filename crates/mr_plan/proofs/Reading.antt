@@ -13,7 +13,7 @@ use Rattle.mr_query.specs.declared.query.Query.{Query}
 use Rattle.mr_query.specs.declared.query.QueryFault.{QueryFault}
 use Rattle.mr_query.proofs.Words.{query_read, query_written}
 use Rattle.mr_plan.specs.private.Kinds.{Kind, key_word, file_word, digest_word, query_word, number_word, Reading, kind_of, is_fresh, no_query, within, fits, word_in, word_next, past, all_next, past_all, last_behind, earlier_behind, is_complete}
-use Rattle.mr_plan.specs.Spelling.{digest_of_word}
+use Rattle.mr_plan.specs.private.Asking.{digest_of_word}
 use Rattle.mr_plan.specs.Words.{Word, key, file, digest, query, number, spelled, IsDigest, IsWord, file_names, AreApart}
 use Rattle.mr_plan.proofs.Digests.{digest_read, digest_written}
 

@@ -2,10 +2,6 @@
 use Rattle.std.specs.Prelude.{◌≡◌, ℕ, List, [], ◌∷◌, ◌++◌, Some, Result, Ok, Err, codes, decimal}
 use Rattle.hex.specs.Hex.{encode_lower}
 use Rattle.mr_record.specs.declared.version.Version.{Version}
-use Rattle.mr_tree.specs.declared.nodes.NodesErr.{NodesErr}
-use Rattle.mr_tree.specs.declared.nodes.NodesErr.TheVariants as nodes
-use Rattle.mr_pages.specs.declared.error.MapErr.{MapErr}
-use Rattle.mr_pages.specs.declared.error.MapErr.TheVariants as errors
 use Rattle.mr_pages.specs.PageBytes.{form_by}
 use Rattle.mr_pages.specs.File.{file_of}
 use Rattle.mr_pages.specs.Faults.{mapfault}
@@ -26,16 +22,6 @@ abbrev pub ShowsMap : Version → (List ℕ → List ℕ) → List ℕ → Found
 ShowsMap v hash bytes (Ok map) =
     (map.version ≡ v) × IsMapFile hash bytes (map_in v map.tree map.batch)
 ShowsMap v hash bytes (Err fault) = mapfault hash (file_of (form_by v) bytes) ≡ Some fault
-
--- why a node was not fetched, as what it says of the map's file
-abbrev pub as_map_error : NodesErr → MapErr
-as_map_error (nodes.Changed page held found) =
-    errors.Map (record { page = page; rule = rule.Changed held found })
-as_map_error (nodes.Page page) = errors.Map (record { page = page; rule = rule.Page })
-as_map_error (nodes.Outside page) = errors.Map (record { page = page; rule = rule.Outside })
-as_map_error nodes.Missing = errors.Missing
-as_map_error nodes.Fault = errors.Fault
-as_map_error nodes.NoMemory = errors.NoMemory
 
 -- ---- the line on a fault
 

@@ -7,7 +7,6 @@ mod lines;
 mod reader;
 mod status;
 mod text;
-mod unfetched;
 mod words;
 
 pub use judged::{count_accepted, judged_status, judged_text};
@@ -18,5 +17,4 @@ pub use lines::{
 };
 pub use status::Status;
 pub use text::text_of_records;
-pub use unfetched::unfetched_error;
 pub use words::{Command, read_words};

@@ -5,7 +5,7 @@ ghost use Rattle.std.specs.List.{list_all};
 ghost use Rattle.mr_record.specs.Decimal.{u64_of};
 ghost use Rattle.mr_record.specs.RecordText.{is_lower_digit};
 ghost use Rattle.mr_plan.specs.private.Kinds.{HasReadWord, first_word, is_complete, is_fresh, named, noted, reading_of, start, taken, within};
-ghost use Rattle.mr_plan.specs.Spelling.{digest_of_word};
+ghost use Rattle.mr_plan.specs.private.Asking.{digest_of_word};
 ghost use Rattle.mr_plan.specs.Words.{key, file, digest, query, number};
 
 use hex::FromHex;
@@ -28,7 +28,7 @@ fn are_lower_digits(word: &str) -> bool
 }
 
 // The digest that 64 lower-case hexadecimal digits write.
-#[tactic(auto, unfolding(crate::specs::Spelling::digest_of_word))]
+#[tactic(auto, unfolding(crate::specs::private::Asking::digest_of_word))]
 fn read_digest(word: &str) -> Option<[u8; 32]>
     ensures { result ≡ digest_of_word word.now }
 {

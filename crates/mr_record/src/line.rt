@@ -170,13 +170,6 @@ pub(crate) fn with_layer(found: (Record, Option<u8>)) -> Result<Record, TextRule
     }
 }
 
-fn read_judged(version: Version, line: &[u8]) -> Result<Record, TextRule>
-    ensures { result ≡ record_of_line version line.now }
-{
-    let found = read_fields(version, line)?;
-    with_layer(found)
-}
-
 /// Reads one line of this version without its line feed: `number x0 y0 x1 y1 payload`, in version 2
 /// `number x0 y0 x1 y1 layer payload`, with single spaces between.
 pub fn read_line_of(version: Version, line: &[u8]) -> Result<Record, TextRule>
@@ -186,7 +179,8 @@ pub fn read_line_of(version: Version, line: &[u8]) -> Result<Record, TextRule>
     ensures read { (r : types.Record) → IsRecord r → HasLayer version r
         → line.now ≡ line_of version r → result ≡ Ok r }
 {
-    read_judged(version, line)
+    let found = read_fields(version, line)?;
+    with_layer(found)
 }
 
 /// `read_line_of` version 1.

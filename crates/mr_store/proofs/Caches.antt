@@ -5,7 +5,7 @@ use Rattle.std.specs.Cmp.{nat_eq_equiv}
 use Rattle.std.specs.List.{IsDistinct}
 use Rattle.std.specs.Map.{lookup, lookup_entry, remove_entry, keys_of}
 use Rattle.std.specs.Option.{option_map_or}
-use Rattle.std.proofs.lemmas.Bool.{eqb-true, eq-eqb}
+use Rattle.std.proofs.lemmas.Bool.{eqb-true, eq-eqb, ne_eqb}
 use Rattle.std.proofs.lemmas.Map.{lookup-remove_entry}
 use Rattle.std.proofs.lemmas.List.{take_all}
 use Rattle.lru.specs.LruCache.{LruCache, promoted, put_entries}
@@ -173,6 +173,10 @@ forgets page es apart = record {
   gone = not_among page (remove_entry (nat_eq page) es)
       (lookup-remove_entry nat_eq_equiv (nat_eq page) (λ x y p. one x y p) page es apart
       ∙ ap (λ b. cond b None (lookup (nat_eq page) es)) (nat_eq_equiv.refl page));
+  others = λ other apart_.
+      lookup-remove_entry nat_eq_equiv (nat_eq page) (λ x y p. one x y p) other es apart
+      ∙ ap (λ b. cond b None (lookup (nat_eq other) es))
+      (ne_eqb page other (λ same. apart_ (sym same)));
 }
   where
     one : (x y : ℕ) → nat_eq page x ≡ true → nat_eq page y ≡ nat_eq x y

@@ -6,7 +6,8 @@ use Rattle.std.proofs.Math.Logic.{∥∥₁_elim}
 use Rattle.std.proofs.lemmas.List.{append-nil, length-map, map-append, take_more}
 use Rattle.mr_record.specs.declared.record.Record.{Record}
 use Rattle.mr_record.specs.declared.version.Version.{Version}
-use Rattle.mr_tree.specs.Digest.{by, entry}
+use Rattle.mr_record.specs.Version.{told}
+use Rattle.mr_tree.specs.Digest.{Scheme, by, entry}
 use Rattle.mr_tree.specs.declared.entry.Entry.{Entry}
 use Rattle.mr_tree.specs.View.{child_entry}
 use Rattle.mr_tree.specs.WellFormed.{IsFilledRoot, WellFormed}
@@ -19,16 +20,20 @@ use Rattle.mr_tree.specs.declared.nodes.Top.{Top}
 use Rattle.mr_tree.specs.declared.tree.Tree.{Tree}
 use Rattle.mr_tree.specs.declared.tree.Tree.TheVariants as tree
 use Rattle.mr_tree.specs.declared.tree.Tree.TheViews.{out-Tree}
-use Rattle.mr_tree.proofs.Equations.{records-Leaf, records-Inner}
+use Rattle.mr_tree.proofs.Equations.{entry_count, entry_level, records-Empty, records-Leaf, records-Inner}
+use Rattle.mr_tree.proofs.Told.{count_told}
 use Rattle.mr_pages.specs.Faults.{numbers_of}
+use Rattle.mr_pages.specs.private.Numbers.{count_kept}
 use Rattle.mr_pages.specs.declared.visited.Visited.{Visited}
 use Rattle.mr_pages.proofs.AsRead.{numbers_apart, records_apart}
 use Rattle.mr_pages.proofs.Building.{of_images}
 use Rattle.mr_pages.proofs.Lists.{apart_fresh, fresh_apart}
 use Rattle.mr_batch.specs.Directory.{DirectoryEntries, IsDirectoryOf}
 use Rattle.mr_store.specs.private.Walk.{CanWalk, IsCounted, GathersAll, HasSeenNone, Walked, StopsWalk}
-use Rattle.mr_store.specs.private.Listing.{directory_entry, AreApart, ListsAt, GathersDirectory, HasAt, CanList, CanListAll}
+use Rattle.mr_store.specs.private.Listing.{directory_entry, AreApart, ListsAt, GathersDirectory, HasAt, ListsTree, CanList, CanListAll}
+use Rattle.mr_store.specs.Stored.{IsListedAs}
 use Rattle.mr_store.proofs.Walks.{some_same}
+use Rattle.mr_store.proofs.Wholes.{empty_layers, empty_well}
 
 -- ---- the records of a leaf
 
@@ -106,17 +111,91 @@ has_at s c all d lists gathers told =
     let l = lists told in
     (l.0, l.1, gathers (records l.0) l.2 l.3)
 
-pub miscounted : (s : MapModel) (all : DirectoryEntries) (root : Child) (count a b : ℕ) →
-    (1 ≤ root.id) × (root.id < s.span) →
-    b ≡ a → ListsAt s root all → (length all ≡ count → ⊥) →
-    StopsWalk s a b (CanListAll s root count) (errors.Page root.id)
-miscounted s all root count a b id quiet lists other = (
-  id,
-  quiet,
-  λ told can.
-      let l = lists told in
-      other (ap length l.2 ∙ length-map (records l.0) directory_entry ∙ sym (can.counted l.0 l.1)),
-)
+-- ---- told or not
+
+module _ (x : Scheme) (s : MapModel) (root : Child) (start all : DirectoryEntries) (met now : Visited)
+    (f f' count : ℕ) (none : HasSeenNone met)
+    (walked : Walked x s true root met now f f' (λ t. all ≡ start ++ map directory_entry (records t))) where
+  abbrev t : Tree
+  t = walked.under
+
+  -- as many numbers were met as the tree has records
+  met_all : count_kept now.numbers ≡ length (records t)
+  met_all =
+      (walked.met none.0 [] none.1).1.met.count ∙ length-map (records t) (λ (r : Record). r.number)
+
+  pub lists_tree : start ≡ [] → root.count ≡ told x.version count → count_kept now.numbers ≡ count →
+      ListsTree x root count f f' (λ rs. all ≡ map directory_entry rs)
+  lists_tree empty said same =
+      let many : length (records t) ≡ count = sym met_all ∙ same in
+      let made = walked.is
+      (λ e. said ∙ ap (told x.version) (sym many) ∙ sym (entry_count x t ∙ count_told x.version t)) in
+      record {
+        tree = t;
+        known = made.known;
+        fine = made.fine;
+        apart = records_apart (records t) (fresh_apart [] (numbers_of (records t)) (walked.met none.0 [] none.1).0);
+        counted = many;
+        lists = made.made ∙ ap (λ before. before ++ map directory_entry (records t)) empty;
+        once = walked.once;
+      }
+
+  pub miscounted : (a b : ℕ) → (1 ≤ root.id) × (root.id < s.span) → b ≡ a → (count_kept now.numbers ≡ count → ⊥) →
+      StopsWalk s a b (CanListAll s root count) (errors.Page root.id)
+  miscounted a b id quiet other =
+      (id, quiet, λ is_told can. other (met_all ∙ sym (can.counted t (walked.same is_told))))
+
+pub tree_gathered : (x : Scheme) (root : Child) (count f f' : ℕ) (all d : DirectoryEntries) →
+    ListsTree x root count f f' (λ rs. all ≡ map directory_entry rs) → GathersDirectory all d →
+    ListsTree x root count f f' (IsDirectoryOf d)
+tree_gathered x root count f f' all d l gathers = record {
+  tree = l.tree;
+  known = l.known;
+  fine = l.fine;
+  apart = l.apart;
+  counted = l.counted;
+  lists = gathers (records l.tree) l.lists l.apart;
+  once = l.once;
+}
+
+-- a map without a node
+pub none_listed : (hash : List ℕ → List ℕ) (s : MapModel) (top : Top) (f : ℕ) (d : DirectoryEntries) →
+    IsTop hash s top → top.root ≡ None → IsDirectoryOf d [] → IsListedAs hash top f f d
+none_listed hash s top f d is root lists = record {
+  tree = tree.Empty;
+  well_formed = empty_well;
+  layers = empty_layers top.version;
+  lists = subst (IsDirectoryOf d) (sym records-Empty) lists;
+  count = ap length records-Empty ∙ sym (is.none.1 (subst (IsNone {T = Child}) (sym root) refl));
+  root = subst (λ o. IfSome o (λ c. entry (by top.version hash) tree.Empty ≡ child_entry c)) (sym root) tt;
+  few = omega arith;
+}
+
+-- a map with a root
+pub some_listed : (hash : List ℕ → List ℕ) (s : MapModel) (top : Top) (r : Child) (f f' : ℕ) (d : DirectoryEntries) →
+    IsTop hash s top → top.root ≡ Some r → ListsTree (by top.version hash) r top.count f f' (IsDirectoryOf d) →
+    IsListedAs hash top f f' d
+some_listed hash s top r f f' d is root l = record {
+  tree = l.tree;
+  well_formed = record {
+    one_level = l.fine.one_level;
+    shallow = omega (arith, may.low, ap (λ (e : Entry). e.level) l.known, entry_level (by top.version hash) l.tree);
+    filled = l.fine.filled;
+    distinct = l.apart;
+    each = l.fine.each;
+    few = omega (arith, is.few, l.counted);
+  };
+  layers = l.fine.layers;
+  lists = l.lists;
+  count = l.counted;
+  root = subst (λ o. IfSome o (λ c. entry (by top.version hash) l.tree ≡ child_entry c)) (sym root) (sym l.known);
+  few = l.once;
+}
+  where
+    may : MayFetch hash s r
+    may = subst (λ o. IfSome o (MayFetch hash s)) root is.root
+
+-- ---- why it stops
 
 module _ (hash : List ℕ → List ℕ) (s : MapModel) (top : Top) (r : Child) (is : IsTop hash s top)
     (root : top.root ≡ Some r) where

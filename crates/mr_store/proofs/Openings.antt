@@ -18,7 +18,8 @@ use Rattle.mr_pages.specs.File.{File, file_of, form_at, pages_of, version_of}
 use Rattle.mr_pages.specs.Faults.{has, mapfault}
 use Rattle.mr_pages.specs.Stands.{whole_pages}
 use Rattle.mr_pages.specs.Walking.{child_link, head_of}
-use Rattle.mr_pages.specs.Source.{AllKept, IsRootIn, CheckedWhole, ChecksFile, GivesFile, HasFirst, HasWholePages, IsFrontOfFile, IsPaged, SaysHead, IfNotFailed, on_shelf}
+use Rattle.mr_pages.specs.Source.{AllKept, IsRootIn, CheckedWhole, ChecksFile, GivesFile, IsFrontOfFile, SaysHead, IfNotFailed}
+use Rattle.mr_pages.specs.private.Walks.{HasFirst, HasWholePages, IsPaged, on_shelf}
 use Rattle.mr_pages.proofs.Agreement.{are_whole_pages, is_file}
 use Rattle.mr_pages.proofs.AsRead.{reads_there}
 use Rattle.mr_pages.proofs.Lists.{contains_has}

@@ -14,6 +14,7 @@ use Rattle.mr_tree.specs.declared.nodes.NodesErr.TheVariants as errors
 use Rattle.mr_tree.specs.declared.tree.Tree.TheOpen.{Empty, Leaf, Inner}
 use Rattle.mr_outside.specs.declared.shelf.ShelfErr.{ShelfErr}
 use Rattle.mr_outside.specs.declared.shelf.ShelfErr.TheVariants as shelf
+use Rattle.mr_tree.specs.Nodes.{of_shelf}
 use Rattle.mr_pages.specs.Page.{Node, Form, level_of, node_entry}
 use Rattle.mr_pages.specs.PageBytes.{SpellsNode}
 use Rattle.mr_pages.specs.Source.{IsPage, TellsPage}
@@ -25,7 +26,7 @@ use Rattle.mr_pages.proofs.ViewPages.{node_tells}
 use Rattle.mr_pages.proofs.Visits.{shape_of}
 use Rattle.mr_store.specs.private.Told.{digest_known}
 use Rattle.mr_store.specs.Kept.{AreInside}
-use Rattle.mr_store.specs.Again.{outside_in, outside_of, unless_outside, judged_node, judged, ShowsJudged, IsGiven, IsChildInFile, IsSaid, TellsNode, TellsAgain, HasNode, RefusesAsNodes}
+use Rattle.mr_store.specs.Again.{outside_in, outside_of, unless_outside, judged_node, judged, ShowsJudged, IsGiven, IsChildInFile, IsSaid, TellsNode, TellsAgain, HasNode}
 
 -- ---- the node
 
@@ -207,7 +208,7 @@ module _ (form : Form) (hash : List ℕ → List ℕ) (pages : ℕ) (c : Child) 
 
 -- nothing is said of a page by a read that failed
 pub failed_given : (form : Form) (hash : List ℕ → List ℕ) (pages : ℕ) (c : Child) (error : ShelfErr) (e : NodesErr) →
-    RefusesAsNodes error e → IsGiven form hash pages c e
+    e ≡ of_shelf error → IsGiven form hash pages c e
 failed_given form hash pages c shelf.Missing e r = subst (IsGiven form hash pages c) (sym r) tt
 failed_given form hash pages c shelf.Fault e r = subst (IsGiven form hash pages c) (sym r) tt
 failed_given form hash pages c shelf.NoMemory e r = subst (IsGiven form hash pages c) (sym r) tt

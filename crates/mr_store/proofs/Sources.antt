@@ -16,7 +16,8 @@ use Rattle.mr_pages.specs.declared.node.Node as owned_type
 use Rattle.mr_pages.specs.Page.{Form}
 use Rattle.mr_pages.specs.File.{file_of}
 use Rattle.mr_pages.specs.Walking.{page_node}
-use Rattle.mr_pages.specs.Source.{told_bytes, HasWholePages, IsPaged, MayKeep}
+use Rattle.mr_pages.specs.Source.{told_bytes, MayKeep}
+use Rattle.mr_pages.specs.private.Walks.{HasWholePages, IsPaged}
 use Rattle.mr_pages.proofs.Lists.{all_has}
 use Rattle.mr_store.specs.declared.cached_node.CachedNode.{CachedNode}
 use Rattle.mr_store.specs.Kept.{CacheEntries, room, node_of, AreInside, IsKeptOf, GainsNode}

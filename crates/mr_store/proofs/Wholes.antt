@@ -53,9 +53,16 @@ told_root hash s top o t is root told =
     subst (λ r. tree_under s r ≡ Some t) root
     (subst (λ u. IfSome u (λ v. tree_under s top.root ≡ Some v)) told is.tree)
 
+-- the count of the root is that of the head, as the version tells it
+pub said_count : (hash : List ℕ → List ℕ) (s : MapModel) (top : Top) (r : Child) → IsTop hash s top →
+    top.root ≡ Some r → r.count ≡ told top.version top.count
+said_count hash s top r is root =
+    (subst (λ o. IfSome o (λ d. MayTell s.version d.mask d.count × (d.count ≡ told s.version top.count))) root
+    is.told).1 ∙ ap (λ v. told v top.count) (sym is.version)
+
 -- ---- a map without a node
 
-empty_layers : (v : Version) → HasLayers v tree.Empty
+pub empty_layers : (v : Version) → HasLayers v tree.Empty
 empty_layers v = subst (All (HasLayer v)) (sym records-Empty) (All-nil (HasLayer v))
 
 pub empty_well : WellFormed tree.Empty
@@ -123,10 +130,8 @@ module _ (hash : List ℕ → List ℕ) (s : MapModel) (top : Top) (r c : Child)
   may : MayFetch hash s r
   may = subst (λ o. IfSome o (MayFetch hash s)) root is.root
 
-  -- the count of the root is that of the head, as the version tells it
   said : r.count ≡ told top.version top.count
-  said = (subst (λ o. IfSome o (λ d. MayTell s.version d.mask d.count × (d.count ≡ told s.version top.count))) root
-      is.told).1 ∙ ap (λ v. told v top.count) (sym is.version)
+  said = said_count hash s top r is root
 
   told_tree : (u : Tree) → s.tree ≡ Some u → t ≡ u
   told_tree u told_ =

@@ -2,8 +2,6 @@
 use Rattle.std.specs.Prelude.{◌≡◌, ◌≢◌, ⊤, ℕ, ◌*◌, ◌<◌, ◌≤◌, ◌==◌, ◌||◌, nat_le, if◌then◌else◌, List, [], ◌∷◌, length, bytes_eq, Option, Some, None, Result, Ok, Err}
 use Rattle.mr_outside.specs.Faults.{Rose, next_count}
 use Rattle.mr_outside.specs.State.{Shelved}
-use Rattle.mr_outside.specs.declared.shelf.ShelfErr.{ShelfErr}
-use Rattle.mr_outside.specs.declared.shelf.ShelfErr.TheVariants as shelf
 use Rattle.mr_outside.specs.Told.{MayMiss}
 use Rattle.mr_tree.specs.View as view
 use Rattle.mr_tree.specs.View.{AreTold, preimage_of}
@@ -145,12 +143,6 @@ pub record ReadsOne (before after : Shelved) : Type 0 where
   pub faults : before.faults ≤ after.faults
   pub more : before.reads ≤ after.reads
   pub one : after.reads ≤ next_count before.reads
-
--- a shelf's refusal in a fetch's own words
-abbrev pub RefusesAsNodes : ShelfErr → NodesErr → Type 0
-RefusesAsNodes shelf.Missing e = e ≡ errors.Missing
-RefusesAsNodes shelf.Fault e = e ≡ errors.Fault
-RefusesAsNodes shelf.NoMemory e = e ≡ errors.NoMemory
 
 -- what was read is blamed only where a read was counted, or where their count stands at its last
 -- value

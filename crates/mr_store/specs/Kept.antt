@@ -81,10 +81,12 @@ pub record GainsNode (room : ℕ) (before after : CacheEntries) (c : Child) (n :
       IsSome (lookup (nat_eq page) before) →
       IsSome (lookup (nat_eq page) after)
 
--- nothing is kept that was not before, and of this page nothing
+-- nothing is kept that was not before, of this page nothing, and of each other what was before
 pub record Forgets (page : ℕ) (before after : CacheEntries) : Type 0 where
   pub none_new : (e : ℕ × CachedNode) → Contains after e → Contains before e
   pub gone : (e : ℕ × CachedNode) → Contains after e → e.0 ≢ page
+  pub others : (other : ℕ) → other ≢ page →
+      lookup (nat_eq other) after ≡ lookup (nat_eq other) before
 
 -- ---- the order of the last use, and what is dropped
 

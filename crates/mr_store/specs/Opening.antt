@@ -106,8 +106,7 @@ module _ {S H : Type 0} {G : shelf.Ghosts S} {K : hashes.Ghosts H} where
 
   -- The map was opened, under this name: it stands for the one map that the file stands for, in
   -- the version that the file is read in, and has as many pages. Each of them was read once at
-  -- most,
-  -- no fault was counted, and nothing was fetched yet.
+  -- most, no fault was counted, and nothing was fetched yet.
   pub record OpensMap (hash : List ℕ → List ℕ) (name : List ℕ) (before : Shelved)
       (p : Paged S H G K) : Type 0 where
     pub answers : OfFile before.files name ⊥

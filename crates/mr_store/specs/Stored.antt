@@ -8,13 +8,14 @@ use Rattle.mr_record.specs.declared.version.Version.{Version}
 use Rattle.mr_record.specs.Version as version
 use Rattle.mr_tree.specs.Limits.{count_limit, level_limit}
 use Rattle.mr_tree.specs.Digest.{by, entry}
-use Rattle.mr_tree.specs.Nodes.{MapModel}
+use Rattle.mr_tree.specs.Nodes.{MapModel, IsTop, subtrees}
 use Rattle.mr_tree.specs.View.{MayTell, child_entry}
 use Rattle.mr_tree.specs.Snapshot.{snapshot_model, tree_model}
 use Rattle.mr_tree.specs.declared.nodes.Top.{Top}
 use Rattle.mr_tree.specs.declared.stored.Stored.{Stored}
 use Rattle.mr_tree.specs.declared.tree.Tree.{Tree}
 use Rattle.mr_tree.specs.Tree.{records}
+use Rattle.mr_tree.specs.WellFormed.{WellFormed, HasLayers}
 use Rattle.mr_pages.specs.Law.{IsMap}
 pub use Rattle.mr_pages.specs.Source.{told_bytes}
 use Rattle.mr_tree.specs.declared.child.Child.{Child}
@@ -24,6 +25,7 @@ use Rattle.mr_pages.specs.File.{file_of}
 use Rattle.mr_pages.specs.Stands.{Placed, whole_pages}
 use Rattle.mr_pages.specs.Faults.{mapfault}
 use Rattle.mr_pages.specs.private.Spelled.{placed_at}
+use Rattle.mr_batch.specs.Directory.{DirectoryEntries, IsDirectoryOf}
 use Rattle.mr_pages.specs.Walking.{child_link, page_node, head_of}
 use Rattle.mr_store.specs.Parts.{placed_model, untold}
 use Rattle.mr_store.specs.Kept.{CacheEntries, IsGood, node_of}
@@ -108,6 +110,25 @@ pub record IsSaid (hash : List ℕ → List ℕ) (top : Top) (s : MapModel) : Ty
   pub told : s.tree ≡ Some tree
   pub count : length (records tree) ≡ top.count
   pub root : IfSome top.root (λ c. entry (by s.version hash) tree ≡ child_entry c)
+
+-- The directory is of a map that says this of itself: of a well-formed tree of its version, with as
+-- many records as it says, and with the level, rectangle, mask and digest that it says of its root
+-- node. Between these counts there were no more fetches than that tree has nodes.
+pub record IsListedAs (hash : List ℕ → List ℕ) (top : Top) (fetches fetches' : ℕ)
+    (d : DirectoryEntries) : Type 0 where
+  pub tree : Tree
+  pub well_formed : WellFormed tree
+  pub layers : HasLayers top.version tree
+  pub lists : IsDirectoryOf d (records tree)
+  pub count : length (records tree) ≡ top.count
+  pub root : IfSome top.root (λ c. entry (by top.version hash) tree ≡ child_entry c)
+  pub few : fetches' ≤ fetches + length (subtrees tree)
+
+-- the same of what a map that stands so says of itself
+abbrev pub IsListed : (List ℕ → List ℕ) → MapModel → (fetches fetches' : ℕ) → DirectoryEntries
+    → Type 0
+IsListed hash s fetches fetches' d =
+    (top : Top) × IsTop hash s top × IsListedAs hash top fetches fetches' d
 
 -- the file of these bytes stands for the map
 abbrev pub IsMapOf : Form → (List ℕ → List ℕ) → MapModel → List ℕ → Type 0

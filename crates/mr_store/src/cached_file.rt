@@ -8,7 +8,7 @@ ghost use Rattle.mr_pages.specs.Source.{IsPage, TellsPage};
 
 use crate::cache::{empty_cache, find, forget, put, touch};
 use crate::cached_node::CachedNode;
-use crate::reading::{check_page, refusal};
+use crate::reading::check_page;
 use lru::LruCache;
 use mr_outside::{Shelf, ShelfErr};
 use mr_pages::{Layout, Node, SECOND_SIZE, free_on, page_into};
@@ -129,7 +129,7 @@ impl<S: Shelf> CachedFile<S> {
         let (bytes, _) = room.split_at_mut(layout.size);
         match self.read_page(child.id, bytes) {
             Ok(()) => check_page::<H>(layout, bytes, pages, child, into),
-            Err(error) => Err(refusal(error)),
+            Err(error) => Err(NodesErr::from(error)),
         }
     }
 

@@ -19,4 +19,3 @@ pub use cached_file::CachedFile;
 pub use cached_node::CachedNode;
 pub use listing::directory;
 pub use paged::Paged;
-pub use paging::Paging;

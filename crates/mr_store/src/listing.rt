@@ -3,19 +3,22 @@
 ghost use Rattle.std.specs.Prelude.{◌≡◌, ◌≢◌, OnErr, ◌+◌, ◌≤◌, ◌++◌, [], map, IfOk, IfErr, OnOk, IfSome, IsSome, length};
 ghost use Rattle.std.specs.BTreeMap.{IsFromIterResult};
 ghost use Rattle.std.specs.Ordering.{nat_cmp};
+ghost use Rattle.mr_record.specs.Version.{told};
+ghost use Rattle.mr_tree.specs.Digest.{by};
 ghost use Rattle.mr_tree.specs.Tree.{records as records_in};
 ghost use Rattle.mr_tree.specs.declared.nodes.NodesErr.TheVariants as errors;
-ghost use Rattle.mr_tree.specs.Nodes.{MayFetch, HasSomeCause, TellsRefusal, subtrees};
+ghost use Rattle.mr_tree.specs.Nodes.{IsTop, MayFetch, HasSomeCause, TellsRefusal, subtrees};
 ghost use Rattle.mr_batch.specs.Directory.{IsDirectoryOf};
 ghost use Rattle.mr_store.specs.private.Walk.{HasSeenNone, StopsWalk, nodes_at};
-ghost use Rattle.mr_store.specs.private.Listing.{directory_entry, ListsAt, GathersDirectory, HasAt, CanList, CanListAll};
+ghost use Rattle.mr_store.specs.private.Listing.{directory_entry, ListsAt, GathersDirectory, HasAt, ListsTree, CanListAll};
+ghost use Rattle.mr_store.specs.Stored.{IsListed, IsListedAs};
 
 use crate::walk::{Gather, walk};
 use mr_batch::Directory;
 use mr_geom::Rect;
 use mr_pages::Visited;
 use mr_record::{Record, Version};
-use mr_tree::{COUNT_LIMIT, Child, LEAF_LIMIT, NodeView, Nodes, NodesErr};
+use mr_tree::{COUNT_LIMIT, Child, LEAF_LIMIT, NodeView, Nodes, NodesErr, Top};
 use std::alloc::{AllocError, Global};
 use std::collections::BTreeMap;
 
@@ -67,7 +70,20 @@ fn room(alloc: Global, count: u64) -> Result<Vec<(u64, Rect)>, NodesErr>
     Ok(Vec::with_capacity(alloc, count.min(COUNT_LIMIT) as usize)?)
 }
 
-// The number and the rectangle of each record below the root, in the order of a walk.
+// Refuses the root, where other than so many records were met.
+fn fits(root: &Child, met: u64, count: u64) -> Result<(), NodesErr>
+    ensures fits { OnOk result (met ≡ count) }
+    ensures other { OnErr result (met ≢ count) }
+    ensures blames { IfErr result (λ e. e ≡ errors.Page root.now.id) }
+{
+    if met != count {
+        return Err(NodesErr::Page { page: root.id });
+    }
+    Ok(())
+}
+
+// The number and the rectangle of each record below the root, of which there are to be so many, in
+// the order of a walk.
 fn listed<N: Nodes>(
     alloc: Global,
     version: Version,
@@ -77,14 +93,17 @@ fn listed<N: Nodes>(
 ) -> Result<Vec<(u64, Rect)>, NodesErr>
     requires version { (N.stands nodes.old).version ≡ version }
     requires may { MayFetch N.Hash.of (N.stands nodes.old) root.now }
+    requires counted { root.now.count ≡ told version count }
     ensures kept { N.kept nodes.old nodes.new }
     ensures lists { IfOk result (λ all. ListsAt (N.stands nodes.old) root.now all.items) }
+    ensures says { IfOk result (λ all. ListsTree (by version N.Hash.of) root.now count
+        (N.fetches nodes.old) (N.fetches nodes.new) (λ rs. all.items ≡ map directory_entry rs)) }
     ensures fetched { IsSome (N.stands nodes.old).tree → N.fetches nodes.new
         ≤ N.fetches nodes.old + nodes_at ((N.stands nodes.old).node root.now.id) }
     ensures quiet { OnOk result (N.faults nodes.new ≡ N.faults nodes.old) }
     ensures answered { TellsRefusal (λ e. e) (N.refusal nodes.old) (N.refusal nodes.new) result }
     ensures cause { IfErr result (StopsWalk (N.stands nodes.old) (N.faults nodes.old)
-        (N.faults nodes.new) (CanList (N.stands nodes.old) root.now)) }
+        (N.faults nodes.new) (CanListAll (N.stands nodes.old) root.now count)) }
 {
     let mut seen = unseen(alloc, count)?;
     let mut into = Entries {
@@ -94,6 +113,7 @@ fn listed<N: Nodes>(
     let _root = walk(
         alloc, version, nodes, root, true, &mut view, &mut seen, &mut into,
     )?;
+    fits(root, seen.numbers.count(), count)?;
     Ok(into.all)
 }
 
@@ -112,18 +132,6 @@ fn gathered(alloc: Global, all: Vec<(u64, Rect)>) -> Result<Directory, NodesErr>
     Ok(Directory::over(collected(alloc, all)?))
 }
 
-// Refuses the root, where other than so many records were listed.
-fn fits(root: &Child, listed: u64, count: u64) -> Result<(), NodesErr>
-    ensures fits { OnOk result (listed ≡ count) }
-    ensures other { OnErr result (listed ≢ count) }
-    ensures blames { IfErr result (λ e. e ≡ errors.Page root.now.id) }
-{
-    if listed != count {
-        return Err(NodesErr::Page { page: root.id });
-    }
-    Ok(())
-}
-
 // The directory of a map with this root, of which there are to be so many records.
 fn list_all<N: Nodes>(
     alloc: Global,
@@ -134,8 +142,11 @@ fn list_all<N: Nodes>(
 ) -> Result<Directory, NodesErr>
     requires version { (N.stands nodes.old).version ≡ version }
     requires may { MayFetch N.Hash.of (N.stands nodes.old) root.now }
+    requires counted { root.now.count ≡ told version count }
     ensures kept { N.kept nodes.old nodes.new }
     ensures lists { IfOk result (HasAt (N.stands nodes.old) root.now) }
+    ensures says { IfOk result (λ d. ListsTree (by version N.Hash.of) root.now count
+        (N.fetches nodes.old) (N.fetches nodes.new) (IsDirectoryOf d)) }
     ensures fetched { IsSome (N.stands nodes.old).tree → N.fetches nodes.new
         ≤ N.fetches nodes.old + nodes_at ((N.stands nodes.old).node root.now.id) }
     ensures quiet { OnOk result (N.faults nodes.new ≡ N.faults nodes.old) }
@@ -144,7 +155,6 @@ fn list_all<N: Nodes>(
         (N.faults nodes.new) (CanListAll (N.stands nodes.old) root.now count)) }
 {
     let all = listed(alloc, version, nodes, root, count)?;
-    fits(root, all.len() as u64, count)?;
     gathered(alloc, all)
 }
 
@@ -154,6 +164,27 @@ fn empty(alloc: Global) -> Result<Directory, NodesErr>
     ensures memory { IfErr result (λ e. e ≡ errors.NoMemory) }
 {
     Ok(Directory::of(alloc, &[])?)
+}
+
+// The directory of a map that says this of itself.
+fn directory_as<N: Nodes>(alloc: Global, nodes: &mut N, top: &Top) -> Result<Directory, NodesErr>
+    requires { IsTop N.Hash.of (N.stands nodes.old) top.now }
+    ensures kept { N.kept nodes.old nodes.new }
+    ensures lists { IfOk result (λ d. IfSome (N.stands nodes.old).tree
+        (λ t. IsDirectoryOf d (records_in t))) }
+    ensures says { IfOk result (IsListedAs N.Hash.of top.now
+        (N.fetches nodes.old) (N.fetches nodes.new)) }
+    ensures fetched { IfSome (N.stands nodes.old).tree (λ t. N.fetches nodes.new
+        ≤ N.fetches nodes.old + length (subtrees t)) }
+    ensures quiet { OnOk result (N.faults nodes.new ≡ N.faults nodes.old) }
+    ensures answered { TellsRefusal (λ e. e) (N.refusal nodes.old) (N.refusal nodes.new) result }
+    ensures cause { IfErr result (HasSomeCause (N.stands nodes.old)
+        (N.faults nodes.old) (N.faults nodes.new)) }
+{
+    match &top.root {
+        None => empty(alloc),
+        Some(root) => list_all(alloc, top.version, nodes, root, top.count),
+    }
 }
 
 /// The directory of a map: the number and the rectangle of each of its records, found by a walk
@@ -166,6 +197,10 @@ pub fn directory<N: Nodes>(alloc: Global, nodes: &mut N) -> Result<Directory, No
     ensures kept { N.kept nodes.old nodes.new }
     ensures lists { IfOk result (λ d. IfSome (N.stands nodes.old).tree
         (λ t. IsDirectoryOf d (records_in t))) }
+    // Told or not, it is of a map that says of itself what this one may, and there were no more
+    // fetches than nodes of that one.
+    ensures says { IfOk result (IsListed N.Hash.of (N.stands nodes.old)
+        (N.fetches nodes.old) (N.fetches nodes.new)) }
     // There are no more fetches than nodes.
     ensures fetched { IfSome (N.stands nodes.old).tree (λ t. N.fetches nodes.new
         ≤ N.fetches nodes.old + length (subtrees t)) }
@@ -176,8 +211,5 @@ pub fn directory<N: Nodes>(alloc: Global, nodes: &mut N) -> Result<Directory, No
         (N.faults nodes.old) (N.faults nodes.new)) }
 {
     let top = nodes.top();
-    match &top.root {
-        None => empty(alloc),
-        Some(root) => list_all(alloc, top.version, nodes, root, top.count),
-    }
+    directory_as(alloc, nodes, &top)
 }

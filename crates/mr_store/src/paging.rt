@@ -17,7 +17,7 @@ use std::marker::PhantomData;
 
 /// A file of whole pages, of which page 0 was read and the others are read one by one, and the
 /// nodes of it that are kept.
-pub struct Paging<'a, S: Shelf, H: Hashes> {
+pub(crate) struct Paging<'a, S: Shelf, H: Hashes> {
     pub(crate) file: CachedFile<S>,
     pub(crate) first: &'a [u8],
     pub(crate) hash: PhantomData<H>,

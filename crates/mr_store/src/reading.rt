@@ -6,9 +6,8 @@ ghost use Rattle.mr_pages.specs.Page as pages_spec;
 ghost use Rattle.mr_pages.specs.PageBytes.{form_of, IsLayout};
 ghost use Rattle.mr_pages.specs.Walking.{page_node};
 ghost use Rattle.mr_store.specs.Kept.{AreInside};
-ghost use Rattle.mr_store.specs.Again.{outside_of, judged, ShowsJudged, Outside, IsChildInFile, IsSaid, TellsNode, IsBlamed, RefusesAsNodes};
+ghost use Rattle.mr_store.specs.Again.{outside_of, judged, ShowsJudged, Outside, IsChildInFile, IsSaid, TellsNode, IsBlamed};
 
-use mr_outside::ShelfErr;
 use mr_pages::{Layout, digest_on, node_on};
 use mr_tree::{Child, Hashes, NodeView, NodesErr, is_view};
 
@@ -66,16 +65,5 @@ pub(crate) fn check_page<H: Hashes>(
     match outside(into, pages) {
         Some(page) => Err(NodesErr::Outside { page }),
         None => Ok(()),
-    }
-}
-
-// The same cause in a fetch's own words.
-pub(crate) fn refusal(error: ShelfErr) -> NodesErr
-    ensures { RefusesAsNodes error result }
-{
-    match error {
-        ShelfErr::Missing => NodesErr::Missing,
-        ShelfErr::Fault => NodesErr::Fault,
-        ShelfErr::NoMemory => NodesErr::NoMemory,
     }
 }

@@ -47,7 +47,8 @@ use Rattle.mr_batch.specs.Changes.{Changes}
 use Rattle.mr_batch.specs.Replay.{replay}
 use Rattle.mr_batch.specs.declared.admission.BatchFault.{BatchFault}
 use Rattle.mr_command.specs.Answer.{World, HasStopped, IsWhole}
-use Rattle.mr_command.specs.Ending.{EndsPlan, EndsAsSaid, PrintsEnding, FindsMap, IsCarriedOut, IsWell, printed_of}
+use Rattle.mr_command.specs.Ending.{EndsPlan, EndsAsSaid, FindsMap, IsCarriedOut, IsWell, printed_of}
+use Rattle.mr_command.specs.private.Steps.{PrintsEnding}
 use Rattle.mr_plan.specs.First.{first, first_map, pages_by}
 use Rattle.mr_plan.specs.Found.{Found, ShowsMap}
 use Rattle.mr_plan.specs.Outcome.{Outcome, IsHeld}

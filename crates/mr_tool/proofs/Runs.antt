@@ -5,7 +5,8 @@ use Rattle.mr_outside.specs.Files.{Files}
 use Rattle.mr_outside.specs.Told.{OfFiles, TakesBytes, TakesFront}
 use Rattle.mr_outside.proofs.Taking.{TakesBytes-none}
 use Rattle.mr_command.specs.Answer.{World, HasOutsideCause, IsAnswer, IsQuiet, IsSettled, IsStopped, IsWhole, ShelfFailed}
-use Rattle.mr_command.specs.Ending.{AreJudged, EndsAsSaid, PrintsEnding, GivesUpAsSaid, IsCarriedOut, PrintsText, printed_of}
+use Rattle.mr_command.specs.Ending.{AreJudged, EndsAsSaid, GivesUpAsSaid, IsCarriedOut, printed_of}
+use Rattle.mr_command.specs.private.Steps.{PrintsEnding, PrintsText}
 use Rattle.mr_plan.specs.Lines.{bad_words_line, shelf_fault_line}
 use Rattle.mr_plan.specs.Outcome.{Outcome, Written, Nothing, File, InPlace, LeavesWritten, MayLeave}
 use Rattle.mr_plan.specs.Plan.{Plan, IsOutcomeOver}

@@ -6,7 +6,8 @@ use Rattle.mr_proof.proofs.PreimageBytes.{IsSized}
 use Rattle.mr_outside.specs.Files.{Files}
 use Rattle.mr_command.specs.Answer.{World, IsQuiet}
 use Rattle.mr_command.specs.Counting.{AllowsReads, MayRead}
-use Rattle.mr_command.specs.Ending.{RunsPlan, PrintsEnding, IsCarriedOut, PrintsText}
+use Rattle.mr_command.specs.Ending.{RunsPlan, IsCarriedOut}
+use Rattle.mr_command.specs.private.Steps.{PrintsEnding, PrintsText}
 use Rattle.mr_plan.specs.Lines.{bad_words_line}
 use Rattle.mr_tool.specs.Run.{AnswersWords, BlamesRightly, IsRun, ReadsFewWords}
 use Rattle.mr_plan.specs.Outcome.{Outcome}

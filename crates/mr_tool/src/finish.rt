@@ -5,7 +5,8 @@ ghost use Rattle.std.specs.String.{string_bytes};
 ghost use Rattle.mr_outside.specs.Causes.{SinkCauses};
 ghost use Rattle.mr_outside.specs.Told.{TakesBytes, TakesFront};
 ghost use Rattle.mr_record.specs.RecordText.{text_of};
-ghost use Rattle.mr_command.specs.Ending.{PrintsEnding, HasLines, PrintsText, printed_of, records_out};
+ghost use Rattle.mr_command.specs.Ending.{printed_of, records_out};
+ghost use Rattle.mr_command.specs.private.Steps.{PrintsEnding, HasLines, PrintsText};
 
 use mr_command::{Ending, Halt, RecordsOut, write_tree};
 use mr_outside::{Sink, SinkErr, write_all};

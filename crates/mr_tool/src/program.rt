@@ -8,7 +8,8 @@ ghost use Rattle.mr_command.specs.Ending.{RunsPlan, IsCarriedOut};
 ghost use Rattle.mr_tool.specs.Promises.{CompletesWords, AnswersHonest, AcceptsHonestOrCollides, AuditsAccepted, CollidesRightly, AppliesAlike, UpgradesAll};
 ghost use Rattle.mr_tool.specs.Run.{AnswersWords, BlamesRightly, IsRun, ReadsFewWords};
 ghost use Rattle.mr_plan.specs.Say.{say_build};
-ghost use Rattle.mr_plan.specs.Spelling.{IsSpelled, MayBeAsked};
+ghost use Rattle.mr_plan.specs.Spelling.{IsSpelled};
+ghost use Rattle.mr_plan.specs.private.Asking.{MayBeAsked};
 
 use crate::finish::finish;
 use mr_command::{

@@ -2,6 +2,8 @@
 use Rattle.std.specs.Prelude.{◌≡◌, ◌≢◌, ℕ, ◌<◌, ◌≤◌, ◌↔◌, ⊤, List, [], ◌∷◌, ◌++◌, map, length, All, Option, Some, None, IfSome, IsSome, IsSomeAnd, IsNone, Result, Err, OnOk, slice_get}
 use Rattle.std.specs.List.{flat_map}
 use Rattle.mr_outside.specs.Faults.{Rose}
+use Rattle.mr_outside.specs.declared.shelf.ShelfErr.{ShelfErr}
+use Rattle.mr_outside.specs.declared.shelf.ShelfErr.TheVariants as shelf
 use Rattle.mr_tree.specs.Limits.{count_limit, level_limit}
 use Rattle.mr_tree.specs.Tree.{records}
 use Rattle.mr_record.specs.declared.version.Version.{Version}
@@ -114,6 +116,12 @@ pub record TellsRefusal {A E : Type 0} (in_words : NodesErr → E) (before after
     (result : Result A E) : Type 0 where
   pub last : (e : NodesErr) → after ≡ Some e → before ≢ Some e → result ≡ Err (in_words e)
   pub none : OnOk result (after ≡ before)
+
+-- a shelf's refusal in a fetch's own words
+abbrev pub of_shelf : ShelfErr → NodesErr
+of_shelf shelf.Missing = Missing
+of_shelf shelf.Fault = Fault
+of_shelf shelf.NoMemory = NoMemory
 
 -- Why this child may be refused, between these counts of faults. What was read is blamed only where
 -- the tree is not told: by the child's own page, or by a page that is not in the file; and then no

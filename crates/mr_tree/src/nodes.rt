@@ -5,9 +5,10 @@ ghost use Rattle.mr_outside.specs.Faults.{next_count};
 ghost use Rattle.mr_tree.specs.declared.nodes.NodesErr as error;
 ghost use Rattle.mr_tree.specs.declared.nodes.NodesErr.TheVariants as variants;
 ghost use Rattle.mr_tree.specs.WellFormed.{WellFormed, HasLayers};
-ghost use Rattle.mr_tree.specs.Nodes.{MapModel, HasIds, IsTop, MayFetch, ShowsNode, HasFetchCause, root_entry};
+ghost use Rattle.mr_tree.specs.Nodes.{MapModel, HasIds, IsTop, MayFetch, ShowsNode, HasFetchCause, root_entry, of_shelf};
 
 use crate::{Child, Entry, Hashes, NodeView};
+use mr_outside::ShelfErr;
 use mr_record::Version;
 use std::alloc::{AllocError, AllocFailed};
 
@@ -71,6 +72,19 @@ impl<T: Drop> From<AllocFailed<T>> for NodesErr {
 
     fn from(_error: AllocFailed<T>) -> NodesErr {
         NodesErr::NoMemory
+    }
+}
+
+/// The same cause in a fetch's own words.
+impl From<ShelfErr> for NodesErr {
+    ghost from_gives = { λ e r. r ≡ of_shelf e };
+
+    fn from(error: ShelfErr) -> NodesErr {
+        match error {
+            ShelfErr::Missing => NodesErr::Missing,
+            ShelfErr::Fault => NodesErr::Fault,
+            ShelfErr::NoMemory => NodesErr::NoMemory,
+        }
     }
 }
 

@@ -7,7 +7,7 @@ use Rattle.mr_proof.specs.Tight.{Key}
 use Rattle.mr_proof.specs.Grammar.{Grammar, reads, part}
 use Rattle.mr_check.specs.declared.stage.HeadField.{HeadField}
 use Rattle.mr_check.specs.private.Stages.{head_want}
-use Rattle.mr_check.specs.Machine.{head_next}
+use Rattle.mr_check.specs.private.Machine.{head_next}
 
 -- this field, or what follows the head
 abbrev pub head_left : (Option ℕ → Key → Way) → Head → Option HeadField → Grammar Parsed

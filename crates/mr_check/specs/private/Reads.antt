@@ -28,7 +28,7 @@ use Rattle.mr_check.specs.private.Stops.{waits, fails, stop, cursor_at, stop_of}
 use Rattle.mr_check.specs.private.Stages.{want_at, size_in, room_in, FitsStage}
 use Rattle.mr_tree.specs.declared.entry.Entry.{Entry}
 use Rattle.mr_check.specs.private.Counting.{CountsRecords}
-use Rattle.mr_check.specs.Machine.{WaitsForField}
+use Rattle.mr_check.specs.private.Machine.{WaitsForField}
 
 -- the field under way of a reader, if any is
 abbrev pub want_of : {H : Type 0} → Reader H → Option Want

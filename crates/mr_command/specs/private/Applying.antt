@@ -17,7 +17,8 @@ use Rattle.mr_edit.specs.Reads.{reads_along}
 use Rattle.mr_edit.specs.declared.error.EditErr.{EditErr}
 use Rattle.mr_edit.specs.declared.error.EditErr.TheVariants as edits
 use Rattle.mr_command.specs.Counting.{pieces_of, IsFewBehind, IsFewOfBatch}
-use Rattle.mr_command.specs.Ending.{map_at, ComesBut, IsEndingOrHalt, NoneFalls, SaysRefusal, SaysUntold}
+use Rattle.mr_command.specs.Ending.{IsEndingOrHalt, NoneFalls}
+use Rattle.mr_command.specs.private.Steps.{map_at, ComesBut, SaysRefusal, SaysUntold}
 use Rattle.mr_plan.specs.Lines.{digest_line}
 use Rattle.mr_plan.specs.Outcome.{Outcome}
 use Rattle.mr_plan.specs.Plan.{Plan}

@@ -3,7 +3,7 @@ use Rattle.std.specs.Prelude.{◌≡◌, List, ℕ, ◌++◌, Err}
 use Rattle.mr_outside.specs.Files.{with_file}
 use Rattle.mr_outside.specs.State.{Shelved}
 use Rattle.mr_outside.specs.Writing.{IsChanged}
-use Rattle.mr_command.specs.Ending.{SavesFile}
+use Rattle.mr_command.specs.private.Steps.{SavesFile}
 use Rattle.mr_plan.specs.Outcome.{text}
 use Rattle.mr_command.specs.declared.ending.Halt.{Halt}
 

@@ -50,16 +50,6 @@ fn next_in(page: &[u8]) -> Option<u32>
     }
 }
 
-fn named_on(layout: Layout, page: &[u8]) -> Option<u32>
-    requires { IsLayout layout }
-    ensures { result ≡ free_in layout.size page.now }
-{
-    if page.len() != layout.size {
-        return None;
-    }
-    next_in(page)
-}
-
 /// The page that a free page of this layout names, 0 for none; `None` where this is no such page.
 pub fn free_on(layout: Layout, page: &[u8]) -> Option<u32>
     requires { IsLayout layout }
@@ -68,7 +58,10 @@ pub fn free_on(layout: Layout, page: &[u8]) -> Option<u32>
     ensures read { (next : ℕ) → next < 2 ^ 32 → page.now ≡ (form_of layout).free_page next
         → result ≡ Some next }
 {
-    named_on(layout, page)
+    if page.len() != layout.size {
+        return None;
+    }
+    next_in(page)
 }
 
 /// The page that a free page names, 0 for none; `None` where this is no free page.

@@ -201,15 +201,6 @@ pub fn head_on(layout: Layout, page: &[u8], pages: u32) -> Result<MapHead, MapRu
     ensures read { (h : types.Head) → SpellsHead (form_of layout) pages page.now h
         → MatchResult result (λ found. head_of found ≡ h) (λ rule. ⊥) }
 {
-    judged_head(layout, page, pages)
-}
-
-fn judged_head(layout: Layout, page: &[u8], pages: u32) -> Result<MapHead, MapRule>
-    requires { IsLayout layout }
-    ensures exact { AnswersHead result ((form_of layout).head_in pages page.now) }
-    ensures level { IfOk result (λ h. h.level ≡ root_level (option_map child_link h.root)) }
-    ensures of_one_read { IfErr result IsOfOneRead }
-{
     if !has_seal(layout, page) {
         return Err(MapRule::Unsealed);
     }

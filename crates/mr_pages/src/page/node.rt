@@ -324,12 +324,6 @@ pub fn node_on(layout: Layout, page: &[u8], level: u8, into: &mut NodeView) -> b
     ensures read { (n : types.Node) → SpellsNode (form_of layout) level page.now n
         → (result ≡ true) × (page_node into.new ≡ n) }
 {
-    shown(layout, page, level, into)
-}
-
-fn shown(layout: Layout, page: &[u8], level: u8, into: &mut NodeView) -> bool
-    ensures { ShowsWanted result into.new (of_level level (node_in layout page.now)) }
-{
     if page.len() != layout.size {
         return false;
     }

@@ -6,7 +6,7 @@ use Rattle.mr_record.specs.Decimal.{u64_of}
 use Rattle.mr_query.specs.Word.{query_of}
 use Rattle.mr_query.specs.declared.query.Query.{Query}
 use Rattle.mr_query.specs.declared.query.Query.TheVariants as queries
-use Rattle.mr_plan.specs.Spelling.{digest_of_word}
+use Rattle.mr_plan.specs.private.Asking.{digest_of_word}
 use Rattle.mr_plan.specs.Words.{Word, key, file, digest, query, number, spelled, words_of}
 use Rattle.mr_plan.specs.declared.reader.Reader.{Reader}
 use Rattle.mr_plan.specs.declared.words.Command.{Command}

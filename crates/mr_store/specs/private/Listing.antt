@@ -1,12 +1,14 @@
 -- What the directory of a map is made of.
-use Rattle.std.specs.Prelude.{◌≡◌, ◌≢◌, ℕ, true, List, map, length, AllPairs, Some, IsSome}
+use Rattle.std.specs.Prelude.{◌≡◌, ◌≢◌, ℕ, ◌+◌, ◌≤◌, true, List, map, length, AllPairs, Some, IsSome}
 use Rattle.mr_geom.specs.Rectangle.{Rectangle}
 use Rattle.mr_record.specs.declared.record.Record.{Record}
 use Rattle.mr_tree.specs.Tree.{records}
-use Rattle.mr_tree.specs.Nodes.{MapModel}
+use Rattle.mr_tree.specs.Digest.{Scheme, entry}
+use Rattle.mr_tree.specs.View.{child_entry}
+use Rattle.mr_tree.specs.Nodes.{MapModel, subtrees}
 use Rattle.mr_tree.specs.declared.child.Child.{Child}
 use Rattle.mr_tree.specs.declared.tree.Tree.{Tree}
-use Rattle.mr_store.specs.private.Walk.{IsFull}
+use Rattle.mr_store.specs.private.Walk.{IsFine, IsFull}
 use Rattle.mr_batch.specs.Directory.{DirectoryEntries, IsDirectoryOf}
 
 -- what is listed of a record: its entry in a directory
@@ -31,6 +33,18 @@ GathersDirectory all d = (rs : List Record) → all ≡ map directory_entry rs �
 abbrev pub HasAt : MapModel → Child → DirectoryEntries → Type 0
 HasAt s c d = IsSome s.tree →
     (t : Tree) × (s.node c.id ≡ Some t) × IsDirectoryOf d (records t)
+
+-- Told or not, this tree was walked over below the root, each of its nodes by one fetch. It is the
+-- one that is said of, with so many records, and P is so of these.
+pub record ListsTree (x : Scheme) (root : Child) (count fetches fetches' : ℕ)
+    (P : List Record → Type 0) : Type 0 where
+  pub tree : Tree
+  pub known : child_entry root ≡ entry x tree
+  pub fine : IsFine x.version true tree
+  pub apart : AreApart (records tree)
+  pub counted : length (records tree) ≡ count
+  pub lists : P (records tree)
+  pub once : fetches' ≤ fetches + length (subtrees tree)
 
 -- ---- why it stops
 

@@ -7,7 +7,8 @@ use Rattle.mr_outside.specs.declared.shelf.Shelf.{Ghosts}
 use Rattle.mr_tree.specs.Digest.{Scheme, by}
 use Rattle.mr_pages.specs.Page.{Form, page_limit}
 use Rattle.mr_pages.specs.File.{file_of, is_odd_size}
-use Rattle.mr_pages.specs.Source.{Sourced, HasFirst, on_shelf}
+use Rattle.mr_pages.specs.Source.{Sourced}
+use Rattle.mr_pages.specs.private.Walks.{HasFirst, on_shelf}
 use Rattle.mr_pages.specs.Walking.{page_node}
 use Rattle.mr_store.specs.declared.cached_node.CachedNode.{CachedNode}
 use Rattle.mr_store.specs.Kept.{CacheEntries, room, IsGood, node_of}

@@ -1,6 +1,6 @@
 use Rattle.std.proofs.Common.{List, reverse, sym, arith, ◌∙◌, subst}
 use Rattle.mr_check.specs.declared.frame.Frame.{Frame}
-use Rattle.mr_check.specs.Machine.{HasReadCut}
+use Rattle.mr_check.specs.private.Machine.{HasReadCut}
 use Rattle.mr_check.proofs.Nodes.{closed_root, closed_child, missed_parent, closed_parent}
 use Rattle.mr_check.proofs.closing.+close.Goals as goal
 

@@ -1,5 +1,5 @@
 use Rattle.std.proofs.Common.{◌-◌, length}
-use Rattle.mr_check.specs.Judged.{TookSoFar}
+use Rattle.mr_check.specs.private.Pieces.{TookSoFar}
 use Rattle.mr_check.proofs.collector.gather.Given as goal
 
 abbrev pub invariant-loop-taken : goal.invariant-loop-taken

@@ -1,7 +1,7 @@
 use Rattle.std.proofs.Common.{ap}
 use Rattle.mr_tree.specs.declared.entry.Entry.{Entry}
 use Rattle.mr_proof.specs.Cut.{Pruned}
-use Rattle.mr_check.specs.Machine.{after, ways_at, frames_of}
+use Rattle.mr_check.specs.private.Machine.{after, ways_at, frames_of}
 use Rattle.mr_check.proofs.Opening.{after_quiet}
 use Rattle.mr_check.proofs.Stepping.{close_steps, closed_at, pruned_read}
 use Rattle.mr_check.proofs.inner.pruned.Goals as goal

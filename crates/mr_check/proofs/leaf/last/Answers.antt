@@ -1,6 +1,6 @@
 use Rattle.std.proofs.Common.{sym, ◌∙◌, subst}
 use Rattle.mr_check.specs.declared.frame.Frame.{Frame}
-use Rattle.mr_check.specs.Machine.{LeafRead, frames_of, plus}
+use Rattle.mr_check.specs.private.Machine.{LeafRead, frames_of, plus}
 use Rattle.mr_check.proofs.Stepping.{leaf_missed, leaf_closed}
 use Rattle.mr_check.proofs.leaf.last.Goals as goal
 

@@ -1,5 +1,5 @@
 use Rattle.std.proofs.Common.{arith}
-use Rattle.mr_check.specs.Machine.{frames_of}
+use Rattle.mr_check.specs.private.Machine.{frames_of}
 use Rattle.mr_check.proofs.Stepping.{record_on, leaf_read}
 use Rattle.mr_check.proofs.leaf.record.Goals as goal
 

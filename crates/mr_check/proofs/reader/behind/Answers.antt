@@ -1,6 +1,6 @@
 use Rattle.std.proofs.Common.{subst}
 use Rattle.mr_check.specs.declared.machine.StepResult.{StepResult}
-use Rattle.mr_check.specs.Machine.{StepsPastField}
+use Rattle.mr_check.specs.private.Machine.{StepsPastField}
 use Rattle.mr_check.specs.private.Stops.{cursor_at}
 use Rattle.mr_check.proofs.Noting.{noted_stop, noted_handed}
 use Rattle.mr_check.proofs.reader.behind.Goals as goal

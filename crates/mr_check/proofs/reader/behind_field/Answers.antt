@@ -1,4 +1,4 @@
-use Rattle.mr_check.specs.Machine.{next_at}
+use Rattle.mr_check.specs.private.Machine.{next_at}
 use Rattle.mr_check.proofs.reader.behind_field.Goals as goal
 
 pub returns-clause-behind : goal.returns-clause-behind

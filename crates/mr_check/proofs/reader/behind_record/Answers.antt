@@ -2,7 +2,7 @@ use Rattle.std.proofs.Common.{length, drop, ap, sym, arith}
 use Rattle.std.proofs.lemmas.List.{length-append}
 use Rattle.mr_record.specs.Record.{record_bytes}
 use Rattle.mr_proof.specs.Fields.{version}
-use Rattle.mr_check.specs.Machine.{after_record, ways_at}
+use Rattle.mr_check.specs.private.Machine.{after_record, ways_at}
 use Rattle.mr_check.proofs.Whole.{record_long}
 use Rattle.mr_check.proofs.Turning.{turn_record, takes_some}
 use Rattle.mr_check.proofs.reader.behind_record.Goals as goal

@@ -2,7 +2,7 @@ use Rattle.std.proofs.Common.{sym, ap, subst, ◌∙◌, inl, inr}
 use Rattle.mr_record.specs.Answer.{RefusesText}
 use Rattle.mr_batch.specs.BatchText.{batch_of_text}
 use Rattle.mr_store.specs.Paged.{shelved, stands_for}
-use Rattle.mr_command.specs.Inputs.{ReadsValue}
+use Rattle.mr_command.specs.private.Inputs.{ReadsValue}
 use Rattle.mr_command.proofs.Going.{halted_is}
 use Rattle.mr_command.proofs.apply_command.batch_beside.Goals as goal
 

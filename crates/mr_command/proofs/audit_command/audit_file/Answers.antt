@@ -4,7 +4,7 @@ use Rattle.mr_tree.specs.Nodes.{MapModel}
 use Rattle.mr_pages.specs.declared.head.MapHead.{MapHead}
 use Rattle.mr_store.specs.Paged.{shelved, stands_for}
 use Rattle.mr_record.specs.declared.version.Version.TheVariants.{One}
-use Rattle.mr_command.specs.Ending.{map_at, ComesBut, ReadsOpened}
+use Rattle.mr_command.specs.private.Steps.{map_at, ComesBut, ReadsOpened}
 use Rattle.mr_plan.specs.Plan.{comes}
 use Rattle.mr_plan.specs.Say.{say_audit_of}
 use Rattle.mr_command.proofs.Audits.{read_told, read_untold, unread_told, unread_untold, read_beside, alone_beside, same_stands}

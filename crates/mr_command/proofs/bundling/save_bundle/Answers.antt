@@ -2,7 +2,8 @@ use Rattle.std.proofs.Common.{◌+◌, ◌++◌, drop, take, ap, sym, subst, ◌
 use Rattle.std.specs.Prelude.{Err}
 use Rattle.mr_bundle.specs.Bundle.{bundle_of, part_bytes}
 use Rattle.mr_command.specs.private.Bundled.{HasMadeText}
-use Rattle.mr_command.specs.Ending.{SavesFile, halt_of}
+use Rattle.mr_command.specs.Ending.{halt_of}
+use Rattle.mr_command.specs.private.Steps.{SavesFile}
 use Rattle.mr_plan.specs.Outcome.{text}
 use Rattle.mr_command.proofs.Going.{halted_is}
 use Rattle.mr_command.proofs.Piecewise.{all_made, all_put, begun, bundle_more, bundle_whole, unput, unput_all}

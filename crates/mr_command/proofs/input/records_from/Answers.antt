@@ -1,7 +1,7 @@
 use Rattle.std.proofs.Common.{sym, ap, subst, ◌∙◌}
 use Rattle.mr_record.specs.Answer.{RefusesText}
 use Rattle.mr_record.specs.RecordText.{records_of_text}
-use Rattle.mr_command.specs.Inputs.{ReadsText}
+use Rattle.mr_command.specs.private.Inputs.{ReadsText}
 use Rattle.mr_command.proofs.Going.{halted_is}
 use Rattle.mr_command.proofs.Inputs.{text_read, text_refused, text_unread}
 use Rattle.mr_command.proofs.input.records_from.Goals as goal

@@ -1,6 +1,6 @@
 use Rattle.std.proofs.Common.{◌≡◌, ℕ, List, length, ap, subst, inl, inr}
 use Rattle.mr_command.specs.Counting.{AllowsProve}
-use Rattle.mr_command.specs.Ending.{KeepsProof}
+use Rattle.mr_command.specs.private.Steps.{KeepsProof}
 use Rattle.mr_plan.specs.Plan.{comes}
 use Rattle.mr_plan.specs.Say.{say_prove_of}
 use Rattle.mr_plan.specs.Untold.{MaySayProve}

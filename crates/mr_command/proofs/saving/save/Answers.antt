@@ -3,7 +3,8 @@ use Rattle.std.specs.Prelude.{Ok}
 use Rattle.mr_record.specs.declared.version.Version.{Version}
 use Rattle.mr_record.specs.declared.version.Version.TheVariants.{One, Two}
 use Rattle.mr_tree.specs.WellFormed.{HasLayers}
-use Rattle.mr_command.specs.Ending.{SavesFile, halt_of}
+use Rattle.mr_command.specs.Ending.{halt_of}
+use Rattle.mr_command.specs.private.Steps.{SavesFile}
 use Rattle.mr_plan.specs.Outcome.{map_of}
 use Rattle.mr_command.proofs.Going.{IsSized, halted_is, saved_so, unsaved_by}
 use Rattle.mr_command.proofs.saving.save.Given

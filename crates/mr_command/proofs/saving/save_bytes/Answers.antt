@@ -1,5 +1,6 @@
 use Rattle.std.proofs.Common.{sym, subst, ◌∙◌}
-use Rattle.mr_command.specs.Ending.{SavesFile, halt_of}
+use Rattle.mr_command.specs.Ending.{halt_of}
+use Rattle.mr_command.specs.private.Steps.{SavesFile}
 use Rattle.mr_plan.specs.Outcome.{text}
 use Rattle.mr_command.proofs.Going.{halted_is}
 use Rattle.mr_command.proofs.Texts.{text_begun, text_put, text_unsynced, text_saved}

@@ -22,5 +22,5 @@ pub returns-in-Err-clause-copied : goal.returns-in-Err-clause-copied
 returns-in-Err-clause-copied g c = λ s there h.
     let f = c.args.file.now in
     read_stops (form_of f.layout) c.args.old.now (name_of f) f.pages c.args.page c.args.count s (state_of f)
-    c.requires.differ c.requires.within h (g.S.Shelf.state c.read_filled.new.shelf) c.in-Err.error c.refusal.result
-    there c.read_filled.ensures.files c.in-Err.ensures.reads c.in-Err.ensures.causes c.refusal.ensures
+    c.requires.differ c.requires.within h (g.S.Shelf.state c.read_filled.new.shelf) c.in-Err.error c.from.result
+    there c.read_filled.ensures.files c.in-Err.ensures.reads c.in-Err.ensures.causes c.from.ensures

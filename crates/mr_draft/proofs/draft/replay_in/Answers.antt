@@ -8,16 +8,16 @@ returns-in-Ok-clause-replays g c =
     let made = c.pager_of-pager.ensures in
     let again = c.sheets_of-sheets.ensures in
     let name = sym (again.same_reference ∙ c.replay-replayed.ensures.kept.same ∙ made.same_reference) in
-    replays_on (by g.V.StaticVersion.version g.H.Hashes.of) c.args.root c.args.dir.now c.args.batch.now _ _ _ _ _ _
+    replays_on (by g.V.StaticVersion.version g.H.Hashes.of) c.args.root.now c.args.dir.now c.args.batch.now _ _ _ _ _ _
     (ap (λ x. x.file) made.sheets) made.free (sym (ap (λ x. x.file) (c.sheets-1.given.1 name ∙ again.sheets))) _
-    c.in-Ok.root c.replay-replayed.new.dir c.in-Ok.ensures.replays
+    c.replay-replayed.new.root c.replay-replayed.new.dir c.in-Ok.ensures.replays
 
 pub returns-in-Ok-clause-within : goal.returns-in-Ok-clause-within
 returns-in-Ok-clause-within g c =
     let made = c.pager_of-pager.ensures in
     let again = c.sheets_of-sheets.ensures in
     let name = sym (again.same_reference ∙ c.replay-replayed.ensures.kept.same ∙ made.same_reference) in
-    within_on (by g.V.StaticVersion.version g.H.Hashes.of) c.args.root c.args.dir.now c.args.batch.now _ _ _ _ _ _
+    within_on (by g.V.StaticVersion.version g.H.Hashes.of) c.args.root.now c.args.dir.now c.args.batch.now _ _ _ _ _ _
     (ap (λ x. x.file) made.sheets) made.free (sym (ap (λ x. x.file) (c.sheets-1.given.1 name ∙ again.sheets)))
     c.in-Ok.ensures.within
 
@@ -26,6 +26,6 @@ returns-in-Err-clause-within g c =
     let made = c.pager_of-pager.ensures in
     let again = c.sheets_of-sheets.ensures in
     let name = sym (again.same_reference ∙ c.replay-replayed.ensures.kept.same ∙ made.same_reference) in
-    within_on (by g.V.StaticVersion.version g.H.Hashes.of) c.args.root c.args.dir.now c.args.batch.now _ _ _ _ _ _
+    within_on (by g.V.StaticVersion.version g.H.Hashes.of) c.args.root.now c.args.dir.now c.args.batch.now _ _ _ _ _ _
     (ap (λ x. x.file) made.sheets) made.free (sym (ap (λ x. x.file) (c.sheets-1.given.1 name ∙ again.sheets)))
     c.in-Err.ensures.within

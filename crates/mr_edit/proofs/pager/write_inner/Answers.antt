@@ -1,5 +1,4 @@
-use Rattle.std.proofs.Common.{◌≡◌, ◌≤◌, ap, subst, sym, ◌∙◌, arith}
-use Rattle.mr_tree.specs.Limits.{count_limit}
+use Rattle.std.proofs.Common.{◌≡◌, ap, arith}
 use Rattle.mr_tree.specs.View as view
 use Rattle.mr_edit.specs.Held.{counted}
 use Rattle.mr_edit.proofs.Sums.{inner_said}

@@ -1,7 +1,8 @@
 use Rattle.std.proofs.Common.{◌≡◌, ℕ, List, length}
 use Rattle.std.specs.Prelude.{Ok}
 use Rattle.mr_pages.specs.Walking.{Saw}
-use Rattle.mr_pages.specs.Source.{GivesPages, ReadsWithinRoom, Stay, left}
+use Rattle.mr_pages.specs.Source.{ReadsWithinRoom, Stay, left}
+use Rattle.mr_pages.specs.private.Walks.{GivesPages}
 use Rattle.mr_pages.proofs.Links.{Followed}
 use Rattle.mr_pages.proofs.chaining.chain.Given as goal
 

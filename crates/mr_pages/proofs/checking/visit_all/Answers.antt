@@ -3,7 +3,7 @@ use Rattle.std.specs.Prelude.{Option, option_map}
 use Rattle.mr_tree.specs.Digest.{by}
 use Rattle.mr_tree.specs.declared.child.Child.{Child}
 use Rattle.mr_pages.specs.Walking.{child_link}
-use Rattle.mr_pages.specs.Source.{WalkedAll}
+use Rattle.mr_pages.specs.private.Walks.{WalkedAll}
 use Rattle.mr_pages.proofs.Giving.{so_settles, gives_none, gives_so}
 use Rattle.mr_pages.proofs.Outcomes.{root_visits, kept_all, visits_of}
 use Rattle.mr_pages.proofs.checking.visit_all.Goals as goal

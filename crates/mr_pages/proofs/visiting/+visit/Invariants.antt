@@ -3,7 +3,8 @@ use Rattle.std.specs.Prelude.{◌⊎◌, All, Ok}
 use Rattle.mr_tree.specs.declared.child.Child.{Child}
 use Rattle.mr_tree.specs.Digest.{by}
 use Rattle.mr_pages.specs.Walking.{child_link}
-use Rattle.mr_pages.specs.Source.{GivesPages, ReadsWithinRoom, Stay, IsReached, left}
+use Rattle.mr_pages.specs.Source.{ReadsWithinRoom, Stay, IsReached, left}
+use Rattle.mr_pages.specs.private.Walks.{GivesPages}
 use Rattle.mr_pages.proofs.Visits.{WalkedBelow}
 use Rattle.mr_pages.proofs.visiting.+visit.Given as goal
 

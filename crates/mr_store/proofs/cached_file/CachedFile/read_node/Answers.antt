@@ -27,5 +27,5 @@ returns-in-Ok-clause-given g c =
 pub returns-in-Err-clause-given : goal.returns-in-Err-clause-given
 returns-in-Err-clause-given g c =
     let f = c.args.self.now in
-    failed_given (page_form f) g.H.Hashes.of f.pages c.args.child.now c.in-Err.error c.refusal.result
-    c.refusal.ensures
+    failed_given (page_form f) g.H.Hashes.of f.pages c.args.child.now c.in-Err.error c.from.result
+    c.from.ensures

@@ -3,7 +3,8 @@ use Rattle.std.specs.Prelude.{⊤}
 use Rattle.mr_outside.specs.Told.{OfFile}
 use Rattle.mr_record.specs.private.Bytes.{AreBytes}
 use Rattle.mr_pages.specs.PageBytes.{form_of}
-use Rattle.mr_pages.specs.Source.{IsFrontOfFile, IsPaged}
+use Rattle.mr_pages.specs.Source.{IsFrontOfFile}
+use Rattle.mr_pages.specs.private.Walks.{IsPaged}
 use Rattle.mr_store.proofs.Openings.{matched, opens_from, refuses_from}
 use Rattle.mr_store.proofs.paged.Paged.open_map.Goals as goal
 

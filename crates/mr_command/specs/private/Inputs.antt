@@ -16,7 +16,8 @@ use Rattle.mr_pages.specs.Opening.{pages_in}
 use Rattle.mr_pages.specs.declared.error.MapErr.{MapErr}
 use Rattle.mr_store.specs.Opening.{RefusesMap, TellsMap}
 use Rattle.mr_command.specs.Counting.{pieces_of, reads_taken}
-use Rattle.mr_command.specs.Ending.{AreJudged, RunsPlan, IsEndingOrHalt, ReadsInput, SaysRefusal}
+use Rattle.mr_command.specs.Ending.{AreJudged, RunsPlan, IsEndingOrHalt}
+use Rattle.mr_command.specs.private.Steps.{ReadsInput, SaysRefusal}
 use Rattle.mr_plan.specs.Lines.{bad_text_line, needs_version_2_line}
 use Rattle.mr_plan.specs.Plan.{Input, Plan, comes}
 use Rattle.mr_plan.specs.Say.{ends, needs}

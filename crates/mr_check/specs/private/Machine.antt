@@ -18,7 +18,7 @@ use Rattle.mr_proof.specs.declared.want.Want.{Want}
 use Rattle.mr_proof.specs.declared.want.Want.TheVariants as want
 use Rattle.mr_proof.specs.declared.field.Field.{Field}
 use Rattle.mr_proof.specs.Fields.{version, pruned_tag}
-use Rattle.mr_proof.specs.Cut.{Cut, Cuts, Pruned, Leaf, Inner, first, rect, entry, records}
+use Rattle.mr_proof.specs.Cut.{Cut, Cuts, Pruned, Leaf, Inner, first, entry, records}
 use Rattle.mr_proof.specs.Spelling.{Parsed, said, version_of, opened_records}
 use Rattle.mr_proof.specs.Tight.{Key, opens_at, keeps_at, Question}
 use Rattle.mr_proof.specs.Accepted.{proof_preimage}
@@ -36,6 +36,7 @@ use Rattle.mr_check.specs.private.Stops.{past_notes, noted}
 use Rattle.mr_check.specs.private.Stages.{want_at, FitsStage}
 use Rattle.mr_check.specs.private.Counting.{CountsRecords}
 use Rattle.mr_check.specs.private.OpenNodes.{Gathered}
+use Rattle.mr_check.specs.Answers.{rect_round}
 
 -- ---- what follows a node and a record
 
@@ -246,11 +247,6 @@ pub record InHead {H : Type 0} (q : Question) (h : Head) (fs : List (Frame H)) (
   pub frames : fs ≡ []
   pub nothing : given ≡ []
   pub tally : (radius : Option ℕ) → CountsRecords q.around radius [] t
-
--- the rectangle round the map of which a cut is
-abbrev pub rect_round : Option Cut → Option Rectangle
-rect_round None = None
-rect_round (Some P) = rect P
 
 -- behind the last field
 pub record AtEnd (hash : List ℕ → List ℕ) (q : Question) (h : Head) (t : RadiusCounts)
