@@ -16,12 +16,15 @@ import hashlib
 import math
 import struct
 import sys
-from typing import NamedTuple, Tuple
+from typing import NamedTuple, Optional, Tuple
 
 
 def digest(bytes_):
     return hashlib.sha256(bytes_).digest()
 
+
+MOST_LAYER = 63
+ALL_LAYERS = 2**64 - 1  # their mask
 
 # ---- rectangles (x0, y0, x1, y1)
 
@@ -288,12 +291,26 @@ def generated(count, seed):
 
 
 def generated_queries(count, seed):
-    """A query is a window, or a centre and how many of the nearest records are asked for."""
+    """Queries that name no mask."""
     for j, (x, y) in enumerate(map(corner, words(count, seed))):
-        yield (x, y, x + 20000, y + 20000) if j % 2 == 0 else ((x, y), 10)
+        yield Query((x, y, x + 20000, y + 20000) if j % 2 == 0 else ((x, y), 10))
 
 
-# ---- answers and the lengths of their proofs
+# ---- queries, answers and the lengths of their proofs
+
+
+class Query(NamedTuple):
+    """A window, or a centre and how many of the nearest records are asked for: ((x, y), k). A mask, if it names one."""
+
+    shape: Tuple
+    mask: Optional[int] = None
+
+    def is_window(self):
+        return len(self.shape) == 4
+
+    def layers(self):
+        """The mask of the layers that it asks for."""
+        return ALL_LAYERS if self.mask is None else self.mask
 
 
 def overlap(a, b):
@@ -305,11 +322,26 @@ def distance(centre, r):
     return sum(max(r[i] - centre[i], centre[i] - r[i + 2], 0) ** 2 for i in (0, 1))
 
 
+def meets_of(query, radius):
+    """Which rectangles the region meets: the window's, the circle's of a squared radius, or without one all."""
+    if query.is_window():
+        return lambda rect: overlap(query.shape, rect)
+    return lambda rect: radius is None or distance(query.shape[0], rect) <= radius
+
+
 def answer(records, query):
-    if len(query) == 4:
-        return [r for r in records if overlap(query, r[1])]
-    centre, most = query
+    """The records that are asked for; those of a window in the order that they have."""
+    records = [r for r in records if query.layers() >> r.layer & 1]
+    if query.is_window():
+        return [r for r in records if overlap(query.shape, r[1])]
+    centre, most = query.shape
     return sorted(records, key=lambda r: (distance(centre, r[1]), r[0]))[:most]
+
+
+def radius_of(records, query):
+    """The squared radius in the honest proof of a query for nearest records, None where there are too few."""
+    near = answer(records, query)
+    return None if len(near) < query.shape[1] else distance(query.shape[0], near[-1][1])
 
 
 def item_length(node, meets):
@@ -321,16 +353,11 @@ def item_length(node, meets):
 
 
 def proof_length(tree, query):
-    """Of the proof on a map that is not empty."""
+    """Of the proof of version 1 on a map that is not empty."""
     head = 4 + 1 + 1 + 8 + 8 + 1
-    if len(query) == 4:
-        return head + item_length(tree, lambda r: overlap(query, r))
-    centre, most = query
-    near = answer(tree.records(), query)
-    if len(near) < most:
-        return head + 1 + item_length(tree, lambda r: True)
-    radius = distance(centre, near[-1][1])
-    return head + 1 + 16 + item_length(tree, lambda r: distance(centre, r) <= radius)
+    radius = None if query.is_window() else radius_of(tree.records(), query)
+    flag = 0 if query.is_window() else 1 if radius is None else 1 + 16
+    return head + flag + item_length(tree, meets_of(query, radius))
 
 
 def demo_lines(count, seed):

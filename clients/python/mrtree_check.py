@@ -9,7 +9,8 @@ be a pipe too, the name `-` is the standard input, and of a proof or bundle no m
 longer one ends with status 7. It is tested against the program, and not proved.
 
 As a module: `check(root, query, proof)` answers the records, the batch and the count of the map, or raises `Refused`.
-Coordinates and rectangles are in map units, distances are squared map units, places are numbers of bytes.
+Coordinates and rectangles are in map units, distances are squared map units, places are numbers of bytes. A mask is a
+number with a bit for each layer, bit l, worth 2^l, for layer l. Proofs are of version 1, which has no layers, or 2.
 """
 from __future__ import annotations
 
@@ -30,15 +31,19 @@ import stat
 import struct
 from typing import Callable, Iterable, Iterator, List, NamedTuple, Optional, Tuple, Union
 
-__version__ = "1.0.0"
+__version__ = "1.1.0"
 __all__ = ["Answer", "Query", "Record", "Refused", "Verdict", "check", "check_all", "distance", "meet"]
 
 Rect = Tuple[int, int, int, int]  # x0, y0, x1, y1 in map units, with x0 <= x1 and y0 <= y1; the sides belong to it
 Bytes = Union[bytes, bytearray, memoryview]
 Pieces = Iterable[bytes]  # a byte string in pieces of any size
+Reaches = Callable[[Rect, int], bool]  # whether a part with this rectangle and mask is in reach
 Watch = Callable[[str, int, Rect, List["Record"]], None]  # tag, level, rectangle, and the records of an opened leaf
 
 MOST_BYTES = 2**30  # no field of a proof ends behind this place
+MOST_RECORDS = 2**20  # that a proof may count
+MOST_LAYER = 63
+ALL_LAYERS = 2**64 - 1  # their mask
 MOST_RADIUS = 2 * (2**32 - 1) ** 2  # the greatest squared distance
 MOST_LINES = 65536  # of a script
 PIECE = 65536  # bytes that are read at once
@@ -46,23 +51,25 @@ COMMAND = "mrtree_check.py [--most BYTES]"
 
 
 class Record(NamedTuple):
-    """A record: its number, its rectangle in map units, its payload of 0 to 200 bytes."""
+    """A record: its number, its rectangle in map units, its payload of 0 to 200 bytes, its layer, 0 in version 1."""
 
     number: int
     rect: Rect
     payload: bytes
+    layer: int = 0
 
-    def line(self) -> str:
-        """The record line, without its line feed.
+    def line(self, version: int = 1) -> str:
+        """The record line of a version, without its line feed.
 
-        >>> Record(7, (1, 2, 3, 4), b"ab").line()
-        '7 1 2 3 4 6162'
+        >>> Record(7, (1, 2, 3, 4), b"ab").line(), Record(7, (1, 2, 3, 4), b"", 5).line(2)
+        ('7 1 2 3 4 6162', '7 1 2 3 4 5 -')
         """
-        return " ".join(map(str, (self.number, *self.rect, self.payload.hex() or "-")))
+        layer = (self.layer,) if version == 2 else ()
+        return " ".join(map(str, (self.number, *self.rect, *layer, self.payload.hex() or "-")))
 
 
 class Answer(NamedTuple):
-    """What an accepted proof shows: the records of the answer, and of the map the batch and the count of its records.
+    """What an accepted proof shows: the records of the answer; of the map the batch and the count; the proof's version.
 
     Of a window the records are in rising number, of nearest records by rising squared distance and then number.
     """
@@ -70,13 +77,22 @@ class Answer(NamedTuple):
     records: List[Record]
     batch: int
     count: int
+    version: int = 1
+
+    def lines(self) -> List[str]:
+        """The record lines, those of the proof's version."""
+        return [record.line(self.version) for record in self.records]
 
 
 class Query(NamedTuple):
-    """A window (then k is 0); or the k nearest records to a point, a rectangle without extent."""
+    """A window (then k is 0); or the k nearest records to a point, a rectangle without extent. A mask, if it names one.
+
+    A query that names a mask asks for the records on its layers, and one that names none for those on all layers.
+    """
 
     rect: Rect
     k: int
+    mask: Optional[int] = None
 
 
 class Refused(Exception):
@@ -135,6 +151,17 @@ def region(query: Query, radius: Optional[int]) -> Callable[[Rect], bool]:
     return lambda rect: distance(query.rect, rect) <= radius
 
 
+def reach(query: Query, radius: Optional[int]) -> Reaches:
+    """Which parts, by rectangle and mask, are in reach: the region meets the one, and the other has a layer asked for.
+
+    >>> in_reach = reach(Query((0, 0, 9, 9), 0, 0b110), None)
+    >>> in_reach((9, 9, 9, 9), 0b010), in_reach((9, 9, 9, 9), 0b001), in_reach((8, 10, 9, 10), 0b010)
+    (True, False, False)
+    """
+    meets, layers = region(query, radius), ALL_LAYERS if query.mask is None else query.mask
+    return lambda rect, mask: mask & layers != 0 and meets(rect)
+
+
 # ---- fields of a proof
 
 
@@ -179,8 +206,9 @@ class Fields:
 
 
 class Head(NamedTuple):
-    """What a proof says in front: the map's batch and count of records, the squared radius, the root's level."""
+    """What a proof says in front: its version, the map's batch and count, the squared radius, the root's level."""
 
+    version: int
     batch: int
     count: int
     radius: Optional[int]
@@ -191,12 +219,13 @@ def read_head(fields: Fields, query: Query) -> Head:
     """The head of a proof of this query. Raises Refused at its first fault."""
     if fields.take(4) != b"MRVO":
         raise Refused("BadMagic", fields.last)
-    if fields.take(1) != b"\x01":
+    version = fields.number(1)
+    if version not in ((1, 2) if query.mask is None else (2,)):
         raise Refused("BadVersion", fields.last)
     if fields.take(1) != (b"K" if query.k else b"W"):
         raise Refused("WrongKind", fields.last)
     batch, count = fields.number(8), fields.number(8)
-    if count > 2**20:
+    if count > MOST_RECORDS:
         raise Refused("BadCount", fields.last)
     flag = fields.number(1) if query.k else 0
     if flag > 1:
@@ -207,32 +236,67 @@ def read_head(fields: Fields, query: Query) -> Head:
     level = fields.number(1) if count else 0
     if level > 7:
         raise Refused("BadLevel", fields.last)
-    return Head(batch, count, radius, level)
+    return Head(version, batch, count, radius, level)
 
 
-def read_record(fields: Fields) -> Record:
-    """The next fields, a record. Raises Refused (BadRect, BadLength, Long, Short)."""
-    number, rect, length = fields.number(8), fields.rect(), fields.number(1)
+def read_record(fields: Fields, version: int) -> Record:
+    """The next fields, a record. Raises Refused (BadRect, BadLayer, BadLength, Long, Short)."""
+    number, rect = fields.number(8), fields.rect()
+    layer = fields.number(1) if version == 2 else 0
+    if layer > MOST_LAYER:
+        raise Refused("BadLayer", fields.last)
+    length = fields.number(1)
     if length > 200:
         raise Refused("BadLength", fields.last)
-    return Record(number, rect, fields.take(length) if length else b"")
+    return Record(number, rect, fields.take(length) if length else b"", layer)
 
 
-def record_bytes(record: Record) -> bytes:
-    """The bytes of a record: 25, and its payload."""
-    number, rect, payload = record
-    return struct.pack(">Q4iB", number, *rect, len(payload)) + payload
+def record_bytes(record: Record, version: int = 1) -> bytes:
+    """The bytes of a record: 25 in version 1 and 26 in version 2, and its payload."""
+    layer = bytes([record.layer]) if version == 2 else b""
+    return struct.pack(">Q4i", record.number, *record.rect) + layer + bytes([len(record.payload)]) + record.payload
+
+
+class Part(NamedTuple):
+    """What an item shows of a node; in version 1, which says neither, its mask is of all layers and its count is 0."""
+
+    rect: Rect
+    mask: int
+    count: int
+    digest: bytes
+
+    def told(self, version: int) -> bytes:
+        """What preimages have of rectangle and mask."""
+        return struct.pack(">4i", *self.rect) + (struct.pack(">Q", self.mask) if version == 2 else b"")
+
+    def entry(self, version: int) -> bytes:
+        """What the preimage of the node above has of it."""
+        return self.told(version) + (struct.pack(">Q", self.count) if version == 2 else b"") + self.digest
+
+
+def seen(record: Record, version: int) -> Part:
+    """What is seen of a shown record, which has no digest of its own."""
+    return Part(record.rect, 1 << record.layer, 1, b"") if version == 2 else Part(record.rect, ALL_LAYERS, 0, b"")
+
+
+def over(parts: List[Part], digest: bytes) -> Part:
+    """What is seen of a node that holds these parts."""
+    x0, y0, x1, y1 = zip(*(part.rect for part in parts))
+    mask, count = 0, 0
+    for part in parts:
+        mask, count = mask | part.mask, count + part.count
+    return Part((min(x0), min(y0), max(x1), max(y1)), mask, count, digest)
 
 
 class Reading:
-    """The items of one proof: what they show. `records` are those shown whose rectangle meets the region."""
+    """The items of one proof: what they show. `records` are those shown that are in reach."""
 
-    def __init__(self, fields: Fields, meets: Callable[[Rect], bool], watch: Optional[Watch]) -> None:
-        self.fields, self.meets, self.watch = fields, meets, watch
+    def __init__(self, fields: Fields, version: int, reaches: Reaches, watch: Optional[Watch]) -> None:
+        self.fields, self.version, self.reaches, self.watch = fields, version, reaches, watch
         self.records: List[Record] = []
 
-    def item(self, level: int) -> Tuple[Rect, bytes]:
-        """The next item, of a node on this level: its rectangle and digest. Raises Refused at its first fault."""
+    def item(self, level: int) -> Part:
+        """The next item, of a node on this level: what is seen of it. Raises Refused at its first fault."""
         tag = self.fields.take(1)
         if tag == b"P":
             return self.pruned(level)
@@ -243,30 +307,33 @@ class Reading:
             raise Refused("BadEntries", self.fields.last)
         shown: List[Record] = []
         if level:
-            children = [self.item(level - 1) for _ in range(count)]
-            rects = [rect for rect, _ in children]
-            preimage = bytes([ord("N"), level, count])
-            preimage += b"".join(struct.pack(">4i", *rect) + found for rect, found in children)
+            parts = [self.item(level - 1) for _ in range(count)]
+            preimage = bytes([ord("N"), level, count]) + b"".join(part.entry(self.version) for part in parts)
         else:
-            shown = [read_record(self.fields) for _ in range(count)]
-            rects = [record.rect for record in shown]
-            preimage = bytes([ord("L"), count]) + b"".join(map(record_bytes, shown))
-        x0, y0, x1, y1 = zip(*rects)
-        around = min(x0), min(y0), max(x1), max(y1)
-        if not self.meets(around):
+            shown = [read_record(self.fields, self.version) for _ in range(count)]
+            parts = [seen(record, self.version) for record in shown]
+            preimage = bytes([ord("L"), count]) + b"".join(record_bytes(record, self.version) for record in shown)
+        part = over(parts, digest(preimage))
+        if not self.reaches(part.rect, part.mask):
             raise Refused("Needless", self.fields.last)
-        self.records += [record for record in shown if self.meets(record.rect)]
-        self.see(tag, level, around, shown)
-        return around, digest(preimage)
+        self.records += [record for record, one in zip(shown, parts) if self.reaches(one.rect, one.mask)]
+        self.see(tag, level, part.rect, shown)
+        return part
 
-    def pruned(self, level: int) -> Tuple[Rect, bytes]:
-        """The rest of a pruned item: what it carries. Raises Refused (BadRect, Hidden, Long, Short)."""
-        rect = self.fields.rect()
-        if self.meets(rect):
+    def pruned(self, level: int) -> Part:
+        """The rest of a pruned item: what it carries. Raises Refused (BadRect, Hidden, BadCount, Long, Short)."""
+        rect, mask, count = self.fields.rect(), ALL_LAYERS, 0
+        if self.version == 2:
+            mask = self.fields.number(8)
+        if self.reaches(rect, mask):
             raise Refused("Hidden", self.fields.last)
-        found = self.fields.take(32)
+        if self.version == 2:
+            count = self.fields.number(8)
+            if not 1 <= count <= MOST_RECORDS:
+                raise Refused("BadCount", self.fields.last)
+        part = Part(rect, mask, count, self.fields.take(32))
         self.see(b"P", level, rect, [])
-        return rect, found
+        return part
 
     def see(self, tag: bytes, level: int, rect: Rect, shown: List[Record]) -> None:
         """Tells who watches that an item was read whole: its tag, level and rectangle, a leaf's records."""
@@ -277,36 +344,46 @@ class Reading:
 # ---- the verdict
 
 
-def root_digest(head: Head, item: Optional[Tuple[Rect, bytes]]) -> bytes:
-    """The root digest of the map that a proof speaks of; of one without records there is no item.
+def root_digest(head: Head, part: Optional[Part]) -> bytes:
+    """The root digest of the map that a proof speaks of; of one without records there is no part.
 
-    >>> root_digest(Head(0, 0, None, 0), None).hex()[:16]
-    '3192817fd1840eb7'
+    >>> root_digest(Head(1, 0, 0, None, 0), None).hex()[:16], root_digest(Head(2, 0, 0, None, 0), None).hex()[:16]
+    ('3192817fd1840eb7', '10896f7117fa69b8')
     """
-    if item is None:
-        return digest(struct.pack(">2sQ", b"E\x01", head.batch))
-    rect, found = item
-    return digest(struct.pack(">2sQQB4i", b"R\x01", head.batch, head.count, head.level, *rect) + found)
+    if part is None:
+        return digest(struct.pack(">sBQ", b"E", head.version, head.batch))
+    front = struct.pack(">sBQQB", b"R", head.version, head.batch, head.count, head.level)
+    return digest(front + part.told(head.version) + part.digest)
 
 
 def judge(root: bytes, query: Query, proof: Pieces, watch: Optional[Watch] = None) -> Answer:
     """The answer that a proof proves. Raises Refused with the proof's first fault; no piece behind it is taken."""
     fields = Fields(proof)
     head = read_head(fields, query)
-    reading = Reading(fields, region(query, head.radius), watch)
-    found = root_digest(head, reading.item(head.level) if head.count else None)
+    reading = Reading(fields, head.version, reach(query, head.radius), watch)
+    part = reading.item(head.level) if head.count else None
+    found = root_digest(head, part)
     fields.end()
     if found != root:
         raise Refused("WrongRoot", fields.place, found)
-    records = reading.records
-    if query.k == 0:
-        return Answer(sorted(records, key=lambda record: record.number), head.batch, head.count)
-    radius = head.radius
-    nearer = [record for record in records if radius is None or distance(query.rect, record.rect) < radius]
-    if len(nearer) >= query.k or (radius is not None and len(records) < query.k):
+    if query.k and not is_radius_right(query, head.radius, reading.records):
         raise Refused("WrongRadius", fields.place)
-    records.sort(key=lambda record: (distance(query.rect, record.rect), record.number))
-    return Answer(records[: query.k], head.batch, head.count)
+    if head.version == 2 and part is not None and part.count != head.count:
+        raise Refused("WrongTally", fields.place)
+    return Answer(ordered(query, reading.records), head.batch, head.count, head.version)
+
+
+def is_radius_right(query: Query, radius: Optional[int], records: List[Record]) -> bool:
+    """Whether the squared radius of a proof, or that it has none, is right for the records that are in reach."""
+    nearer = [record for record in records if radius is None or distance(query.rect, record.rect) < radius]
+    return len(nearer) < query.k and (radius is None or len(records) >= query.k)
+
+
+def ordered(query: Query, records: List[Record]) -> List[Record]:
+    """The answer: of the records that are in reach those that are asked for, in its order."""
+    if query.k == 0:
+        return sorted(records, key=lambda record: record.number)
+    return sorted(records, key=lambda record: (distance(query.rect, record.rect), record.number))[: query.k]
 
 
 def only_bytes(given: Union[Bytes, Pieces], what: str) -> Pieces:
@@ -342,7 +419,7 @@ def check(root: str, query: str, proof: Union[Bytes, Pieces], watch: Optional[Wa
     ...     "00000000000000010000000200000003000000040000000500")
     >>> root = "c6de89b68a6b5fd22d3e6042a5ef2f0bfbb8bec15b7d8801400b012791166514"
     >>> check(root, "window:0,0,9,9", proof)
-    Answer(records=[Record(number=1, rect=(2, 3, 4, 5), payload=b'')], batch=0, count=1)
+    Answer(records=[Record(number=1, rect=(2, 3, 4, 5), payload=b'', layer=0)], batch=0, count=1, version=1)
     >>> check(root, "window:0,0,1,1", [proof[:30], proof[30:]])
     Traceback (most recent call last):
     mrtree_check.Refused: refused Needless at 49
@@ -378,10 +455,11 @@ def read_root(word: str) -> bytes:
 def read_query(word: str) -> Query:
     """The query that a word spells. Raises ValueError, with what is wrong, where it spells none.
 
-    >>> read_query("window:0,0,9,9"), read_query("nearest:5,-5,2")
-    (Query(rect=(0, 0, 9, 9), k=0), Query(rect=(5, -5, 5, -5), k=2))
+    >>> read_query("window:0,0,9,9"), read_query("nearest:5,-5,2/0000000000000021")
+    (Query(rect=(0, 0, 9, 9), k=0, mask=None), Query(rect=(5, -5, 5, -5), k=2, mask=33))
     """
-    kind, _, rest = word.partition(":")
+    shape, slash, digits = word.partition("/")
+    kind, _, rest = shape.partition(":")
     parts = rest.split(",")
     if (kind, len(parts)) not in (("window", 4), ("nearest", 3)):
         raise ValueError("the query is neither window:x0,y0,x1,y1 nor nearest:x,y,k")
@@ -393,7 +471,9 @@ def read_query(word: str) -> Query:
         raise ValueError("the query has to have whole numbers of map units: " + ranges) from None
     if x0 > x1 or y0 > y1:
         raise ValueError("the sides of the window are out of order: x0 is at most x1, and y0 at most y1")
-    return Query((x0, y0, x1, y1), k)
+    if slash and not re.fullmatch("[0-9a-f]{16}", digits):
+        raise ValueError("the mask behind / is not 16 lower-case hexadecimal digits")
+    return Query((x0, y0, x1, y1), k, int(digits, 16) if slash else None)
 
 
 def read_script(text: bytes) -> List[Query]:
@@ -419,7 +499,7 @@ def read_script(text: bytes) -> List[Query]:
 # ---- bundles
 
 
-class Part:
+class Slice:
     """The next bytes of a bundle: `left` of them are still to come. It gives them out in pieces, once."""
 
     def __init__(self, bundle: Fields, size: int) -> None:
@@ -449,7 +529,7 @@ class Verdict(NamedTuple):
 MISSING = Verdict(None, None)
 
 
-def judge_part(root: bytes, query: Query, part: Part) -> Verdict:
+def judge_part(root: bytes, query: Query, part: Slice) -> Verdict:
     """The verdict of a part of a bundle. It takes all bytes of the part, those behind a fault too."""
     try:
         verdict = Verdict(judge(root, query, part), None)
@@ -471,14 +551,14 @@ def judge_bundle(root: bytes, queries: List[Query], pieces: Pieces) -> Tuple[Lis
     verdicts: List[Verdict] = []
     for query in queries:
         start = bundle.place
-        front = b"".join(Part(bundle, 4))
+        front = b"".join(Slice(bundle, 4))
         size = int.from_bytes(front, "big")
-        verdict = judge_part(root, query, Part(bundle, size)) if len(front) == 4 else MISSING
+        verdict = judge_part(root, query, Slice(bundle, size)) if len(front) == 4 else MISSING
         if verdict == MISSING:
             return verdicts + [MISSING] * (len(queries) - len(verdicts)), start
         verdicts.append(verdict)
     end = bundle.place
-    return verdicts, end if any(Part(bundle, 1)) else None
+    return verdicts, end if any(Slice(bundle, 1)) else None
 
 
 def check_all(root: str, queries: List[str], bundle: Union[Bytes, Pieces]) -> List[Verdict]:
@@ -532,7 +612,7 @@ def pieces_of(name: str) -> Iterator[bytes]:
 def check_lines(root: bytes, query: Query, name: str, most: Optional[int]) -> Tuple[int, List[str]]:
     """Status and lines of `check` of the proof in a file. Raises Ended."""
     try:
-        return 0, [record.line() for record in judge(root, query, read_pieces(name, most)).records]
+        return 0, judge(root, query, read_pieces(name, most)).lines()
     except Refused as fault:
         return 2, [str(fault)]
 
@@ -545,7 +625,7 @@ def check_all_lines(root: bytes, script: str, name: str, most: Optional[int]) ->
     for number, (answer, refused) in enumerate(verdicts, 1):
         if answer is not None:
             lines.append("query %d ok %d" % (number, len(answer.records)))
-            lines += [record.line() for record in answer.records]
+            lines += answer.lines()
         else:
             lines.append("query %d %s" % (number, refused or "missing"))
     accepted = sum(verdict.answer is not None for verdict in verdicts)

@@ -13,7 +13,8 @@ usage: records.py text FILE RECORDS [options]              the record text of a 
 A file is GeoJSON, a GeoJSON text sequence, CSV or a record text: by the end of its name, or as --form says. `-` is the
 standard input or output. Each feature becomes a record: a point, or the box round a line or an area. A point goes to
 the nearest map unit, and a box is rounded outwards. The number is the feature's id, or the property or column that
---number names; the payload is the text or number that --payload names, in UTF-8.
+--number names; the payload is the text or number that --payload names, in UTF-8. Record texts that are read or written
+are of version 1; answers are of either version.
 
 What does not fit is told on standard error, and then the output is left as it was. Exit statuses: 0, 1 where words or a
 file do not fit, 2 where a proof is refused, 7 where a file cannot be read or written, 8 without memory. This script is
@@ -59,6 +60,7 @@ MOST_TOLD = 5  # features that are told by their number
 HELP = """--unit: a map unit in the file's unit, as 1e-7 of a degree, or 1 metre
 --number: the property or column of the number, for the feature's id or the column number
 --payload: the property or column of the payload, which else is none
+--layer: the property that gets the layer of a record, of a map of version 2
 --digest: the payload is the SHA-256 of the feature's canonical bytes, by RFC 8785
 --shapes: of an answer made with --digest, the file that has the features
 --place: the columns x,y of a point, x0,y0,x1,y1 of a box, or that of well-known text; else x,y or WKT
@@ -126,6 +128,7 @@ class Naming(NamedTuple):
     number: Optional[str] = None
     payload: Optional[str] = None
     is_digest: bool = False  # whether the payload is a digest, which becomes the property `digest`
+    layer: Optional[str] = None
 
 
 def geometry(record: Record, grid: Grid) -> str:
@@ -153,6 +156,8 @@ def feature(record: Record, naming: Naming, queries: Sequence[int] = ()) -> str:
     """
     number = record.number if record.number <= MOST_EXACT else str(record.number)
     properties: Dict[str, Any] = {naming.number: number} if naming.number else {}
+    if naming.layer:
+        properties[naming.layer] = record.layer
     if naming.payload and record.payload:
         try:
             properties[naming.payload] = record.payload.decode("utf-8")
@@ -228,7 +233,7 @@ def printed(file: Iterable[bytes]) -> Iterator[Tuple[Record, List[int]]]:
             return
         reading.at = 1 if first == b"sound\n" else 0
         rest = lines if reading.at else joined(first, lines)
-        for record in sources.from_lines(rest, reading):
+        for record in sources.from_lines(rest, reading, with_layers=True):
             yield record, []
     except Unfit as unfit:
         raise Unfit("line %d: %s" % (reading.at, unfit)) from None
@@ -253,7 +258,7 @@ def verdicts(lines: List[bytes], reading: sources.Reading) -> Iterator[Tuple[int
             raise Unfit("not each part of the bundle was accepted, or lines are missing")
         number, size = number + 1, int(head[2])
         start = reading.at
-        records = list(sources.from_lines(lines[start : start + size], reading))
+        records = list(sources.from_lines(lines[start : start + size], reading, with_layers=True))
         if int(head[1]) != number or len(records) != size:
             raise Unfit("the answer to query %d is not there whole" % number)
         yield number, records
@@ -409,13 +414,14 @@ def options_of(given: argparse.Namespace) -> Options:
 
 def naming_of(given: argparse.Namespace) -> Naming:
     """How the records of an answer become features."""
-    if given.payload == given.number and given.payload or QUERIES in (given.payload, given.number):
-        raise Unfit("--number and --payload name different properties, and neither %s" % QUERIES)
+    names = [name for name in (given.number, given.payload, given.layer) if name]
+    if len(set(names)) < len(names) or QUERIES in names:
+        raise Unfit("--number, --payload and --layer name different properties, and none of them %s" % QUERIES)
     try:
-        "".join([given.payload or "", given.number or ""]).encode("utf-8")
+        "".join(names).encode("utf-8")
     except UnicodeEncodeError:
-        raise Unfit("what --number and --payload name is not UTF-8") from None
-    return Naming(given.unit, given.number, given.payload, given.digest)
+        raise Unfit("what --number, --payload and --layer name is not UTF-8") from None
+    return Naming(given.unit, given.number, given.payload, given.digest, given.layer)
 
 
 def unit_of(word: str) -> Grid:
@@ -468,9 +474,9 @@ COMMANDS = {
     "text": (text_command, "FILE RECORDS", READS),
     "batch": (batch_command, "N OLD NEW BATCH", READS),
     "query": (query_command, "WORDS", "unit"),
-    "answer": (answer_command, "ROOT QUERY PROOF OUT", "unit number payload digest shapes form most"),
-    "answers": (answers_command, "ROOT SCRIPT BUNDLE OUT", "unit number payload digest most"),
-    "features": (features_command, "LINES OUT", "unit number payload digest"),
+    "answer": (answer_command, "ROOT QUERY PROOF OUT", "unit number payload layer digest shapes form most"),
+    "answers": (answers_command, "ROOT SCRIPT BUNDLE OUT", "unit number payload layer digest most"),
+    "features": (features_command, "LINES OUT", "unit number payload layer digest"),
 }
 ENDS = tuple(sources.FORMS)
 TYPES: Dict[str, Any] = {"--unit": unit_of, "--place": place_of, "--delimiter": delimiter_of, "--most": most_of}

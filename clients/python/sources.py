@@ -16,10 +16,10 @@ from decimal import Context, Decimal, Inexact, InvalidOperation
 from typing import IO, Any, Dict, Iterable, Iterator, List, NamedTuple, NoReturn, Optional, Sequence, Set, Tuple
 
 if __package__:
-    from .mrtree_check import Record, Rect, read_decimal, record_bytes
+    from .mrtree_check import MOST_LAYER, Record, Rect, read_decimal, record_bytes
     from .outputs import Unfit
 else:
-    from mrtree_check import Record, Rect, read_decimal, record_bytes
+    from mrtree_check import MOST_LAYER, Record, Rect, read_decimal, record_bytes
     from outputs import Unfit
 
 MOST = 2**20  # records of a map, and changes of a batch
@@ -783,33 +783,34 @@ def from_csv(file: IO[bytes], reading: Reading) -> Iterator[Record]:
 # ---- record texts
 
 
-def record_of_line(line: str) -> Record:
-    """The record that a record line spells. Raises Unfit.
+def record_of_line(line: str, with_layers: bool = False) -> Record:
+    """The record that a record line spells: of version 1, or with layers of version 2 too. Raises Unfit.
 
-    >>> record_of_line("7 1 2 3 4 6162")
-    Record(number=7, rect=(1, 2, 3, 4), payload=b'ab')
+    >>> record_of_line("7 1 2 3 4 6162"), record_of_line("7 1 2 3 4 5 -", True).layer
+    (Record(number=7, rect=(1, 2, 3, 4), payload=b'ab', layer=0), 5)
     """
     fields = line.split(" ")
     try:
-        if len(fields) != 6 or not re.fullmatch("-|([0-9a-f]{2}){1,200}", fields[5]):
+        if len(fields) not in (6, 6 + with_layers) or not re.fullmatch("-|([0-9a-f]{2}){1,200}", fields[-1]):
             raise ValueError
+        layer = read_decimal(fields[5], 0, MOST_LAYER) if len(fields) == 7 else 0
         number = read_decimal(fields[0], 0, 2**64 - 1)
         x0, y0, x1, y1 = [read_decimal(field, -(2**31), 2**31 - 1) for field in fields[1:5]]
         if x0 > x1 or y0 > y1:
             raise ValueError
     except ValueError:
         raise Unfit("it is no record line") from None
-    return Record(number, (x0, y0, x1, y1), bytes.fromhex(fields[5].strip("-")))
+    return Record(number, (x0, y0, x1, y1), bytes.fromhex(fields[-1].strip("-")), layer)
 
 
-def from_lines(file: Iterable[bytes], reading: Reading) -> Iterator[Record]:
+def from_lines(file: Iterable[bytes], reading: Reading, with_layers: bool = False) -> Iterator[Record]:
     """The records of record lines, in their order. Raises Unfit."""
     reading.part = "line"
     for line in file:
         reading.at += 1
         if line[-1:] != b"\n":
             raise Unfit("it has no line feed")
-        yield record_of_line(utf8(line[:-1], reading.at == 1))
+        yield record_of_line(utf8(line[:-1], reading.at == 1), with_layers)
 
 
 # ---- a state of a map

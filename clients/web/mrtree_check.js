@@ -14,23 +14,27 @@
  * proved.
  *
  * A rectangle is an array [x0, y0, x1, y1] of map units, with x0 <= x1 and y0 <= y1; a point is a
- * rectangle without extent. Places are numbers of bytes. Bytes are a Uint8Array.
+ * rectangle without extent. A mask is a BigInt with a bit for each layer, bit l, worth 2^l, for
+ * layer l. Proofs are of version 1, which has no layers, or 2. Places are numbers of bytes. Bytes
+ * are a Uint8Array.
  */
 
 const MOST_BYTES = 2 ** 30; // no field of a proof ends behind this place
 const MOST_RECORDS = 2 ** 20; // that a proof may count
 const MOST_RADIUS = 2n * (2n ** 32n - 1n) ** 2n; // the greatest squared distance
 const MOST_LEVEL = 7; // of a root
+const MOST_LAYER = 63;
+const ALL_LAYERS = 2n ** 64n - 1n; // their mask
 const MOST_LINES = 65536; // of a script
-const LONGEST_QUERY = 54; // letters of a query word
+const LONGEST_QUERY = 71; // letters of a query word
 const PIECE = 65536; // bytes that are judged at once
 const [LETTER_E, LETTER_K, LETTER_L, LETTER_N, LETTER_P, LETTER_R, LETTER_W] = [..."EKLNPRW"].map(
     (letter) => letter.charCodeAt(0)
 );
 const PAIRS = Array.from({ length: 256 }, (_, byte) => byte.toString(16).padStart(2, "0"));
 // What an opened node may hold, and of how many bytes its preimage may be.
-const LEAF = { tag: LETTER_L, most: 16, longest: 2 + 16 * 225 };
-const INNER = { tag: LETTER_N, most: 64, longest: 3 + 64 * 48 };
+const LEAF = { tag: LETTER_L, most: 16, longest: 2 + 16 * 226 };
+const INNER = { tag: LETTER_N, most: 64, longest: 3 + 64 * 64 };
 
 /** Web Crypto's hashes; undefined where the browser gives none, as to a page that came by http. */
 const subtle =
@@ -101,12 +105,22 @@ function readRoot(word) {
     return Uint8Array.from(word.match(/../g), (digits) => parseInt(digits, 16));
 }
 
+/** The mask that the end of a query word spells; null for none, undefined for a bad one. */
+function readMask(end) {
+    if (end === undefined) {
+        return null;
+    }
+    return /^[0-9a-f]{16}$/.test(end) ? BigInt(`0x${end}`) : undefined;
+}
+
 /**
- * The query that a word spells: { rect, k }, with k 0 for a window, and else the number of the
- * nearest records to the point `rect`. Null where the word is no query.
+ * The query that a word spells: { rect, k, mask }, with k 0 for a window, and else the number of
+ * the nearest records to the point `rect`, and mask null where it names none. Null where the word
+ * is no query.
  */
 function readQuery(word) {
-    const [, kind, rest] = /^(window|nearest):(.*)$/.exec(word) ?? [];
+    const [, kind, rest, , end] = /^(window|nearest):([^/]*)(\/(.*))?$/.exec(word) ?? [];
+    const mask = readMask(end);
     const parts = (rest ?? "").split(",");
     if (parts.length !== (kind === "window" ? 4 : 3)) {
         return null;
@@ -114,7 +128,8 @@ function readQuery(word) {
     const k = kind === "nearest" ? readDecimal(parts.pop(), 1, 1024) : 0;
     const sides = parts.map((part) => readDecimal(part, -(2 ** 31), 2 ** 31 - 1));
     const rect = k === 0 ? sides : [...sides, ...sides];
-    return k === null || sides.includes(null) || !isInOrder(rect) ? null : { rect, k };
+    const isBad = k === null || mask === undefined || sides.includes(null) || !isInOrder(rect);
+    return isBad ? null : { rect, k, mask };
 }
 
 /**
@@ -145,25 +160,29 @@ function readScript(bytes) {
 // ---- records
 
 /**
- * The record whose bytes begin at a place: { number, rect, payload }. The number is a BigInt, the
- * payload 0 to 200 bytes.
+ * The record whose bytes of a version begin at a place: { number, rect, layer, payload }. The
+ * number is a BigInt, the layer 0 in version 1, the payload 0 to 200 bytes.
  */
-function recordAt(bytes, at) {
+function recordAt(bytes, at, version) {
     const view = new DataView(bytes.buffer, bytes.byteOffset, bytes.length);
-    const payload = bytes.slice(at + 25, at + 25 + bytes[at + 24]);
-    return { number: view.getBigUint64(at), rect: rectAt(view, at + 8), payload };
+    const layer = version === 2 ? bytes[at + 24] : 0;
+    const begin = at + 24 + version;
+    const payload = bytes.slice(begin, begin + bytes[begin - 1]);
+    return { number: view.getBigUint64(at), rect: rectAt(view, at + 8), layer, payload };
 }
 
-/** The record line of a record, without its line feed. */
-function lineOf({ number, rect, payload }) {
-    return `${number} ${rect.join(" ")} ${hexOf(payload) || "-"}`;
+/** The record line of a record, without its line feed: that of version 1 unless it is said. */
+function lineOf({ number, rect, layer, payload }, version = 1) {
+    const sides = version === 2 ? [...rect, layer] : rect;
+    return `${number} ${sides.join(" ")} ${hexOf(payload) || "-"}`;
 }
 
 /** The records of an opened leaf, in its order, from the bytes of its item. */
-function recordsOf(item) {
+function recordsOf(item, version = 1) {
     const records = [];
-    for (let at = 2; at < item.length; at += 25 + item[at + 24]) {
-        records.push(recordAt(item, at));
+    const bare = 24 + version; // bytes of a record without a payload
+    for (let at = 2; at < item.length; at += bare + item[at + bare - 1]) {
+        records.push(recordAt(item, at, version));
     }
     return records;
 }
@@ -171,6 +190,7 @@ function recordsOf(item) {
 /** Records as their bytes, one behind another: little memory also where a proof shows millions. */
 class Kept {
     constructor() {
+        this.version = 1; // of which they are
         this.bytes = new Uint8Array(4096);
         this.starts = new Uint32Array(128);
         this.used = 0;
@@ -197,7 +217,7 @@ class Kept {
 
     /** The record at a position. */
     record(at) {
-        return recordAt(this.bytes, this.starts[at]);
+        return recordAt(this.bytes, this.starts[at], this.version);
     }
 }
 
@@ -215,15 +235,35 @@ function compare(a, b) {
 
 // ---- the judge of a proof
 
+/** A number below 2^64, a BigInt, as 8 bytes. */
+function numberBytes(number) {
+    const bytes = new Uint8Array(8);
+    new DataView(bytes.buffer).setBigUint64(0, number);
+    return bytes;
+}
+
+/** What preimages have of the rectangle and, in version 2, the mask of a node. */
+function toldOf({ rect, mask }, version) {
+    const bytes = new Uint8Array(version === 2 ? 24 : 16);
+    const view = new DataView(bytes.buffer);
+    rect.forEach((side, at) => view.setInt32(4 * at, side));
+    if (version === 2) {
+        view.setBigUint64(16, mask);
+    }
+    return bytes;
+}
+
 /**
  * An opened node, of which parts are still to come: its level, how many parts are left, the
- * rectangle round those that came, and its preimage so far. Of an inner node the preimage lacks
- * the digests of its children, which are promised: `digests` has them, with their places.
+ * rectangle round those that came, their mask and the count of their records, and its preimage so
+ * far. Of an inner node the preimage lacks the digests of its children, which are promised:
+ * `digests` has them, with their places. In version 1 a mask is of all layers, and a count is 0.
  */
 class Opened {
     constructor(level, count) {
         const kind = level === 0 ? LEAF : INNER;
         Object.assign(this, { level, left: count, rect: null, used: 0, digests: [] });
+        Object.assign(this, { mask: 0n, tally: 0 });
         this.preimage = new Uint8Array(kind.longest);
         this.append(level === 0 ? [kind.tag, count] : [kind.tag, level, count]);
     }
@@ -234,12 +274,22 @@ class Opened {
         this.used += bytes.length;
     }
 
-    /** Takes in an item of the level below: its rectangle, its bytes, and its promised digest. */
-    adopt({ rect, sides, digest }) {
-        this.append(sides);
-        this.digests.push([this.used, digest]);
+    /** Takes in an item of the level below: what is seen of it, and its promised digest. */
+    adopt(item, version) {
+        this.append(toldOf(item, version));
+        if (version === 2) {
+            this.append(numberBytes(BigInt(item.tally)));
+        }
+        this.digests.push([this.used, item.digest]);
         this.used += 32;
+        this.see(item.rect, item.mask, item.tally);
+    }
+
+    /** Counts a part that came. */
+    see(rect, mask, tally) {
         this.rect = around(this.rect, rect);
+        this.mask |= mask;
+        this.tally += tally;
         this.left -= 1;
     }
 
@@ -255,11 +305,12 @@ class Opened {
 /**
  * Judges a proof as it comes. `push` takes the next bytes and `end` gives the verdict:
  *
- *     { accepted: true, records, batch, count }        count: of the map's records
- *     { accepted: false, rule, place, found }          found: the root digest, of WrongRoot alone
+ *     { accepted: true, records, batch, count, version }    count: of the map's records
+ *     { accepted: false, rule, place, found }    found: the root digest, of WrongRoot alone
  *
  * `watch`, where it is given, is called with each item that is whole, children before their
- * parent: { tag, level, rect, bytes }, with the item's bytes for an opened leaf (see recordsOf).
+ * parent: { tag, level, rect, bytes, version }, with the item's bytes for an opened leaf (see
+ * recordsOf).
  *
  * No bytes make it throw. Its fields are taken one after another: `size` bytes are the next one,
  * and the method `then` judges it.
@@ -273,6 +324,8 @@ class Judge {
         this.open = []; // the root first
         this.hashing = [];
         this.kept = new Kept();
+        this.version = 1;
+        this.layers = query.mask ?? ALL_LAYERS;
         this.expect(4, this.takeMagic);
     }
 
@@ -312,10 +365,14 @@ class Judge {
         if (this.fault === null && !this.isRadiusRight()) {
             this.refuse("WrongRadius", this.place);
         }
+        if (this.fault === null && !this.isTallyRight()) {
+            this.refuse("WrongTally", this.place);
+        }
         if (this.fault !== null) {
             return { accepted: false, ...this.fault };
         }
-        return { accepted: true, records: this.answer(), batch: this.batch, count: this.count };
+        const { batch, count, version } = this;
+        return { accepted: true, records: this.answer(), batch, count, version };
     }
 
     /** Keeps a fault, if it is the first. */
@@ -348,6 +405,11 @@ class Judge {
         return this.radius === null || distance(this.query.rect, rect) <= this.radius;
     }
 
+    /** Whether a part is in reach: the region meets it, and it has a layer that is asked for. */
+    reaches(rect, mask) {
+        return (mask & this.layers) !== 0n && this.meets(rect);
+    }
+
     // The fields of the head.
 
     takeMagic() {
@@ -358,9 +420,11 @@ class Judge {
     }
 
     takeVersion() {
-        if (this.field[0] !== 1) {
+        this.version = this.field[0];
+        if (this.version !== 2 && (this.version !== 1 || this.query.mask !== null)) {
             return this.refuse("BadVersion", this.last);
         }
+        this.kept.version = this.version;
         this.expect(1, this.takeKind);
     }
 
@@ -459,13 +523,35 @@ class Judge {
     }
 
     takePrunedRect() {
-        this.pruned = { rect: rectAt(this.view, 0), sides: this.field.slice(0, 16) };
+        this.pruned = { rect: rectAt(this.view, 0), mask: ALL_LAYERS, tally: 0 };
         if (!isInOrder(this.pruned.rect)) {
             return this.refuse("BadRect", this.last);
         }
-        if (this.meets(this.pruned.rect)) {
+        return this.version === 2 ? this.expect(8, this.takeMask) : this.hide(this.expectDigest);
+    }
+
+    takeMask() {
+        this.pruned.mask = this.view.getBigUint64(0);
+        this.hide(() => this.expect(8, this.takeTally));
+    }
+
+    /** Goes on where the pruned item is not in reach. */
+    hide(then) {
+        if (this.reaches(this.pruned.rect, this.pruned.mask)) {
             return this.refuse("Hidden", this.last);
         }
+        then.call(this);
+    }
+
+    takeTally() {
+        this.pruned.tally = Number(this.view.getBigUint64(0));
+        if (this.pruned.tally === 0 || this.pruned.tally > MOST_RECORDS) {
+            return this.refuse("BadCount", this.last);
+        }
+        this.expectDigest();
+    }
+
+    expectDigest() {
         this.expect(32, this.takePrunedDigest);
     }
 
@@ -486,6 +572,16 @@ class Judge {
             return this.refuse("BadRect", this.last);
         }
         this.parent().append(this.field.subarray(0, 16));
+        this.layer = 0;
+        this.expect(1, this.version === 2 ? this.takeLayer : this.takeLength);
+    }
+
+    takeLayer() {
+        this.layer = this.field[0];
+        if (this.layer > MOST_LAYER) {
+            return this.refuse("BadLayer", this.last);
+        }
+        this.parent().append(this.field.subarray(0, 1));
         this.expect(1, this.takeLength);
     }
 
@@ -503,40 +599,40 @@ class Judge {
         this.endRecord();
     }
 
-    /** Keeps a record that is whole, where the region meets it. */
+    /** Keeps a record that is whole, where it is in reach. */
     endRecord() {
         const leaf = this.parent();
-        if (this.meets(this.rect)) {
+        const isCounted = this.version === 2;
+        const mask = isCounted ? 1n << BigInt(this.layer) : ALL_LAYERS;
+        if (this.reaches(this.rect, mask)) {
             this.kept.add(leaf.preimage.subarray(this.record, leaf.used));
         }
-        leaf.rect = around(leaf.rect, this.rect);
-        leaf.left -= 1;
+        leaf.see(this.rect, mask, isCounted ? 1 : 0);
         this.expectPart();
     }
 
     /** Ends the node that was opened last. */
     close() {
         const node = this.open.pop();
-        if (!this.meets(node.rect)) {
+        const { rect, mask, tally } = node;
+        if (!this.reaches(rect, mask)) {
             return this.refuse("Needless", this.last);
         }
-        const sides = new Uint8Array(16);
-        node.rect.forEach((side, at) => new DataView(sides.buffer).setInt32(4 * at, side));
         const digest = node.whole().then(digestOf);
         this.hashing.push(digest);
-        const item = { rect: node.rect, sides, digest };
+        const item = { rect, mask, tally, digest };
         const bytes = node.level === 0 ? node.preimage.subarray(0, node.used) : null;
         this.finish(node.level === 0 ? "L" : "N", node.level, item, bytes);
     }
 
     /** Gives an item that is whole to its parent; the root's is the last. */
     finish(tag, level, item, bytes = null) {
-        this.watch?.({ tag, level, rect: item.rect, bytes });
+        this.watch?.({ tag, level, rect: item.rect, bytes, version: this.version });
         if (this.open.length === 0) {
             this.item = item;
             this.then = null;
         } else {
-            this.parent().adopt(item);
+            this.parent().adopt(item, this.version);
             this.expectPart();
         }
     }
@@ -547,14 +643,20 @@ class Judge {
     async rootDigest() {
         const front = new Uint8Array(19);
         const view = new DataView(front.buffer);
-        front.set([this.count === 0 ? LETTER_E : LETTER_R, 1]);
+        front.set([this.count === 0 ? LETTER_E : LETTER_R, this.version]);
         view.setBigUint64(2, this.batch);
         if (this.count === 0) {
             return digestOf(front.subarray(0, 10));
         }
         view.setBigUint64(10, BigInt(this.count));
         front[18] = this.level;
-        return digestOf(Uint8Array.of(...front, ...this.item.sides, ...(await this.item.digest)));
+        const told = toldOf(this.item, this.version);
+        return digestOf(Uint8Array.of(...front, ...told, ...(await this.item.digest)));
+    }
+
+    /** Whether the count that the proof says is that of its items; in version 1 nothing says it. */
+    isTallyRight() {
+        return this.version === 1 || this.count === 0 || this.item.tally === this.count;
     }
 
     /** Whether the squared radius that the proof says is that of k nearest records. */
@@ -738,10 +840,15 @@ async function* readPieces(name) {
     }
 }
 
+/** The record lines of a proof that is accepted, those of its version. */
+function linesOf({ records, version }) {
+    return records.map((record) => lineOf(record, version));
+}
+
 /** Status and lines of `check` of the proof in these pieces. */
 async function checkLines(root, query, pieces) {
     const verdict = await judge(root, query, pieces);
-    return verdict.accepted ? [0, verdict.records.map(lineOf)] : [2, [refusalOf(verdict)]];
+    return verdict.accepted ? [0, linesOf(verdict)] : [2, [refusalOf(verdict)]];
 }
 
 /** Status and lines of `check-all` of a script's bytes and the bundle in these pieces. */
@@ -759,7 +866,7 @@ async function checkAllLines(root, script, pieces) {
         counts[way] += 1;
         if (way === "accepted") {
             lines.push([`query ${number} ok ${verdict.records.length}`]);
-            lines.push(verdict.records.map(lineOf));
+            lines.push(linesOf(verdict));
         } else {
             lines.push([`query ${number} ${way === "missing" ? way : refusalOf(verdict)}`]);
         }
@@ -824,7 +931,8 @@ async function main() {
 if (typeof module === "object") {
     const words = { readRoot, readQuery, readScript };
     const verdicts = { Judge, judge, check, judgeBundle, refusalOf };
-    module.exports = { ...words, ...verdicts, recordsOf, lineOf, hexOf, distance, meet, run };
+    const shown = { recordsOf, lineOf, linesOf, hexOf };
+    module.exports = { ...words, ...verdicts, ...shown, distance, meet, run };
     if (require.main === module) {
         main();
     }

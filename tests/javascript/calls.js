@@ -12,6 +12,9 @@ const WINDOW = "window:133700000,525100000,133800000,525200000";
 const POINTS = "94f0cf13ea902a3c351f1c6ad540cf8917c2f9b63f400144e03cdb1dda1daf4c";
 const FILE = path.join(EXAMPLES, "places-window.proof");
 const PROOF = new Uint8Array(fs.readFileSync(FILE));
+// The map of the one record `7 0 0 0 0 5 -` of version 2: its root digest, and a proof on it.
+const ROOT_LAYERED = "18765610245298873ffa8adca444b11a93de409d6eaa79f942de550e226b03f7";
+const LAYERED = `4d52564f0257${"0".repeat(30)}01004c01${"0".repeat(15)}7${"0".repeat(32)}0500`;
 const ROUNDS = 3000; // strings of random bytes
 const ROOTS = ["", PLACES.slice(1), PLACES.toUpperCase(), `${PLACES}\n`, `${PLACES}0`, null, 7];
 const QUERIES = [
@@ -20,6 +23,9 @@ const QUERIES = [
     ...["window:0,0,0,2147483648", "window:0,0,0,0 ", "window:0,0,0,0\n", "Window:0,0,0,0"],
     ...["nearest:0,0,0", "nearest:0,0,1025", "nearest:0,0,-1", "nearest:0,0", "nearest:0,0,1,1"],
     ...["window:0,0,0,1e1", "window:0,0,0,\u0663", "window:NaN,0,0,0", undefined, null, 7],
+    ...["window:0,0,0,0/", "window:0,0,0,0/000000000000002", "window:0,0,0,0/00000000000000200"],
+    ...["window:0,0,0,0/000000000000002A", "window:0,0,0,0/0000000000000020/", "/0000000000000020"],
+    ...["window:0,0,0,0/0000000000000020\n", "window:0,0,0/0000000000000020", "nearest:0,0,1//"],
 ];
 
 /** What a call is ended by: the name of an error, or the numbers of the records. */
@@ -53,6 +59,30 @@ async function othersHold(bench) {
     for (const [kind, ...words] of calls) {
         bench.equal(await ended(...words), `${kind}Error`, `the call ${words}`);
     }
+}
+
+/** Proofs of both versions, for queries that name a mask and that name none. */
+async function versionsHold(bench) {
+    const layered = Uint8Array.from(LAYERED.match(/../g), (digits) => parseInt(digits, 16));
+    const rows = [
+        [ROOT_LAYERED, "window:0,0,0,0", layered, "7"],
+        [ROOT_LAYERED, "window:0,0,0,0/0000000000000020", layered, "7"],
+        [ROOT_LAYERED, "window:0,0,0,0/ffffffffffffffff", layered, "7"],
+        [ROOT_LAYERED, "window:0,0,0,0/0000000000000001", layered, "Needless"],
+        [ROOT_LAYERED, "window:0,0,0,0/0000000000000000", layered, "Needless"],
+        [PLACES, `${WINDOW}/ffffffffffffffff`, PROOF, "BadVersion"],
+        [PLACES, "window:0,0,0,0", layered, "WrongRoot"],
+    ];
+    for (const [root, query, proof, meant] of rows) {
+        bench.equal(await ended(root, query, proof), meant, `the query ${query}`);
+    }
+    const { records, version } = await client.check(ROOT_LAYERED, "window:0,0,0,0", layered);
+    bench.equal(`${version} ${records[0].layer}`, "2 5", "the version and the layer");
+    const lines = client.linesOf({ records, version });
+    bench.equal(lines.join("\n"), "7 0 0 0 0 5 -", "the lines of version 2");
+    bench.equal(client.lineOf(records[0]), "7 0 0 0 0 -", "the line of version 1");
+    const { mask } = client.readQuery("nearest:0,0,1/00000000000000ff");
+    bench.equal(String(mask), "255", "the mask of a query");
 }
 
 /** Words as on a command line: what is a query may be a file's name too. */
@@ -112,7 +142,11 @@ async function bytesHold(bench) {
     for (let round = 0; round < ROUNDS; round++) {
         const front = PROOF.subarray(0, crypto.randomInt(PROOF.length));
         const bytes = Uint8Array.of(...front, ...crypto.randomBytes(crypto.randomInt(300)));
-        const query = round % 2 === 0 ? WINDOW : "nearest:133777000,525163000,2";
+        if (round % 3 === 0 && bytes.length > 4) {
+            bytes[4] = 2;
+        }
+        const end = round % 5 === 0 ? "/00000000000000ff" : "";
+        const query = (round % 2 === 0 ? WINDOW : "nearest:133777000,525163000,2") + end;
         const one = await ended(PLACES, query, bytes);
         const other = await ended(PLACES, query, cut(bytes, 1 + crypto.randomInt(9)));
         const isSo = one === other && !one.endsWith("Error");
@@ -124,6 +158,7 @@ async function main() {
     const bench = new Bench("calls");
     await waysHold(bench);
     await othersHold(bench);
+    await versionsHold(bench);
     await wordsHold(bench);
     await filesHold(bench);
     await judgesHold(bench);

@@ -19,6 +19,9 @@ const PLACES = "b136e9ea66645cc4c87feaf0addfecbc0d52bd619bc06f05e004ff35cbfaff04
 const WINDOW = "window:133700000,525100000,133800000,525200000";
 const NEAREST = "nearest:133777000,525163000,2";
 const POINTS = "94f0cf13ea902a3c351f1c6ad540cf8917c2f9b63f400144e03cdb1dda1daf4c";
+// The map of the one record `7 0 0 0 0 5 -` of version 2: its root digest, and a proof on it.
+const ROOT_LAYERED = "18765610245298873ffa8adca444b11a93de409d6eaa79f942de550e226b03f7";
+const LAYERED = `4d52564f0257${"0".repeat(30)}01004c01${"0".repeat(15)}7${"0".repeat(32)}0500`;
 const ROWS = [
     "101 133777000 525163000 133777000 525163000 Brandenburger Tor",
     "102 133761000 525186000 133761000 525186000 Reichstag",
@@ -138,6 +141,12 @@ async function othersHold(bench, browser, room) {
     const other = oneRecord(file, Buffer.from("ff00", "hex"));
     const bytes = await given(browser, other, "window:0,0,9,9", file);
     bench.equal(String(bytes.rows), "7 1 2 1 2 0xff00", "a payload that is no text");
+    fs.writeFileSync(file, Buffer.from(LAYERED, "hex"));
+    const layered = await given(browser, ROOT_LAYERED, "window:0,0,0,0/0000000000000020", file);
+    bench.equal(String(layered.rows), "7 0 0 0 0 5 ", "a record on a layer");
+    bench.equal(layered.drawn, "0 1 0 1 0 1", "its picture");
+    const beside = await given(browser, ROOT_LAYERED, "window:0,0,0,0/0000000000000001", file);
+    bench.equal(beside.line, "refused Needless at 50", "another layer");
     fs.writeFileSync(file, Buffer.from("4d52564f015700000000000000000000000000000000", "hex"));
     const empty = "3192817fd1840eb7f63b1b289a173abad1772411a7b2a52117cfe44a09df8c30";
     const none = await given(browser, empty, "window:0,0,9,9", file);

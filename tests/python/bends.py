@@ -13,6 +13,7 @@ TOKENS = [
     *(b"", b" ", b"\t", b"\r", b"\n", b"\0", b"-", b"+", b"- ", b"+ ", b",", b"-0", b"+5", b"05", b"0x1", b"1e3"),
     *(b"\xef\xbb\xbf", b"\xff", b"\xc2\xa0", b"ab", b"AB", b"abc", b"zz", b"0" * 400, b"6" * 401),
     *(b"batch 1", b"window:0,0,1,1", b"nearest:0,0,1025"),
+    *(b"/", b"/0000000000000020", b"/000000000000002", b"/F" + b"0" * 15),
 ]
 # Where the fields of page 0 begin, and their sizes, by the version; the last two are zeros and the seal.
 FRONT = [(0, 4), (4, 1), (5, 1), (6, 8), (14, 8), (22, 4), (26, 4), (30, 16)]
@@ -64,13 +65,21 @@ def records(chance: random.Random, most: int, version: int = 1) -> List[plain.Re
     return [record(chance, number, version) for number in numbers]
 
 
-def query(chance: random.Random) -> Tuple:
-    """A window or the nearest records."""
+def mask(chance: random.Random) -> int:
+    """Some layers, none or all."""
+    one = 1 << chance.choice((0, 5, 63, chance.randrange(64)))
+    return chance.choice((0, one, one | 32, (2**64 - 1) ^ one, 2**64 - 1, chance.randrange(2**64)))
+
+
+def query(chance: random.Random, version: int = 1) -> plain.Query:
+    """A window or the nearest records; in version 2 about half of them name a mask, and in version 1 none does."""
+    named = mask(chance) if version == 2 and chance.random() < 0.5 else None
     if chance.random() < 0.5:
-        return (place(chance), place(chance)), chance.choice((1, 2, 10, 1024, chance.randint(1, 1024)))
+        k = chance.choice((1, 2, 10, 1024, chance.randint(1, 1024)))
+        return plain.Query(((place(chance), place(chance)), k), named)
     x, y = place(chance), place(chance)
     wide = chance.choice((0, 5, 1000, 2**30))
-    return x, y, min(x + wide, 2**31 - 1), min(y + wide, 2**31 - 1)
+    return plain.Query((x, y, min(x + wide, 2**31 - 1), min(y + wide, 2**31 - 1)), named)
 
 
 def record_text(given: List[plain.Record], version: int = 1) -> bytes:
@@ -94,9 +103,10 @@ def batch_text(chance: random.Random, given: List[Tuple], held: int, version: in
     return "".join(one + "\n" for one in lines).encode()
 
 
-def script_text(chance: random.Random) -> bytes:
-    """A script of a few queries."""
-    return "".join(word_of(query(chance)) + "\n" for _ in range(chance.choice((0, 1, 2, 8)))).encode()
+def script_text(chance: random.Random, version: int = 1) -> bytes:
+    """A script of a few queries for maps of a version, or of them and for others."""
+    version = 2 if chance.random() < 0.2 else version
+    return "".join(word_of(query(chance, version)) + "\n" for _ in range(chance.choice((0, 1, 2, 8)))).encode()
 
 
 # ---- bent texts

@@ -1,4 +1,5 @@
 """Maps, queries, proofs and bundles at random, honest and bent: program and client say the same of each."""
+import itertools
 import os
 import random
 from typing import List, Tuple
@@ -10,74 +11,91 @@ from proofs import plain
 
 
 class Map:
-    """A map that was made at random and built by the program, changed by a batch or not."""
+    """A map of a version that was made at random and built by the program, changed by a batch or not."""
 
-    def __init__(self, bench: Bench, chance: random.Random, size: int, is_changed: bool) -> None:
+    def __init__(self, bench: Bench, chance: random.Random, size: int, is_changed: bool, version: int = 1) -> None:
         self.span = chance.choice((10, 1000, 10**6, 2**31 - 101))
-        self.chance, self.batch = chance, 0
+        self.chance, self.batch, self.version = chance, 0, version
+        self.layers = chance.choice(((0,), (0, 5, 63), range(64)))
         self.records = [self.record(number) for number in chance.sample(range(1, 4 * size + 9), size)]
-        write("r", "".join(plain.line_of(record) + "\n" for record in self.records).encode())
-        self.root = bench.program(["build", "m", "r"])[1].decode().strip()
+        write("r", "".join(plain.line_of(record, version) + "\n" for record in self.records).encode())
+        self.root = bench.program(["build2" if version == 2 else "build", "m", "r"])[1].decode().strip()
         self.tree = plain.pack(self.records) if size <= 2000 and not is_changed else None
         if is_changed:
             self.change(bench)
 
     def record(self, number: int) -> plain.Record:
-        """A record at random: a point or a rectangle, most without a payload."""
+        """A record at random: a point or a rectangle, most without a payload; in version 2 on a layer of the map's."""
         chance, span = self.chance, self.span
         x, y = chance.randint(-span, span), chance.randint(-span, span)
         size = chance.choice((0, 0, 0, 3, 100))
         payload = bytes(chance.randrange(256) for _ in range(chance.choice((0, 0, 0, 1, 8, 200))))
-        return plain.Record(number, (x, y, x + chance.randint(0, size), y + chance.randint(0, size)), payload)
+        rect = (x, y, x + chance.randint(0, size), y + chance.randint(0, size))
+        return plain.Record(number, rect, payload, chance.choice(self.layers) if self.version == 2 else 0)
 
     def change(self, bench: Bench) -> None:
         """A batch that takes out about a quarter of the records and puts others in."""
         gone = {record[0] for record in self.records if self.chance.random() < 0.25}
         come = [self.record(10**6 + number) for number in range(len(self.records) // 8 + 1)]
-        lines = ["batch 1"] + ["- %d" % number for number in gone] + ["+ " + plain.line_of(record) for record in come]
+        lines = ["batch 1"] + ["- %d" % number for number in gone]
+        lines += ["+ " + plain.line_of(record, self.version) for record in come]
         write("b", "".join(line + "\n" for line in lines).encode())
         self.root = bench.program(["apply", "m", "b", "n"])[1].decode().strip()
         os.replace("n", "m")
         self.records = [record for record in self.records if record[0] not in gone] + come
         self.batch = 1
 
-    def query(self) -> Tuple:
-        """A query at random: a window of any size, or up to 1,024 records that are nearest to a point."""
+    def query(self) -> plain.Query:
+        """A query at random: a window of any size, or up to 1,024 records that are nearest to a point.
+
+        On a map of version 2 half of them name a mask: of some of its layers, of none or of all.
+        """
         chance, span = self.chance, self.span
         x, y = chance.randint(-span, span), chance.randint(-span, span)
         if self.records and chance.random() < 0.5:
             x, y = chance.choice(self.records)[1][:2]
+        mask = self.mask() if self.version == 2 and chance.random() < 0.5 else None
         if chance.random() < 0.5:
             k = chance.choice((1, 1, 2, 3, 10, 100, 1024, max(1, min(len(self.records) + 1, 1024))))
-            return (x, y), k
+            return plain.Query(((x, y), k), mask)
         wide = chance.choice((0, 1, span // 100, span // 10, span))
         low = -(2**31)
-        return max(x - wide, low), max(y - wide, low), min(x + wide, -low - 1), min(y + wide, -low - 1)
+        sides = max(x - wide, low), max(y - wide, low), min(x + wide, -low - 1), min(y + wide, -low - 1)
+        return plain.Query(sides, mask)
+
+    def mask(self) -> int:
+        """Some layers."""
+        chance = self.chance
+        some = sum(1 << layer for layer in self.layers if chance.random() < 0.5)
+        return chance.choice((0, 1 << chance.choice(self.layers), some, some, 2**64 - 1, chance.randrange(2**64)))
 
 
-def proved(bench: Bench, one: Map, query: Tuple) -> bytes:
+def proved(bench: Bench, one: Map, query: plain.Query) -> bytes:
     """The program's proof of a query, once both clients took it and gave the answer of a scan."""
     word = proofs.word_of(query)
     bench.program(["prove", "m", word, "p"])
     proof, bench.honest = read("p"), bench.honest + 1
     said = bench.agree(["check", one.root, word, "p"], "an honest proof")
     answer = plain.answer(one.records, query)
-    lines = "".join(plain.line_of(record) + "\n" for record in (sorted(answer) if len(query) == 4 else answer))
+    answer = sorted(answer) if query.is_window() else answer
+    lines = "".join(plain.line_of(record, one.version) + "\n" for record in answer)
     bench.holds(said == (0, lines.encode()), "an honest proof of %s: both say %s" % (word, said[:1]))
     if one.tree or not one.records:
-        bench.holds(proof == proofs.honest(one.tree, one.batch, query), "the bytes of the proof of " + word)
+        meant = proofs.honest(one.tree, one.batch, query, one.version)
+        bench.holds(proof == meant, "the bytes of the proof of " + word)
     return proof
 
 
-def steps_agree(bench: Bench, root: str, query: Tuple, string: bytes, said: Ended) -> None:
+def steps_agree(bench: Bench, root: str, query: plain.Query, string: bytes, said: Ended) -> None:
     """The steps of docs/FORMATS.md give the same answer, or none."""
     answer = steps.answer(root, query, string)
-    lines = "".join(plain.line_of(record) + "\n" for record in answer or [])
+    version = 2 if string[4:5] == b"\x02" else 1
+    lines = "".join(plain.line_of(record, version) + "\n" for record in answer or [])
     is_so = said[0] == 2 if answer is None else said == (0, lines.encode())
     bench.holds(is_so, "%s: by the steps of FORMATS %s, and it is said %s" % (proofs.word_of(query), answer, said))
 
 
-def bent_agree(bench: Bench, one: Map, given: List[Tuple[Tuple, bytes]], count: int) -> None:
+def bent_agree(bench: Bench, one: Map, given: List[Tuple[plain.Query, bytes]], count: int) -> None:
     """Both clients say the same of bent strings: of one proof, of two, of a proof for another query."""
     for _ in range(count):
         query, proof = one.chance.choice(given)
@@ -136,7 +154,7 @@ def bent_bundle(proofs_: List[bytes], chance: random.Random) -> bytes:
     return whole + bytes(chance.randrange(1, 9)) if way == 6 else whole
 
 
-def bundles_agree(bench: Bench, one: Map, given: List[Tuple[Tuple, bytes]], count: int) -> None:
+def bundles_agree(bench: Bench, one: Map, given: List[Tuple[plain.Query, bytes]], count: int) -> None:
     """The client says of bundles, honest and bent, what is to be said; so does the program, if it knows bundles."""
     serves = bench.knows_bundles()
     for _ in range(count):
@@ -158,26 +176,30 @@ def bundles_agree(bench: Bench, one: Map, given: List[Tuple[Tuple, bytes]], coun
 
 def each_agrees(bench: Bench, one: Map) -> None:
     """Both clients say the same of a proof with each field bent in each way, and of each cut of it."""
-    queries = sorted((one.query() for _ in range(60)), key=len)
-    given = [(query, proofs.honest(one.tree, 0, query)) for query in queries]
-    for kind in (2, 4):
-        query, proof = min((pair for pair in given if len(pair[0]) == kind), key=lambda pair: abs(len(pair[1]) - 1800))
+    queries = [one.query() for _ in range(60)]
+    given = [(query, proofs.honest(one.tree, 0, query, one.version)) for query in queries]
+    for is_window in (False, True):
+        pairs = [pair for pair in given if pair[0].is_window() == is_window]
+        query, proof = min(pairs, key=lambda pair: abs(len(pair[1]) - 1800))
         for string in [*proofs.bent_fields(proof), *proofs.cuts(proof)]:
             bench.agree_on(one.root, proofs.word_of(query), string, "a proof with a bent field, or cut")
             bench.bent += 1
 
 
 def random_proofs(bench: Bench) -> None:
-    """Maps of up to 20,000 records, honest proofs and bent ones; each field and each cut of two in the long run."""
+    """Maps of up to 20,000 records, honest proofs and bent ones; each field and each cut of some in the long run.
+
+    Of each size there is a map of each version.
+    """
     chance = random.Random(28)
     sizes = [0, 1, 5, 16, 17, 40, 300, 1025, 2000, 5000, 12000, 20000] if bench.is_long else [0, 1, 17, 300, 2000]
     honest, bent = (2000, 16000) if bench.is_long else (50, 400)
-    for at, size in enumerate(sizes):
-        one = Map(bench, chance, size, is_changed=at % 4 == 3)
-        asked = [one.query() for _ in range(honest // len(sizes) + 1)]
+    for at, (size, version) in enumerate(itertools.product(sizes, (1, 2))):
+        one = Map(bench, chance, size, is_changed=at // 2 % 4 == 3, version=version)
+        asked = [one.query() for _ in range(honest // len(sizes) // 2 + 1)]
         given = [(query, proved(bench, one, query)) for query in asked]
-        bent_agree(bench, one, given, bent // len(sizes) + 1)
-        bundles_agree(bench, one, given, honest // len(sizes) // 4 + 1)
+        bent_agree(bench, one, given, bent // len(sizes) // 2 + 1)
+        bundles_agree(bench, one, given, honest // len(sizes) // 8 + 1)
         if size == 2000 and bench.is_long:
             each_agrees(bench, one)
     counts = bench.honest, bench.bent, bench.bundles

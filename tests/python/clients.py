@@ -27,7 +27,7 @@ MOST_IN_SHORT = 2**17  # bytes of a proof that the short run takes from a story
 RULES = """TooMany NoEnd Head Form Number Coordinate Order Payload Repeat Query Layer OutOfOrder Present Full Absent
     Size Unsealed Header Outside Twice Page Digest Rect Sum Fill Number Count Free Long Short BadMagic BadVersion WrongKind
     BadCount BadFlag BadRadius BadLevel BadTag BadEntries BadRect BadLength Hidden Needless Trailing WrongRoot
-    WrongRadius""".split()
+    WrongRadius WrongTally BadLayer""".split()
 
 
 # ---- how the scripts are written

@@ -114,11 +114,6 @@ def reads_map(bytes_: Optional[bytes]) -> List[Call]:
     return [Call("asks")] + [Call("reads")] * (pages if size >= said.FIRST else 0)
 
 
-def reads_first(map_: Optional[bytes], other: Optional[bytes]) -> List[Call]:
-    """The calls by which a map is read, and then another file where there are proofs of maps of its version."""
-    return reads_map(map_) + (reads_text(other) if said.version_of(map_ or b"") == 1 else [])
-
-
 # The commands that make a file, and the place of its name among the words.
 MADE = {"build": 1, "build2": 1, "upgrade": 2, "make": 3, "prove": 3, "serve": 3, "apply": 3}
 
@@ -155,8 +150,8 @@ def course(words: List[str], files: said.Files, made: Optional[bytes]) -> List[C
         "apply": lambda: reads_map(of(1)) + reads_text(of(2)),
         "prove": lambda: reads_map(of(1)),
         "check": lambda: reads_text(of(3)),
-        "audit": lambda: reads_first(of(1), of(3)),
-        "serve": lambda: reads_first(of(1), of(2)),
+        "audit": lambda: reads_map(of(1)) + reads_text(of(3)),
+        "serve": lambda: reads_map(of(1)) + reads_text(of(2)),
         "check-all": lambda: reads_text(of(2)) + reads_text(of(3)),
     }
     calls = inputs.get(words[0], list)()
@@ -452,7 +447,7 @@ def reads_along(tree: Any, changes: List[Any]) -> int:
 def reads_of(words: List[str], files: said.Files, meant: said.Meant) -> Tuple[int, int]:
     """The fewest and the most reads of a run; of a map of more than 257 pages what is not kept is read again.
 
-    A window opens all nodes here, and nearest records may open kept ones alone.
+    A window opens all nodes here; nearest records, and a query that names layers, may open kept ones alone.
     """
     of_page_0 = [b"bad map page 0 %s\n" % rule for rule in (b"Size", b"Unsealed", b"Header")]
     calls = course(words, files, meant.made) if meant.ended[0] in (0, 2, 10) or meant.ended[1] in of_page_0 else []
@@ -470,7 +465,7 @@ def reads_of(words: List[str], files: said.Files, meant: said.Meant) -> Tuple[in
     if words[0] == "apply" and meant.made is not None:
         along = reads_along(said.read_map(map_)[0], read_changes(map_, files[words[2]]))
         most += 1 + along
-    few = words[0] == "prove" and words[2].startswith("nearest:")
+    few = words[0] == "prove" and (words[2].startswith("nearest:") or "/" in words[2])
     return count + (0 if few else max(0, again - KEPT)), most
 
 

@@ -171,7 +171,7 @@ def over(
     bytes_: bytes, chance: random.Random, given: List[plain.Record], held: int, rule: str = "", version: int = 1
 ) -> Case:
     """A command that reads this map file, which was made of these records at this batch in this version."""
-    query = proofs.word_of(bends.query(chance))
+    query = proofs.word_of(bends.query(chance, version if chance.random() < 0.7 else 2))
     way = chance.randrange(6)
     if way < 2:
         return over_both(bytes_, chance, rule)
@@ -181,53 +181,62 @@ def over(
         text = bends.batch_text(chance, given, held, version)
         return Case(["apply", "m", "b", "n"], {"m": bytes_, "b": text}, "n", rule)
     if way == 4:
-        return Case(["audit", "m", query, "p"], {"m": bytes_, "p": proof_of(chance, given, held)[2]}, "", rule)
-    return Case(["serve", "m", "s", "u"], {"m": bytes_, "s": bends.script_text(chance)}, "u", rule)
+        string = proof_of(chance, given, held, version)[2]
+        return Case(["audit", "m", query, "p"], {"m": bytes_, "p": string}, "", rule)
+    return Case(["serve", "m", "s", "u"], {"m": bytes_, "s": bends.script_text(chance, version)}, "u", rule)
 
 
-def proof_of(chance: random.Random, given: List[plain.Record], batch: int) -> Tuple[str, Tuple, bytes]:
+def proof_of(
+    chance: random.Random, given: List[plain.Record], batch: int, version: int
+) -> Tuple[str, plain.Query, bytes]:
     """A root digest, a query, and a string that is offered as its proof, honest or not."""
-    tree, query = plain.pack(given), bends.query(chance)
-    proof = proofs.honest(tree, batch, query)
+    tree, query = plain.pack(given), bends.query(chance, version)
+    proof = proofs.honest(tree, batch, query, version)
     way = chance.random()
     if way < 0.5:
-        string = proofs.bent(proof, proofs.honest(tree, batch, bends.query(chance)), chance)
+        string = proofs.bent(proof, proofs.honest(tree, batch, bends.query(chance, version), version), chance)
     elif way < 0.6:
         string = bends.some_bytes(chance, 400)
     elif way < 0.7:
         string = bends.bent_bytes(proof, chance)
     else:
         string = proof
-    return plain.root(tree, batch), bends.query(chance) if chance.random() < 0.1 else query, string
+    other = bends.query(chance, chance.choice((1, 2)))
+    return plain.root(tree, batch, version), other if chance.random() < 0.1 else query, string
 
 
 def proofs_(chance: random.Random) -> Case:
     """Proofs, for `check`, and for `audit` beside their map."""
-    given = bends.records(chance, chance.choice((40, 400)))
-    root, query, string = proof_of(chance, given, 0)
+    version = chance.choice((1, 2))
+    given = bends.records(chance, chance.choice((40, 400)), version)
+    root, query, string = proof_of(chance, given, 0, version)
     if chance.random() < 0.6:
         return Case(["check", root, proofs.word_of(query), "p"], maybe(chance, {"p": string}, "p"))
-    files = {"m": honest_map(chance, given), "p": string}
+    files = {"m": honest_map(chance, given, version), "p": string}
     return Case(["audit", "m", proofs.word_of(query), "p"], maybe(chance, files, "p"))
 
 
 def scripts(chance: random.Random) -> Case:
     """Scripts, for `serve` and for `check-all`."""
-    given, text = bends.records(chance, 200), bends.script_text(chance)
+    version = chance.choice((1, 2))
+    given, text = bends.records(chance, 200, version), bends.script_text(chance, version)
     text = bends.bent_text(text, chance) if chance.random() < 0.7 else text
     if chance.random() < 0.7:
-        return Case(["serve", "m", "s", "u"], maybe(chance, {"m": honest_map(chance, given), "s": text}, "s"), "u")
-    root, bytes_ = plain.root(plain.pack(given), 0), bends.some_bytes(chance, 300)
+        return Case(["serve", "m", "s", "u"], maybe(chance, {"m": honest_map(chance, given, version), "s": text}, "s"), "u")
+    root, bytes_ = plain.root(plain.pack(given), 0, version), bends.some_bytes(chance, 300)
     return Case(["check-all", root, "s", "u"], {"s": text, "u": bytes_})
 
 
 def bundles(chance: random.Random) -> Case:
-    """Bundles for `check-all`."""
-    given = bends.records(chance, 200)
-    tree, queries = plain.pack(given), [bends.query(chance) for _ in range(chance.choice((0, 1, 2, 6)))]
-    bytes_ = bends.bundle(chance, [proofs.honest(tree, 0, query) for query in queries])
+    """Bundles for `check-all`; in some of them a proof is of the other version than the root is."""
+    version = chance.choice((1, 2))
+    tree = plain.pack(bends.records(chance, 200, version))
+    queries = [bends.query(chance, version) for _ in range(chance.choice((0, 1, 2, 6)))]
+    of = lambda query: 3 - version if query.mask is None and chance.random() < 0.05 else version
+    bytes_ = bends.bundle(chance, [proofs.honest(tree, 0, query, of(query)) for query in queries])
     text = "".join(proofs.word_of(query) + "\n" for query in queries).encode()
-    return Case(["check-all", plain.root(tree, 0), "s", "u"], maybe(chance, {"s": text, "u": bytes_}, "u"))
+    root = plain.root(tree, 0, version)
+    return Case(["check-all", root, "s", "u"], maybe(chance, {"s": text, "u": bytes_}, "u"))
 
 
 KINDS: List[Tuple[str, Callable[[random.Random], Case], int]] = [

@@ -57,6 +57,8 @@ def jobs(bench: Bench, seed: int, count: int, changes: int, queries: int) -> Lis
     build2 = job(bench, "build2 m r", {"r": text2}, "m")
     prove = job(bench, "prove m %s p" % WINDOW, {"m": map_}, "p")
     serve = job(bench, "serve m s u", {"m": map_, "s": script}, "u")
+    masked = WINDOW + "/00000000000000ff"
+    prove2 = job(bench, "prove m %s p" % masked, {"m": build2.whole}, "p")
     return [
         build,
         job(bench, "apply m b n", {"m": map_, "b": batch}, "n"),
@@ -69,7 +71,9 @@ def jobs(bench: Bench, seed: int, count: int, changes: int, queries: int) -> Lis
         build2,
         job(bench, "upgrade m n", {"m": map_}, "n"),
         job(bench, "apply m b n", {"m": build2.whole, "b": batch2}, "n"),
-        job(bench, "prove m %s p" % WINDOW, {"m": build2.whole}, "", 10),
+        prove2,
+        job(bench, "prove m %s p" % masked, {"m": map_}, "", 10),
+        job(bench, "audit m %s p" % masked, {"m": build2.whole, "p": prove2.whole}, ""),
         job(bench, "list m", {"m": build2.whole}, ""),
         job(bench, "check %s %s p" % (root, WINDOW), {"p": prove.whole}, ""),
         job(bench, "audit m %s p" % WINDOW, {"m": map_, "p": prove.whole}, ""),

@@ -1,7 +1,4 @@
-"""Honest proofs of plain trees, and strings that are no honest proofs. By docs/FORMATS.md, apart from the client.
-
-A query is a window (x0, y0, x1, y1), or a centre and how many of the nearest records are asked for: ((x, y), k).
-"""
+"""Honest proofs of plain trees, and strings that are no honest proofs. By docs/FORMATS.md, apart from the client."""
 import functools
 import os
 import random
@@ -13,52 +10,45 @@ sys.path.insert(0, os.path.join(os.path.dirname(os.path.abspath(__file__)), ".."
 import plain  # noqa: E402
 
 
-def word_of(query) -> str:
+def word_of(query: plain.Query) -> str:
     """The word of a query."""
-    if len(query) == 4:
-        return "window:%d,%d,%d,%d" % query
-    return "nearest:%d,%d,%d" % (*query[0], query[1])
+    mask = "" if query.mask is None else "/%016x" % query.mask
+    if query.is_window():
+        return "window:%d,%d,%d,%d" % query.shape + mask
+    return "nearest:%d,%d,%d" % (*query.shape[0], query.shape[1]) + mask
 
 
 # ---- honest proofs
 
 
-def head(kind: bytes, batch: int, count: int, radius=None, level=0) -> bytes:
+def head(version: int, kind: bytes, batch: int, count: int, radius=None, level=0) -> bytes:
     """The head of a proof; a proof of kind K has a flag, and with a squared radius (an int) flag 01."""
-    front = b"MRVO\x01" + kind + struct.pack(">QQ", batch, count)
+    front = b"MRVO" + bytes([version]) + kind + struct.pack(">QQ", batch, count)
     if kind == b"K":
         front += b"\x00" if radius is None else b"\x01" + radius.to_bytes(16, "big")
     return front + (bytes([level]) if count else b"")
 
 
-def pruned(rect, digest: bytes) -> bytes:
-    """A pruned item."""
-    return b"P" + struct.pack(">4i", *rect) + digest
-
-
-def item(node, meets: Callable) -> bytes:
+def item(node, version: int, reaches: Callable) -> bytes:
     """The item of a node and those below it."""
-    if not meets(node.rect):
-        return pruned(node.rect, node.digest())
-    parts = [plain.record_bytes(e) if node.is_leaf else item(e, meets) for e in node.entries]
-    return (b"L" if node.is_leaf else b"N") + bytes([len(parts)]) + b"".join(parts)
+    if not reaches(node):
+        return b"P" + plain.entry(node, version)
+    entries, is_leaf = node.entries, node.is_leaf
+    parts = [plain.record_bytes(e, version) if is_leaf else item(e, version, reaches) for e in entries]
+    return (b"L" if is_leaf else b"N") + bytes([len(parts)]) + b"".join(parts)
 
 
-def honest(tree, batch: int, query) -> bytes:
-    """The honest proof of a query on the map of a tree (None of one without records)."""
-    kind = b"W" if len(query) == 4 else b"K"
+def honest(tree, batch: int, query: plain.Query, version: int = 1) -> bytes:
+    """The honest proof of a query on the map of a tree (None of one without records), a query that has one."""
+    kind = b"W" if query.is_window() else b"K"
+    assert version == 2 or query.mask is None
     if tree is None:
-        return head(kind, batch, 0)
+        return head(version, kind, batch, 0)
     records = tree.records()
-    radius = None
-    if kind == b"W":
-        meets = lambda rect: plain.overlap(query, rect)
-    elif len(records) < query[1]:
-        meets = lambda rect: True
-    else:
-        radius = plain.distance(query[0], plain.answer(records, query)[-1][1])
-        meets = lambda rect: plain.distance(query[0], rect) <= radius
-    return head(kind, batch, len(records), radius, tree.level()) + item(tree, meets)
+    radius = None if query.is_window() else plain.radius_of(records, query)
+    meets, layers = plain.meets_of(query, radius), query.layers()
+    reaches = lambda node: meets(node.rect) and (version == 1 or node.mask() & layers != 0)
+    return head(version, kind, batch, len(records), radius, tree.level()) + item(tree, version, reaches)
 
 
 # ---- where the parts of an honest proof stand
@@ -79,8 +69,8 @@ class Layout:
 
     def __init__(self, proof: bytes) -> None:
         self.proof, self.fields, self.place = proof, [], 0
-        self.take(4, 1)
-        kind = self.take(1)
+        self.take(4)
+        self.version, kind = self.take(1), self.take(1)
         self.take(8)
         count = self.take(8)
         if kind == ord("K") and self.take(1):
@@ -98,13 +88,13 @@ class Layout:
         """Goes over the next item."""
         start, tag, children = self.place, self.take(1), []
         if tag == ord("P"):
-            self.take(16, 32)
+            self.take(16, *([8, 8] if self.version == 2 else []), 32)
         else:
             for _ in range(self.take(1)):
                 if tag == ord("N"):
                     children.append(self.item(level - 1))
                 else:
-                    length = self.take(8, 16, 1)
+                    length = self.take(8, 16, *([1] if self.version == 2 else []), 1)
                     if length:
                         self.take(length)
         return Item(start, self.place, level, tag, children)

@@ -1,8 +1,7 @@
 """What the program says of its files: status, printed text and the file that it makes, by docs/FORMATS.md alone.
 
 A text or a map that breaks a rule is told by the line that is printed of it. Proofs and bundles are judged by the
-client in clients/python. Maps are of version 1 or 2; of those of version 2 there are no proofs. Slow: for maps of a few
-thousand records.
+client in clients/python. Maps and proofs are of version 1 or 2. Slow: for maps of a few thousand records.
 """
 import re
 import struct
@@ -10,6 +9,8 @@ from typing import Any, Dict, Iterator, List, NamedTuple, Optional, Set, Tuple
 
 from bench import Ended, mrtree_check
 from proofs import Item, Layout, honest, plain
+
+Query = plain.Query
 
 PAGES = {1: 4096, 2: 8192}  # the bytes of a page, by the version of its map
 FIRST = PAGES[1]
@@ -127,8 +128,17 @@ def read_batch(text: bytes, version: int = 1) -> Tuple[int, List[Any]]:
     return batch, changes
 
 
-def read_query(word: bytes) -> Optional[Tuple]:
-    """The query of a word: a window, or a centre and how many of the nearest records are asked for."""
+def read_query(word: bytes) -> Optional[Query]:
+    """The query of a word."""
+    front, slash, digits = word.partition(b"/")
+    shape, is_mask = read_shape(front), re.fullmatch(b"[0-9a-f]{16}", digits)
+    if shape is None or (slash and not is_mask):
+        return None
+    return Query(shape, int(digits, 16) if slash else None)
+
+
+def read_shape(word: bytes) -> Optional[Tuple]:
+    """What the front of a query's word asks for: a window, or a centre and how many of the nearest records."""
     name, _, rest = word.partition(b":")
     fields = rest.split(b",")
     low, high = -(2**31), 2**31 - 1
@@ -142,7 +152,7 @@ def read_query(word: bytes) -> Optional[Tuple]:
     return None
 
 
-def read_script(text: bytes) -> List[Tuple]:
+def read_script(text: bytes) -> List[Query]:
     """The queries of a script."""
     queries, lines = [], lines_of(text, MOST_QUERIES)
     for place, line in enumerate(lines):
@@ -321,12 +331,10 @@ def read_map(bytes_: bytes) -> Tuple[Any, int]:
     return Walk(bytes_, version_of(bytes_)).read()
 
 
-def read_first(bytes_: bytes) -> Tuple[Any, int]:
-    """The same of a map of which there are proofs."""
-    tree, batch = read_map(bytes_)
-    if version_of(bytes_) == 2:
+def has_proof(bytes_: bytes, queries: List[Query]) -> None:
+    """Tells of a map of version 1 that there is no proof on it, if one of these queries names a mask."""
+    if version_of(bytes_) == 1 and any(query.mask is not None for query in queries):
         raise Told(10, "needs version 2")
-    return tree, batch
 
 
 def page_of(node: Any, children: List[int], version: int = 1) -> bytes:
@@ -422,7 +430,7 @@ def say_apply(words: List[str], files: Files) -> Meant:
     return Meant((0, line(plain.root(tree, batch[0], version))), map_bytes(tree, batch[0], version))
 
 
-def query_of(word: str) -> Tuple:
+def query_of(word: str) -> Query:
     """The query of a word that is one."""
     query = read_query(word.encode())
     if query is None:
@@ -432,70 +440,87 @@ def query_of(word: str) -> Tuple:
 
 def say_prove(words: List[str], files: Files) -> Meant:
     """`prove`."""
-    query = query_of(words[2])
-    made = honest(*read_first(file_of(files, words[1])), query)
+    query, bytes_ = query_of(words[2]), file_of(files, words[1])
+    map_ = read_map(bytes_)
+    has_proof(bytes_, [query])
+    made = honest(*map_, query, version_of(bytes_))
     return Meant((0, line("proof %d" % len(made))), made)
 
 
 class Shown(NamedTuple):
-    """What a proof shows of a node: rectangle, digest and preimage (none of a pruned one), and its children."""
+    """What a proof shows of a node: what its parent says of it, its preimage (none of a pruned one), its children."""
 
     rect: Tuple[int, ...]
+    mask: int
+    count: int
     digest: bytes
     preimage: bytes
     children: List["Shown"]
 
+    def named(self, version: int) -> bytes:
+        """Its rectangle and, in version 2, its mask."""
+        return struct.pack(">4i", *self.rect) + (struct.pack(">Q", self.mask) if version == 2 else b"")
+
+    def entry(self, version: int) -> bytes:
+        """What its parent says of it."""
+        return self.named(version) + (struct.pack(">Q", self.count) if version == 2 else b"") + self.digest
+
 
 def shown(proof: bytes, item: Item) -> Shown:
     """What an item of an accepted proof shows."""
-    bytes_ = proof[item.start : item.end]
+    version, bytes_ = proof[4], proof[item.start : item.end]
     if item.tag == ord("P"):
-        return Shown(struct.unpack(">4i", bytes_[1:17]), bytes_[17:], b"", [])
+        mask, count = struct.unpack(">QQ", bytes_[17:33]) if version == 2 else (0, 0)
+        return Shown(struct.unpack(">4i", bytes_[1:17]), mask, count, bytes_[-32:], b"", [])
     children = [shown(proof, child) for child in item.children]
-    rects, at = [child.rect for child in children], 2
+    parts, mask, count = [(child.rect, child.mask, child.count) for child in children], 0, 0
+    at = 2
     while item.tag == ord("L") and at < len(bytes_):
-        rects.append(struct.unpack(">4i", bytes_[at + 8 : at + 24]))
-        at += 25 + bytes_[at + 24]
+        rect, layer = struct.unpack(">4i", bytes_[at + 8 : at + 24]), bytes_[at + 24] if version == 2 else 0
+        parts.append((rect, 1 << layer, 1))
+        at += 24 + version + bytes_[at + 23 + version]
     if item.tag == ord("N"):
-        parts = [struct.pack(">4i", *child.rect) + child.digest for child in children]
-        bytes_ = b"N" + bytes([item.level, len(parts)]) + b"".join(parts)
-    return Shown(plain.union(rects), plain.digest(bytes_), bytes_, children)
+        bytes_ = b"N" + bytes([item.level, len(parts)]) + b"".join(child.entry(version) for child in children)
+    for _, bits, number in parts:
+        mask, count = mask | bits, count + number
+    return Shown(plain.union([rect for rect, _, _ in parts]), mask, count, plain.digest(bytes_), bytes_, children)
 
 
-def root_preimages(tree: Any, batch: int, proof: bytes) -> Tuple[bytes, bytes]:
-    """The preimages of the roots of a map and of an accepted proof."""
+def root_preimages(tree: Any, batch: int, version: int, proof: bytes) -> Tuple[bytes, bytes]:
+    """The preimages of the roots of a map and of an accepted proof, each in its own version."""
     layout = Layout(proof)
-    theirs = b"E\x01" + proof[6:14]
+    theirs = b"E" + proof[4:5] + proof[6:14]
     if layout.root:
         one = shown(proof, layout.root)
-        theirs = b"R\x01" + proof[6:22] + bytes([layout.root.level]) + struct.pack(">4i", *one.rect) + one.digest
-    return plain.root_preimage(tree, batch), theirs
+        theirs = b"R" + proof[4:5] + proof[6:22] + bytes([layout.root.level]) + one.named(proof[4]) + one.digest
+    return plain.root_preimage(tree, batch, version), theirs
 
 
-def preimages(node: Any, one: Shown) -> Iterator[Tuple[bytes, bytes]]:
+def preimages(node: Any, version: int, one: Shown) -> Iterator[Tuple[bytes, bytes]]:
     """The preimages of a node and those below it, and of what a proof shows in their places, down to a difference."""
     if one.preimage:
-        yield node.preimage(), one.preimage
+        yield node.preimage(version), one.preimage
         for child, part in zip([] if node.is_leaf else node.entries, one.children):
-            yield from preimages(child, part)
+            yield from preimages(child, version, part)
 
 
-def collision(tree: Any, batch: int, proof: bytes) -> Optional[Tuple[bytes, bytes]]:
+def collision(tree: Any, batch: int, version: int, proof: bytes) -> Optional[Tuple[bytes, bytes]]:
     """The first two preimages that differ, of a map and of an accepted proof."""
-    pairs = [root_preimages(tree, batch, proof)]
+    pairs = [root_preimages(tree, batch, version, proof)]
     root = Layout(proof).root
     if tree is not None and root is not None and pairs[0][0] == pairs[0][1]:
-        pairs = preimages(tree, shown(proof, root))
+        pairs = preimages(tree, version, shown(proof, root))
     return next((pair for pair in pairs if pair[0] != pair[1]), None)
 
 
 def say_audit(words: List[str], files: Files) -> Meant:
     """`audit`."""
     query_of(words[2])
-    tree, batch = read_first(file_of(files, words[1]))
+    bytes_ = file_of(files, words[1])
+    (tree, batch), version = read_map(bytes_), version_of(bytes_)
     proof = file_of(files, words[3])
-    status, text = mrtree_check.run(["check", plain.root(tree, batch), *words[2:]])
-    pair = collision(tree, batch, proof) if status == 0 else None
+    status, text = mrtree_check.run(["check", plain.root(tree, batch, version), *words[2:]])
+    pair = collision(tree, batch, version, proof) if status == 0 else None
     if pair:
         return Meant((6, b"collision\n%s\n%s\n" % (pair[0].hex().encode(), pair[1].hex().encode())))
     return Meant((status, (b"sound\n" if status == 0 else b"") + text.encode()))
@@ -503,9 +528,11 @@ def say_audit(words: List[str], files: Files) -> Meant:
 
 def say_serve(words: List[str], files: Files) -> Meant:
     """`serve`."""
-    tree, batch = read_first(file_of(files, words[1]))
+    bytes_ = file_of(files, words[1])
+    (tree, batch), version = read_map(bytes_), version_of(bytes_)
     queries = read_script(file_of(files, words[2]))
-    proofs = [honest(tree, batch, query) for query in queries]
+    has_proof(bytes_, queries)
+    proofs = [honest(tree, batch, query, version) for query in queries]
     made = b"".join(len(proof).to_bytes(4, "big") + proof for proof in proofs)
     return Meant((0, line("served %d %d" % (len(queries), len(made)))), made)
 

@@ -237,7 +237,8 @@ TOLD = [  # words, status, what the line has in it
     (["upgrade", "places.map", "folder"], 7, "'folder' is a folder"),
     (["build2", "none/new.map", "layer.txt"], 7, "there is no folder 'none'"),
     (["list", "places.proof"], 4, "'places.proof' is not a whole map"),
-    (["prove", "second.map", WINDOW, "new.proof"], 10, "'second.map' is of version 2, and 'prove' takes"),
+    (["prove", "places.map", WINDOW + "/" + "f" * 16, "new.proof"], 10, "'places.map' is of version 1, and layers"),
+    (["serve", "places.map", "layer.script", "new.bundle"], 10, "'places.map' is of version 1, and layers"),
     (["apply", "second.map", "places.batch", "new.map"], 3, r"line 2 of 'places.batch' is: \+ 105"),
     (["root", "windows.txt"], 3, r"line 2 of 'windows.txt' is: 8 0 0 0 0 -\\r\$"),
     (["build", "new.map", "tabs.txt"], 3, r"line 1 of 'tabs.txt' is: 7\\t0"),
@@ -271,6 +272,7 @@ def in_a_terminal(world: World) -> None:
     files = {"windows.txt": b"7 0 0 0 0 -\n8 0 0 0 0 -\r\n", "tabs.txt": b"7\t0 0 0 0 -\n", "late.batch": b"batch 2\n"}
     files["other.txt"], files["layer.txt"] = b"7 0 0 0 0 -\n", b"7 0 0 0 0 5 -\n"
     files["layers.txt"], files["places.proof"] = b"7 0 0 0 0 5 -\n8 0 0 0 0 64 -\n", b"MRVO\2"
+    files["layer.script"] = b"window:0,0,1,1\nwindow:0,0,1,1/0000000000000001\n"
     with open("places-window.proof", "rb") as file:
         files["cut.proof"] = file.read()[:100]
     for name, bytes_ in files.items():

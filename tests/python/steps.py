@@ -13,8 +13,9 @@ class No(Exception):
 class Steps:
     """A check of one string, with the numbers of the steps that it takes."""
 
-    def __init__(self, query: Tuple, string: bytes) -> None:
+    def __init__(self, query: plain.Query, string: bytes) -> None:
         self.query, self.string, self.at, self.kept = query, string, 0, []
+        self.version, self.radius = 1, None
 
     def take(self, size: int) -> bytes:
         """The next field."""
@@ -37,65 +38,88 @@ class Steps:
         self.demand(rect[0] <= rect[2] and rect[1] <= rect[3])
         return rect
 
-    def meets(self, rect: Tuple[int, ...]) -> bool:
+    def reaches(self, rect: Tuple[int, ...], mask: int) -> bool:
         """Step 4."""
-        if len(self.query) == 4:
-            return plain.overlap(self.query, rect)
-        return self.radius is None or plain.distance(self.query[0], rect) <= self.radius
+        is_met = plain.meets_of(self.query, self.radius)(rect)
+        return is_met and (self.version == 1 or mask & self.query.layers() != 0)
 
-    def item(self, level: int) -> bytes:
-        """Steps 7 to 10: the item's rectangle and digest, 48 bytes."""
-        start, tag = self.at, self.take(1)
+    def item(self, level: int) -> Tuple[bytes, Tuple[int, ...], int, int]:
+        """Steps 7 to 10: the item's digest, rectangle, mask and count."""
+        start, tag, told = self.at, self.take(1), self.version == 2
         if tag == b"P":
-            rect = self.rect()
-            self.demand(not self.meets(rect))
-            return struct.pack(">4i", *rect) + self.take(32)
+            rect, mask, count = self.rect(), self.number(8) if told else 0, self.number(8) if told else 0
+            self.demand(not self.reaches(rect, mask))
+            self.demand(not told or 1 <= count <= 2**20)
+            return self.take(32), rect, mask, count
         self.demand(tag == (b"N" if level else b"L"))
-        count = self.number(1)
-        self.demand(1 <= count <= (64 if level else 16))
+        entries = self.number(1)
+        self.demand(1 <= entries <= (64 if level else 16))
         if level:
-            parts = [self.item(level - 1) for _ in range(count)]
-            preimage, rects = b"N" + bytes([level, count]) + b"".join(parts), [part[:16] for part in parts]
-            around = plain.union([struct.unpack(">4i", rect) for rect in rects])
+            parts = [self.item(level - 1) for _ in range(entries)]
+            preimage = b"N" + bytes([level, entries]) + b"".join(map(self.entry, parts))
         else:
-            records = [self.record() for _ in range(count)]
-            preimage, around = self.string[start : self.at], plain.union([record[1] for record in records])
-            self.kept += [record for record in records if self.meets(record[1])]
-        self.demand(self.meets(around))
-        return struct.pack(">4i", *around) + hashlib.sha256(preimage).digest()
+            records = [self.record() for _ in range(entries)]
+            parts = [(b"", record.rect, 1 << record.layer, 1) for record in records]
+            preimage = self.string[start : self.at]
+            self.kept += [record for record, part in zip(records, parts) if self.reaches(*part[1:3])]
+        around, mask = plain.union([part[1] for part in parts]), 0
+        for part in parts:
+            mask |= part[2]
+        self.demand(self.reaches(around, mask))
+        return hashlib.sha256(preimage).digest(), around, mask, sum(part[3] for part in parts)
+
+    def entry(self, part: Tuple[bytes, Tuple[int, ...], int, int]) -> bytes:
+        """What the preimage of an inner node has of a child, by step 9."""
+        digest, rect, mask, count = part
+        return struct.pack(">4i", *rect) + (struct.pack(">QQ", mask, count) if self.version == 2 else b"") + digest
 
     def record(self) -> plain.Record:
         """One record of step 8."""
-        number, rect, length = self.number(8), self.rect(), self.number(1)
+        number, rect, layer = self.number(8), self.rect(), self.number(1) if self.version == 2 else 0
+        self.demand(layer <= 63)
+        length = self.number(1)
         self.demand(length <= 200)
-        return plain.Record(number, rect, self.take(length))
+        return plain.Record(number, rect, self.take(length), layer)
 
-    def check(self, root: str) -> List[Tuple]:
-        """Steps 1 to 14: the answer."""
-        is_window = len(self.query) == 4
-        self.demand(self.take(6) == b"MRVO\x01" + (b"W" if is_window else b"K"))
+    def head(self) -> Tuple[bytes, bytes]:
+        """Steps 1 to 3: the batch and the count."""
+        self.demand(self.take(4) == b"MRVO")
+        self.version = self.number(1)
+        self.demand(self.version == 2 or (self.version == 1 and self.query.mask is None))
+        self.demand(self.take(1) == (b"W" if self.query.is_window() else b"K"))
         batch, count = self.take(8), self.take(8)
         self.demand(int.from_bytes(count, "big") <= 2**20)
-        flag = 0 if is_window else self.number(1)
+        flag = 0 if self.query.is_window() else self.number(1)
         self.demand(flag <= 1)
         self.radius = self.number(16) if flag else None
         self.demand(not flag or self.radius <= 2 * (2**32 - 1) ** 2)
-        preimage = b"E\x01" + batch
-        if any(count):
+        return batch, count
+
+    def check(self, root: str) -> List[Tuple]:
+        """Steps 1 to 15: the answer."""
+        batch, count = self.head()
+        version, total = bytes([self.version]), int.from_bytes(count, "big")
+        preimage, tally = b"E" + version + batch, 0
+        if total:
             level = self.number(1)
             self.demand(level <= 7)
-            preimage = b"R\x01" + batch + count + bytes([level]) + self.item(level)
+            digest, rect, mask, tally = self.item(level)
+            named = struct.pack(">4i", *rect) + (struct.pack(">Q", mask) if self.version == 2 else b"")
+            preimage = b"R" + version + batch + count + bytes([level]) + named + digest
         self.demand(self.at == len(self.string))
         self.demand(hashlib.sha256(preimage).hexdigest() == root)
-        if is_window:
-            return sorted(self.kept, key=lambda record: record[0])
-        centre, k = self.query
-        nearer = [record for record in self.kept if not flag or plain.distance(centre, record[1]) < self.radius]
-        self.demand(len(nearer) < k and (not flag or len(self.kept) >= k))
-        return sorted(self.kept, key=lambda record: (plain.distance(centre, record[1]), record[0]))[:k]
+        if not self.query.is_window():
+            centre, k = self.query.shape
+            far = [plain.distance(centre, record.rect) for record in self.kept]
+            nearer = [one for one in far if self.radius is None or one < self.radius]
+            self.demand(len(nearer) < k and (self.radius is None or len(far) >= k))
+        self.demand(self.version == 1 or tally == total)
+        if self.query.is_window():
+            return sorted(self.kept, key=lambda record: record.number)
+        return sorted(self.kept, key=lambda record: (plain.distance(centre, record.rect), record.number))[:k]
 
 
-def answer(root: str, query: Tuple, string: bytes) -> Optional[List[Tuple]]:
+def answer(root: str, query: plain.Query, string: bytes) -> Optional[List[Tuple]]:
     """The answer that a string proves, None where it is refused."""
     try:
         return Steps(query, string).check(root)

@@ -136,14 +136,15 @@ def trip_holds(bench: Bench, chance: random.Random, size: int) -> None:
     lines = "".join(plain.line_of(record) + "\n" for record in sorted(meant))
     bench.holds(read("r").decode() == lines, "the record text of %d features" % size)
     root = bench.program(["build", "m", "r"])[1].decode().strip()
-    for query in [(-(10**9), -(10**9), 10**9, 10**9), (-(2**31), -(2**31), 2**31 - 1, 2**31 - 1), ((0, 0), 25)]:
+    for shape in [(-(10**9), -(10**9), 10**9, 10**9), (-(2**31), -(2**31), 2**31 - 1, 2**31 - 1), ((0, 0), 25)]:
+        query = plain.Query(shape)
         word = proofs.word_of(query)
         bench.program(["prove", "m", word, "p"])
         said = bench.call(records, ["answer", root, word, "p", "back.geojson", *options])
         bench.holds(said[0] == 0, "the answer to %s: %s" % (word, said))
         back = json.loads(read("back.geojson") or "{}", parse_float=Decimal, parse_int=Decimal).get("features")
         scan = plain.answer(meant, query)
-        bench.holds([decoded(one) for one in back] == (sorted(scan) if len(query) == 4 else scan), "back by " + word)
+        bench.holds([decoded(one) for one in back] == (sorted(scan) if query.is_window() else scan), "back by " + word)
 
 
 def decoded(feature: Dict[str, Any]) -> plain.Record:

@@ -33,6 +33,7 @@ def ways_hold(bench: Bench) -> None:
     queries_hold(bench)
     answers_hold(bench)
     bundles_hold(bench)
+    layers_hold(bench)
     shapes_hold(bench)
     pictures_hold(bench)
     outputs_hold(bench)
@@ -154,6 +155,39 @@ def bundles_hold(bench: Bench) -> None:
         bench.holds(is_so and read("o") == wrote, "the features of %s: %s" % (text, ended))
 
 
+def layers_hold(bench: Bench) -> None:
+    """Answers on a map of version 2 become features, with their layers where a property is named for them."""
+    write("r", b"1 1 1 1 1 0 -\n2 2 2 2 2 63 -\n3 3 3 3 3 63 -\n")
+    root = bench.program(["build2", "m", "r"])[1].decode().strip()
+    query = "window:0,0,2,2/8000000000000000"
+    bench.program(["prove", "m", query, "p"])
+    said = "1 record from 2 2 to 2 2"
+    named = ["--unit", "1", "--layer", "level"]
+    says(bench, ["answer", root, query, "p", "o", *named], 0, said + ", of a map of 3 at batch 0")
+    wrote, found = read("o"), [(one["id"], one["properties"]) for one in features("o")]
+    bench.holds(found == [(2, {"level": 63})], "the features of an answer with layers: %s" % found)
+    printed = bench.client(["check", root, query, "p"])
+    bench.holds(printed == (0, b"2 2 2 2 2 63 -\n"), "the lines of version 2: %s" % (printed,))
+    for front in (b"", b"sound\n"):
+        write("q", front + printed[1])
+        says(bench, ["features", "q", "o", *named], 0, said)
+        bench.holds(read("o") == wrote, "the features of printed lines with layers")
+    write("s", query.encode() + b"\nwindow:0,0,9,9\n")
+    bench.program(["serve", "m", "s", "u"])
+    says(bench, ["answers", root, "s", "u", "o", *named], 0, "3 records from 1 1 to 3 3")
+    found = [(one["id"], one["properties"]) for one in features("o")]
+    rows = ((1, 0, [2]), (2, 63, [1, 2]), (3, 63, [2]))
+    meant = [(number, {"level": layer, "queries": queries}) for number, layer, queries in rows]
+    bench.holds(found == meant, "the features of a bundle with layers: %s" % found)
+    picture = bench.call(draw, [root, query, "p", "d.svg"])
+    bench.holds(picture[0] == 0, "the picture of an answer with layers: %s" % (picture,))
+    told = "--number, --payload and --layer name different properties, and none of them queries"
+    for words in (["--payload", "level"], ["--number", "level"], ["--payload", "queries"]):
+        says(bench, ["answer", root, query, "p", "o", *named, *words], 1, told)
+    said_no = "r: line 1: it is no record line"
+    says(bench, ["text", "r", "t"], 1, said_no)
+
+
 def left_out(lines: List[bytes]) -> List[List[bytes]]:
     """Some lines, with each of them left out."""
     return [lines[:at] + lines[at + 1 :] for at in range(len(lines))]
@@ -259,7 +293,7 @@ def outputs_hold(bench: Bench) -> None:
     is_so = ended[0] == 0 and os.listdir(b".").count(odd[1]) == 1
     bench.holds(is_so, "names that are not UTF-8: %s" % (ended,))
     ended = bench.told("records.py", ["features", "a.txt", "o", "--unit", "1", "--payload", b"\xff"])
-    bench.holds(ended == (1, b"records.py: what --number and --payload name is not UTF-8\n"), "%s" % (ended,))
+    bench.holds(ended == (1, b"records.py: what --number, --payload and --layer name is not UTF-8\n"), "%s" % (ended,))
     if os.access("/dev/full", os.W_OK):
         with open("/dev/full", "wb") as full:
             call = [sys.executable, os.path.join(CLIENTS, "records.py"), "text", "a.txt", "-"]

@@ -2,6 +2,7 @@
 
 tests/web calls it: web.py short|long PROGRAM. Strings are proofs and bundles at random, honest and bent.
 """
+import itertools
 import json
 import os
 import random
@@ -49,18 +50,22 @@ class Three(Bench):
 
 
 def random_proofs(bench: Three) -> None:
-    """Maps of up to 20,000 records; honest proofs, other strings, bundles: of the largest map a tenth as many."""
+    """Maps of up to 20,000 records, of each size one of each version; honest proofs, other strings, bundles.
+
+    Of the largest maps there are a tenth as many.
+    """
     sizes = [0, 1, 5, 17, 100, 300, 700, 2000, 5000, 20000] if bench.is_long else [0, 1, 17, 300, 2000]
     honest, bent = LONG if bench.is_long else SHORT
     chance = random.Random(1639)
-    for at, size in enumerate(sizes):
-        one = chances.Map(bench, chance, size, is_changed=at % 4 == 3)
-        share = len(sizes) * (10 if size > 5000 else 1)
+    for at, (size, version) in enumerate(itertools.product(sizes, (1, 2))):
+        one = chances.Map(bench, chance, size, is_changed=at // 2 % 4 == 3, version=version)
+        share = 2 * len(sizes) * (10 if size > 5000 else 1)
         asked = [one.query() for _ in range(honest // share)]
         given = [(query, chances.proved(bench, one, query)) for query in asked]
         chances.bent_agree(bench, one, given, bent // share)
         chances.bundles_agree(bench, one, given, honest // share // 8)
-        print("tests/web: %d records: %d rows, %d failed" % (size, bench.rows, bench.failed), flush=True)
+        counts = size, version, bench.rows, bench.failed
+        print("tests/web: %d records in version %d: %d rows, %d failed" % counts, flush=True)
     counts = bench.honest, bench.bent, bench.bundles
     print("tests/web: %d honest proofs, %d other strings, %d bundles" % counts)
     bench.holds(bench.honest + bench.bent >= (20000 if bench.is_long else 2000), "too few strings")

@@ -1,15 +1,16 @@
 -- Workloads that are made up: records and queries of the words of SplitMix64 (Steele, Lea and
 -- Flood 2014), whose state at the start is the start number.
-use Rattle.std.specs.Prelude.{ℕ, ◌/◌, ◌%◌, ◌^◌, ℤ, pos, ◌+ℤ◌, ◌-ℤ◌, ◌==◌, if◌then◌else◌, List, map}
+use Rattle.std.specs.Prelude.{ℕ, ◌/◌, ◌%◌, ◌^◌, ℤ, pos, ◌+ℤ◌, ◌-ℤ◌, ◌==◌, if◌then◌else◌, List, map, None}
 use Rattle.std.specs.List.{enumerate_from}
 use Rattle.std.specs.Int.{w64, to_be_bytes}
 use Rattle.rand_core.specs.Steps.{first_words}
 use Rattle.rand_xoshiro.specs.SplitMix64.{mix_u64}
 use Rattle.mr_geom.specs.Rectangle.{Rectangle}
 use Rattle.mr_record.specs.declared.record.Record.{Record}
-use Rattle.mr_query.specs.Word.{point_at}
+use Rattle.mr_query.specs.Word.{point_at, asks}
 use Rattle.mr_query.specs.declared.query.Query.{Query}
-use Rattle.mr_query.specs.declared.query.Query.TheVariants.{Window, Nearest}
+use Rattle.mr_query.specs.declared.query.Shape.{Shape}
+use Rattle.mr_query.specs.declared.query.Shape.TheVariants.{Window, Nearest}
 
 -- the next words, of 64 bits each, from a state on
 unfoldable pub words : (count state : ℕ) → List ℕ
@@ -71,12 +72,16 @@ neighbours = 10
 
 -- a window at each even place, the nearest records at each odd one; x by the upper half of the
 -- word, y by the lower half
-unfoldable pub query_of_word : (place word : ℕ) → Query
-query_of_word place word =
+unfoldable pub shape_of_word : (place word : ℕ) → Shape
+shape_of_word place word =
     if place % 2 == 0
     then Window (rectangle_from (coordinate (upper word)) (coordinate (lower word)) window_side
     window_side)
     else Nearest (point_at (coordinate (upper word)) (coordinate (lower word))) neighbours
+
+-- on all layers
+abbrev pub query_of_word : (place word : ℕ) → Query
+query_of_word place word = asks (shape_of_word place word) None
 
 -- `n` queries, at the places from 0 on
 unfoldable pub generated_queries : (n start : ℕ) → List Query

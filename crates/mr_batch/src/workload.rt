@@ -5,11 +5,11 @@ ghost use Rattle.std.specs.Prelude.{◌≡◌, ℕ, ◌+◌, ◌^◌, ◌≤◌,
 ghost use Rattle.mr_record.specs.Record.{IsRecord};
 ghost use Rattle.mr_record.specs.RecordText.{IsRecordList};
 ghost use Rattle.mr_record.specs.declared.version.Version.TheVariants.{One};
-ghost use Rattle.mr_query.specs.Word.{IsAskable};
-ghost use Rattle.mr_batch.specs.Workload.{words, upper, lower, coordinate, rectangle_from, extent, rectangle_of_word, record_of_word, generated, query_of_word, generated_queries};
+ghost use Rattle.mr_query.specs.Word.{IsCounted, IsAskable};
+ghost use Rattle.mr_batch.specs.Workload.{words, upper, lower, coordinate, rectangle_from, extent, rectangle_of_word, record_of_word, generated, shape_of_word, query_of_word, generated_queries};
 
 use mr_geom::{Point, Rect};
-use mr_query::Query;
+use mr_query::{Query, Shape};
 use mr_record::{Payload, Record, is_record};
 use rand_core::SeedableRng;
 use rand_core::utils::NextWord;
@@ -124,18 +124,18 @@ pub fn generate(alloc: Global, n: u32, start: u64) -> Result<Vec<Record>, AllocE
     Ok(records)
 }
 
-// The query of a place and a word.
-#[tactic(auto, unfolding(crate::specs::Workload::query_of_word))]
-fn query_of(place: u32, word: u64) -> Query
-    ensures value { result ≡ query_of_word place word }
-    ensures askable { IsAskable result }
+// What is asked at a place by a word.
+#[tactic(auto, unfolding(crate::specs::Workload::shape_of_word))]
+fn shape_of(place: u32, word: u64) -> Shape
+    ensures value { result ≡ shape_of_word place word }
+    ensures counted { IsCounted result }
 {
     let x = coordinate(upper(word));
     let y = coordinate(lower(word));
     if place % 2 == 0 {
-        Query::Window(rectangle_from(x, y, WINDOW_SIDE, WINDOW_SIDE))
+        Shape::Window(rectangle_from(x, y, WINDOW_SIDE, WINDOW_SIDE))
     } else {
-        Query::Nearest {
+        Shape::Nearest {
             center: Point { x, y },
             k: NEIGHBOURS,
         }
@@ -144,8 +144,8 @@ fn query_of(place: u32, word: u64) -> Query
 
 /// `n` queries, each of one word of SplitMix64 whose state begins as `start`: the first, and each
 /// second one after it, is a square window of 20,000 map units a side, the others ask for the 10
-/// nearest records. The upper half of the word gives x, the lower half y, both within 1,000,000
-/// map units of 0. The only error is want of memory.
+/// nearest records, and all of them are of all layers. The upper half of the word gives x, the
+/// lower half y, both within 1,000,000 map units of 0. The only error is want of memory.
 pub fn generate_queries(alloc: Global, n: u32, start: u64) -> Result<Vec<Query>, AllocError>
     requires { n ≤ 65536 }
     ensures exact { IfOk result (λ v. v.items ≡ generated_queries n start) }
@@ -156,7 +156,7 @@ pub fn generate_queries(alloc: Global, n: u32, start: u64) -> Result<Vec<Query>,
     let mut generator = SplitMix64::seed_from_u64(start);
     for place in 0..n {
         let word = next_word(&mut generator);
-        queries.push_reserved(query_of(place, word));
+        queries.push_reserved(Query::of(shape_of(place, word)));
     }
     Ok(queries)
 }

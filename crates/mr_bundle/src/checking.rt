@@ -6,7 +6,7 @@ ghost use Rattle.mr_bundle.specs.Bundle.{LiesIn};
 ghost use Rattle.mr_bundle.specs.Verdicts.{asked, judged, number_in, asked_values, verdicts};
 
 use crate::{Part, Verdict};
-use mr_check::{CheckErr, check};
+use mr_check::{CheckErr, check, proof_version};
 use mr_fork_join::{Work, in_halves};
 use mr_outside::{Gate, Items};
 use mr_query::Query;
@@ -33,7 +33,7 @@ fn verdict_on<H: Hashes>(
     ensures { IfOk result (λ v. v ≡ judged H.of root.now (query.now, proof.now)) }
 {
     match check::<H>(alloc, root, query, proof) {
-        Ok(answer) => Ok(Verdict::Accepted(Items::of(answer))),
+        Ok(answer) => Ok(Verdict::Accepted(proof_version(proof), Items::of(answer))),
         Err(CheckErr::Fault(fault)) => Ok(Verdict::Refused(fault)),
         Err(CheckErr::NoMemory) => Err(AllocError),
     }
@@ -67,7 +67,7 @@ impl<'a, H: Hash32> Work for Checking<'a, H> {
         ensures { result ≡ number_in found.now }
     {
         match found {
-            Verdict::Accepted(answer) => answer.as_slice().len() as u64,
+            Verdict::Accepted(_, answer) => answer.as_slice().len() as u64,
             Verdict::Refused(fault) => fault.at,
         }
     }

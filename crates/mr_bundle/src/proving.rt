@@ -4,10 +4,11 @@ ghost use Rattle.std.specs.Prelude.{◌≡◌, ◌≤◌, ◌<◌, ◌^◌, ◌+
 ghost use Rattle.mr_tree.specs.Digest.{by};
 ghost use Rattle.mr_tree.specs.Nodes.{HasSomeCause, TellsRefusal};
 ghost use Rattle.mr_query.specs.Word.{IsAskable};
+ghost use Rattle.mr_proof.specs.Tight.{MayCome, question};
 ghost use Rattle.mr_proof.specs.Honest.{proof as honest_proof, opened};
 ghost use Rattle.mr_prove.specs.Causes.{rounds};
 ghost use Rattle.mr_bundle.specs.Bundle.{IsShort};
-ghost use Rattle.mr_bundle.specs.Proofs.{proof_in, as_given, IsLastRefusal};
+ghost use Rattle.mr_bundle.specs.Proofs.{HasProofs, proof_in, as_given, IsLastRefusal};
 
 use crate::Text;
 use mr_fork_join::{Work, in_halves};
@@ -22,13 +23,15 @@ use std::thread::Threads;
 /// The bytes of a proof.
 pub type Proof = Items<u8>;
 
-/// The proof for a query on the map of these nodes, or why one of them was not fetched.
+/// The proof for a query on the map of these nodes, or why one of them was not fetched. A query
+/// with a mask needs a map of version 2.
 pub fn proof_of_nodes<N: Nodes>(
     alloc: Global,
     nodes: &mut N,
     query: &Query,
 ) -> Result<Text, NodesErr>
-    requires { IsAskable query.now }
+    requires askable { IsAskable query.now }
+    requires may_come { MayCome (question query.now) (N.stands nodes.old).version }
     ensures kept { N.kept nodes.old nodes.new }
     ensures written { IfSome (N.stands nodes.old).tree (λ t. IfOk result (λ text. text.bytes.items
         ≡ honest_proof (by (N.stands nodes.old).version N.Hash.of) t (N.stands nodes.old).batch
@@ -58,7 +61,8 @@ fn proof_on<H: Hashes>(
     nodes: &Snapshot<H>,
     query: &Query,
 ) -> Result<Proof, AllocError>
-    requires { IsAskable query.now }
+    requires askable { IsAskable query.now }
+    requires may_come { MayCome (question query.now) nodes.now.top.version }
     ensures { IfOk result (λ p. p ≡ proof_in H.of nodes.now.nodes.items nodes.now.top query.now) }
 {
     match proof_of_nodes(alloc, &mut nodes.reader(), query) {
@@ -98,7 +102,7 @@ impl<'a, H: Hash32> Work for Proving<'a, H> {
 
     type Found = Proof;
 
-    ghost may = { λ w q. IsAskable q };
+    ghost may = { λ w q. IsAskable q × MayCome (question q) w.nodes.now.top.version };
 
     ghost gives = { λ w q. proof_in H.of w.nodes.now.nodes.items w.nodes.now.top q };
 
@@ -115,10 +119,11 @@ impl<'a, H: Hash32> Work for Proving<'a, H> {
     }
 }
 
-/// The honest proofs for some queries on one map, in the order of the queries. The queries are
-/// proved in joined halves, as `in_halves` says; whoever proves query `i` passes `gate.enter(i)`
-/// before it, and `gate.leave(i, length)` behind it, with the length of the proof. It refuses for
-/// want of memory alone.
+/// The honest proofs for some queries on one map, in the order of the queries. Where one of them
+/// has a mask the map has to be of version 2. The queries are proved in joined halves, as
+/// `in_halves` says; whoever proves query `i` passes `gate.enter(i)` before it, and
+/// `gate.leave(i, length)` behind it, with the length of the proof. It refuses for want of memory
+/// alone.
 pub fn prove_all<H: Hash32, G: Gate, R: Threads + Sync>(
     rt: &R,
     alloc: Global,
@@ -126,7 +131,8 @@ pub fn prove_all<H: Hash32, G: Gate, R: Threads + Sync>(
     queries: &[Query],
     gate: &G,
 ) -> Result<Vec<Proof>, AllocError>
-    requires { All IsAskable queries.now }
+    requires askable { All IsAskable queries.now }
+    requires may_come { HasProofs nodes.now.top.version queries.now }
     ensures exact { IfOk result (λ v. v.items
         ≡ map (proof_in H.of nodes.now.nodes.items nodes.now.top) queries.now) }
     // Four bytes say the length of each.

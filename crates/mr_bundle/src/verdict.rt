@@ -2,7 +2,7 @@
 
 use mr_outside::Items;
 use mr_proof::Fault;
-use mr_record::Record;
+use mr_record::{Record, Version};
 
 /// The records that a proof proves to be the answer to a query, as `check` orders them.
 pub type Answer = Items<Record>;
@@ -10,8 +10,8 @@ pub type Answer = Items<Record>;
 /// The verdict on a part of a bundle.
 #[derive(Drop)]
 pub enum Verdict {
-    /// The proof is accepted, with this answer.
-    Accepted(Answer),
+    /// The proof, of this version, is accepted, with this answer.
+    Accepted(Version, Answer),
     /// It breaks this rule first.
     Refused(Fault),
 }

@@ -5,12 +5,11 @@ use Rattle.mr_geom.specs.declared.point.Point.{Point}
 use Rattle.mr_record.specs.declared.record.Record.{Record}
 use Rattle.mr_query.specs.Nearest.{nearer_than, not_farther_than}
 use Rattle.mr_proof.specs.declared.question.Around.{Around}
-use Rattle.mr_proof.specs.Refused.{has_other_radius}
 use Rattle.mr_check.specs.declared.radius_counts.RadiusCounts.{RadiusCounts}
-use Rattle.mr_check.specs.private.Counting.{CountsRecords}
+use Rattle.mr_check.specs.private.Counting.{CountsRecords, other_radius}
 
-abbrev pub near : Point → ℕ → Around
-near p k = record { center = p; k = k }
+abbrev pub near : Point → (k layers : ℕ) → Around
+near p k l = record { center = p; k = k; layers = l }
 
 same_less : (a b k : ℕ) → k ≤ 2 ^ 16 → a ≡ min b (2 ^ 64 - 1) → ltb a k ≡ ltb b k
 same_less a b k few e = elim (cases_Bool (ltb b k)) [
@@ -24,19 +23,19 @@ first_of_two a b e = rw e refl
 second_of_two : (a b : Bool) → a ≡ false → (a || b) ≡ b
 second_of_two a b e = rw e refl
 
-pub enough_nearer : (p : Point) (k n : ℕ) (rs : List Record) (t : RadiusCounts) → k < 2 ^ 16
-    → CountsRecords (Some (near p k)) (Some n) rs t → k ≤ t.nearer
-    → leb k t.nearer ≡ has_other_radius (Some (near p k)) (Some n) rs
-enough_nearer p k n rs t few c more =
+pub enough_nearer : (p : Point) (k l n : ℕ) (rs : List Record) (t : RadiusCounts) → k < 2 ^ 16
+    → CountsRecords (Some (near p k l)) (Some n) rs t → k ≤ t.nearer
+    → leb k t.nearer ≡ other_radius (Some (near p k l)) (Some n) rs
+enough_nearer p k l n rs t few c more =
     let one : k ≤ nearer_than p n rs = omega (arith, c.nearer) in
     le-leb k t.nearer more
     ∙ sym (first_of_two (leb k (nearer_than p n rs)) (ltb (not_farther_than p n rs) k)
     (le-leb k (nearer_than p n rs) one))
 
-pub few_nearer : (p : Point) (k n : ℕ) (rs : List Record) (t : RadiusCounts) → k < 2 ^ 16
-    → CountsRecords (Some (near p k)) (Some n) rs t → t.nearer < k
-    → ltb t.within k ≡ has_other_radius (Some (near p k)) (Some n) rs
-few_nearer p k n rs t few c less =
+pub few_nearer : (p : Point) (k l n : ℕ) (rs : List Record) (t : RadiusCounts) → k < 2 ^ 16
+    → CountsRecords (Some (near p k l)) (Some n) rs t → t.nearer < k
+    → ltb t.within k ≡ other_radius (Some (near p k l)) (Some n) rs
+few_nearer p k l n rs t few c less =
     let one : nearer_than p n rs < k = omega (arith, c.nearer) in
     same_less t.within (not_farther_than p n rs) k (omega arith) c.within
     ∙ sym (second_of_two (leb k (nearer_than p n rs)) (ltb (not_farther_than p n rs) k)

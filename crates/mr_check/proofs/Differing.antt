@@ -15,8 +15,9 @@ use Rattle.mr_geom.specs.Plane.{touches}
 use Rattle.mr_geom.specs.Rectangle.{Rectangle}
 use Rattle.mr_record.specs.declared.record.Record.{Record}
 use Rattle.mr_record.proofs.Sorting.{same_sorted, sorted_rises, sorted_keeps}
-use Rattle.mr_query.specs.Scan.{by_number, scan}
-use Rattle.mr_query.specs.declared.query.Query.TheVariants.{Window}
+use Rattle.mr_query.specs.Layers.{is_on}
+use Rattle.mr_query.specs.Scan.{by_number, on_layers, scan_shape}
+use Rattle.mr_query.specs.declared.query.Shape.TheVariants.{Window}
 use Rattle.mr_check.specs.private.Differing.{rise, rise_after, numbers_of, EachOnce}
 
 first_of_both : (a b : Bool) → (a && b) ≡ true → a ≡ true
@@ -224,7 +225,11 @@ same_order p xs ys mixed once =
     (λ x. sorted_keeps lower lower_order x (filter p ys) ∙ alike p xs ys mixed once x
     ∙ sym (sorted_keeps lower lower_order x (filter p xs)))
 
-pub one_answer : (w : Rectangle) (xs ys : List Record) → IsPermutation xs ys → EachOnce xs
-    → scan ys (Window w) ≡ scan xs (Window w)
-unfolding scan
-one_answer w xs ys mixed once = same_order (λ r. touches w r.rect) xs ys mixed once
+pub one_answer : (w : Rectangle) (layers : ℕ) (xs ys : List Record) → IsPermutation xs ys → EachOnce xs
+    → scan_shape (on_layers layers ys) (Window w) ≡ scan_shape (on_layers layers xs) (Window w)
+unfolding scan_shape
+one_answer w layers xs ys mixed once =
+    let meets = λ (r : Record). touches w r.rect in
+    ap by_number (both_tests meets (is_on layers) ys)
+    ∙ same_order (λ r. is_on layers r && meets r) xs ys mixed once
+    ∙ ap by_number (sym (both_tests meets (is_on layers) xs))

@@ -1,9 +1,13 @@
 -- From where reading stops to the verdict.
-use Rattle.std.proofs.Common.{◌≡◌, ◌≢◌, ℕ, ◌+◌, ◌<◌, Bool, true, false, cond, ltb, List, [], ◌++◌, length, take, reverse, Result, Ok, Err, Option, Some, None, refl, sym, ap, subst, ◌∙◌, inl, inr, arith}
-use Rattle.std.specs.Prelude.{not, bytes_eq, filter}
+use Rattle.std.proofs.Common.{◌≡◌, ◌≢◌, ℕ, ◌+◌, ◌<◌, Bool, true, false, cond, ltb, List, [], ◌∷◌, ◌++◌, length, take, reverse, Result, Ok, Err, Option, Some, None, refl, sym, ap, subst, ◌∙◌, inl, inr, arith}
+use Rattle.std.specs.Prelude.{not, ◌&&◌, bytes_eq, filter}
 use Rattle.std.proofs.lemmas.Bool.{cases_Bool, le-ltb}
 use Rattle.mr_record.specs.declared.record.Record.{Record}
-use Rattle.mr_query.specs.Scan.{scan}
+use Rattle.mr_query.specs.declared.key.Key.{Key}
+use Rattle.mr_query.specs.Layers.{is_on}
+use Rattle.mr_query.specs.Nearest.{is_within}
+use Rattle.mr_query.specs.Region.{record_key}
+use Rattle.mr_query.specs.Scan.{on_layers, scan}
 use Rattle.mr_query.specs.Word.{IsQuery}
 use Rattle.mr_query.specs.declared.query.Query.{Query}
 use Rattle.mr_proof.specs.declared.head.Head.{Head}
@@ -14,21 +18,24 @@ use Rattle.mr_proof.specs.declared.want.Want.{Want}
 use Rattle.mr_proof.specs.declared.want.Want.TheVariants as want
 use Rattle.mr_proof.specs.Cut.{Cut}
 use Rattle.mr_proof.specs.Spelling.{Parsed, said, opened_records}
-use Rattle.mr_proof.specs.Tight.{Question, IsLawful, around_of, question}
+use Rattle.mr_proof.specs.declared.question.Around.{Around}
+use Rattle.mr_proof.specs.declared.way.Way.{Way}
+use Rattle.mr_proof.specs.Tight.{Question, IsCircle, IsLawful, is_kept, keeps_record, around_of, question}
 use Rattle.mr_proof.specs.Accepted.{root_found}
 use Rattle.mr_proof.specs.Grammar.{Grammar, whole}
 use Rattle.mr_proof.specs.Layout.{fault, Cursor, field_at}
-use Rattle.mr_proof.specs.Refused.{has_other_radius}
+use Rattle.mr_proof.specs.Refused.{is_other_radius, has_other_radius, is_other_count, has_other_count}
 use Rattle.mr_proof.specs.Reading.{ending, checked, verdict}
 use Rattle.mr_proof.specs.Halves.{IsSettled}
-use Rattle.mr_proof.proofs.Laws.{other_asked, scan_asked, radius_stands, is_lawful}
+use Rattle.mr_proof.proofs.Laws.{kept_if, other_asked, scan_asked, radius_stands, is_lawful}
 use Rattle.mr_proof.proofs.Soundness.{shows_from}
 use Rattle.mr_record.proofs.Encodings.{IsBytes}
 use Rattle.mr_proof.proofs.Values.{same_bytes, bytes_same}
 use Rattle.mr_check.specs.declared.frame.Frame.{Frame}
 use Rattle.mr_check.specs.declared.frame.Stack.{Stack}
 use Rattle.mr_tree.specs.declared.entry.Entry.{Entry}
-use Rattle.mr_check.specs.declared.open_node.OpenNode.{OpenNode}
+use Rattle.mr_record.specs.declared.version.Version.TheVariants.{One}
+use Rattle.mr_tree.specs.declared.node_hasher.NodeHasher.{NodeHasher}
 use Rattle.mr_check.specs.declared.stage.HeadField.TheVariants as field
 use Rattle.mr_check.specs.declared.stage.Stage.{Stage}
 use Rattle.mr_check.specs.declared.stage.Stage.TheVariants as stage
@@ -42,7 +49,7 @@ use Rattle.mr_check.specs.declared.outline.Outline.{Outline}
 use Rattle.mr_check.specs.Judged.{EndsAs}
 use Rattle.mr_check.specs.Answers.{taken_of, FeedsPiece}
 use Rattle.mr_check.specs.private.Stages.{head_want, want_at, room_in}
-use Rattle.mr_check.specs.private.Counting.{no_counts}
+use Rattle.mr_check.specs.private.Counting.{no_counts, other_radius}
 use Rattle.mr_check.specs.private.Machine.{is_handed_out, IsOpen, AtEnd}
 use Rattle.mr_check.specs.private.Reads.{want_of, StandsAt, StandsBy, FedBy, FaultFed, found_at, EndsAt}
 use Rattle.mr_check.proofs.Stopping.{ends_at, checked_stop, fault_settled}
@@ -73,12 +80,15 @@ final hash root q s piece f e quiet = record {
 -- ---- no fault so far
 
 -- the ending of bytes that reach the last field and end there
-ends_unsettled : (c d : Bool) (w r f : Fault) (x : Parsed) → (IsSettled w.rule → ⊥) → (IsSettled r.rule → ⊥)
-    → cond (not c) (Err w) (cond d (Err r) (Ok x)) ≡ Err f → IsSettled f.rule → ⊥
-ends_unsettled true true w r f x no_w no_r e settled =
+ends_unsettled : (c d b : Bool) (w r t f : Fault) (x : Parsed) → (IsSettled w.rule → ⊥) → (IsSettled r.rule → ⊥)
+    → (IsSettled t.rule → ⊥)
+    → cond (not c) (Err w) (cond d (Err r) (cond b (Err t) (Ok x))) ≡ Err f → IsSettled f.rule → ⊥
+ends_unsettled true true b w r t f x no_w no_r no_t e settled =
     no_r (subst (λ (h : Fault). IsSettled h.rule) (sym (same_fault r f e)) settled)
-ends_unsettled true false w r f x no_w no_r e settled = absurd cc
-ends_unsettled false d w r f x no_w no_r e settled =
+ends_unsettled true false true w r t f x no_w no_r no_t e settled =
+    no_t (subst (λ (h : Fault). IsSettled h.rule) (sym (same_fault t f e)) settled)
+ends_unsettled true false false w r t f x no_w no_r no_t e settled = absurd cc
+ends_unsettled false d b w r t f x no_w no_r no_t e settled =
     no_w (subst (λ (h : Fault). IsSettled h.rule) (sym (same_fault w f e)) settled)
 
 ending_unsettled : (hash : List ℕ → List ℕ) (root : List ℕ) (q : Question) (x : Parsed) (s : Cursor) (f : Fault)
@@ -87,9 +97,10 @@ unfolding ending
 ending_unsettled hash root q x s f none e settled =
     let nothing : ltb 0 (length s.rest) ≡ false = le-ltb 0 (length s.rest) (omega arith) in
     ends_unsettled (bytes_eq (root_found hash x.head x.part) root)
-    (has_other_radius q.around x.head.radius (opened_records x.part))
+    (has_other_radius q.around x.head.radius (opened_records x.part)) (has_other_count x)
     (fault (rule.WrongRoot (root_found hash x.head x.part)) (s.at + length s.rest))
-    (fault rule.WrongRadius (s.at + length s.rest)) f x (λ h. h) (λ h. h) (rw nothing at e) settled
+    (fault rule.WrongRadius (s.at + length s.rest)) (fault rule.WrongTally (s.at + length s.rest)) f x (λ h. h) (λ h. h)
+    (λ h. h) (rw nothing at e) settled
 
 checked_waits : (hash : List ℕ → List ℕ) (root : List ℕ) (q : Question) (bytes : List ℕ) (g : Grammar Parsed)
     (t : Cursor)
@@ -155,11 +166,11 @@ fault_final hash holds root q r s piece z f is b =
 
 -- ---- nothing fed
 
-abbrev fresh : {H : Type 0} → Question → Stack (Frame H) → OpenNode H → Record → Reader H
+abbrev fresh : {H : Type 0} → Question → Stack (Frame H) → NodeHasher H → Record → Reader H
 fresh q s x one = record {
   machine = record {
-    head = record { kind = q.kind; batch = 0; count = 0; radius = None; level = 0 };
-    stage = stage.Head field.Magic;
+    head = record { version = One; kind = q.kind; batch = 0; count = 0; radius = None; level = 0 };
+    stage = stage.Head (field.Magic q.two_only);
     frames = s;
     leaf = record { node = x; left = 0 };
     tally = no_counts;
@@ -176,10 +187,10 @@ none_out q = refl
 
 pub fresh_stands : {H : Type 0} (hash : List ℕ → List ℕ) (holds : H → List ℕ → Type 0) (q : Question)
     (s : Stack (Frame H))
-    (x : OpenNode H) (one : Record) → s.list.items ≡ [] → StandsAt hash holds q (fresh q s x one) []
+    (x : NodeHasher H) (one : Record) → s.list.items ≡ [] → StandsAt hash holds q (fresh q s x one) []
 unfolding stop_of
 fresh_stands hash holds q s x one none = record {
-  next = whole q.kind q.way;
+  next = whole q.kind q.two_only q.way;
   last = 0;
   stops = refl;
   waits = record {
@@ -258,22 +269,70 @@ ends_wrong_radius hash root q x s none same wrong =
     same in
     rw (nothing, right, wrong) refl
 
-ends_well : (hash : List ℕ → List ℕ) (root : List ℕ) (q : Question) (x : Parsed) (s : Cursor)
+ends_wrong_tally : (hash : List ℕ → List ℕ) (root : List ℕ) (q : Question) (x : Parsed) (s : Cursor)
     → length s.rest ≡ 0 → root_found hash x.head x.part ≡ root
-    → has_other_radius q.around x.head.radius (opened_records x.part) ≡ false → ending hash root q x s ≡ Ok x
+    → has_other_radius q.around x.head.radius (opened_records x.part) ≡ false → has_other_count x ≡ true
+    → ending hash root q x s ≡ Err (fault rule.WrongTally (s.at + length s.rest))
 unfolding ending
-ends_well hash root q x s none same right =
+ends_wrong_tally hash root q x s none same right wrong =
     let nothing : ltb 0 (length s.rest) ≡ false = le-ltb 0 (length s.rest) (omega arith) in
     let held : bytes_eq (root_found hash x.head x.part) root ≡ true = bytes_same (root_found hash x.head x.part) root
     same in
-    rw (nothing, held, right) refl
+    rw (nothing, held, right, wrong) refl
+
+ends_well : (hash : List ℕ → List ℕ) (root : List ℕ) (q : Question) (x : Parsed) (s : Cursor)
+    → length s.rest ≡ 0 → root_found hash x.head x.part ≡ root
+    → has_other_radius q.around x.head.radius (opened_records x.part) ≡ false → has_other_count x ≡ false
+    → ending hash root q x s ≡ Ok x
+unfolding ending
+ends_well hash root q x s none same right counted =
+    let nothing : ltb 0 (length s.rest) ≡ false = le-ltb 0 (length s.rest) (omega arith) in
+    let held : bytes_eq (root_found hash x.head x.part) root ≡ true = bytes_same (root_found hash x.head x.part) root
+    same in
+    rw (nothing, held, right, counted) refl
+
+-- where heads have a radius, the records that are handed out are on the layers that it is of
+second_of_both : (a b : Bool) → (a && b) ≡ true → b ≡ true
+second_of_both true b e = e
+second_of_both false b e = cc
+
+kept_on : (x : Around) (way : Option ℕ → Key → Way) → IsCircle (Some x) way → (radius : Option ℕ) (r : Record)
+    → keeps_record (way radius) r ≡ true → is_on x.layers r ≡ true
+kept_on x way law radius r kept =
+    second_of_both (is_within x.center radius r.rect) (is_on x.layers r)
+    (sym (kept_if (is_within x.center radius r.rect && is_on x.layers r))
+    ∙ sym (ap is_kept (law radius (record_key r))) ∙ kept)
+
+all_on : (x : Around) (way : Option ℕ → Key → Way) → IsCircle (Some x) way → (radius : Option ℕ) (rs : List Record)
+    → on_layers x.layers (filter (keeps_record (way radius)) rs) ≡ filter (keeps_record (way radius)) rs
+all_on x way law radius [] = refl
+all_on x way law radius (r ∷ rs) = at (all_on x way law radius rs) (keeps_record (way radius) r) refl
+  where
+    kept : List Record
+    kept = filter (keeps_record (way radius)) rs
+
+    at : on_layers x.layers kept ≡ kept → (b : Bool) → keeps_record (way radius) r ≡ b
+        → on_layers x.layers (cond b (r ∷ kept) kept) ≡ cond b (r ∷ kept) kept
+    at rest true e =
+        ap (λ (b : Bool). cond b (r ∷ on_layers x.layers kept) (on_layers x.layers kept)) (kept_on x way law radius r e)
+        ∙ ap (λ (ts : List Record). r ∷ ts) rest
+    at rest false e = rest
+
+other_handed : (x : Option Around) (way : Option ℕ → Key → Way) → IsCircle x way → (radius : Option ℕ)
+    (rs : List Record)
+    → other_radius x radius (filter (keeps_record (way radius)) rs)
+    ≡ has_other_radius x radius (filter (keeps_record (way radius)) rs)
+other_handed None way law radius rs = refl
+other_handed (Some x) way law radius rs = ap (is_other_radius x radius) (sym (all_on x way law radius rs))
 
 -- of the records that were handed out, and of all that are opened, the radius is another or not alike
 other_alike : (q : Question) (h : Head) (given : List Record) (part : Option Cut) → IsLawful q
     → given ≡ filter (is_handed_out q h) (opened_records part)
-    → has_other_radius q.around h.radius given ≡ has_other_radius q.around h.radius (opened_records part)
+    → other_radius q.around h.radius given ≡ has_other_radius q.around h.radius (opened_records part)
 other_alike q h given part law kept =
-    ap (has_other_radius q.around h.radius) kept ∙ other_asked q h.radius (opened_records part) law
+    ap (other_radius q.around h.radius) kept
+    ∙ other_handed q.around q.way law.circle h.radius (opened_records part)
+    ∙ other_asked q h.radius (opened_records part) law
 
 pub end_last : {H : Type 0} (hash : List ℕ → List ℕ) (holds : H → List ℕ → Type 0) (root : List ℕ) (q : Question)
     (r : Reader H) (node : Entry) (bytes : List ℕ) (result : Result Outline Fault) → r.machine.stage ≡ stage.End node
@@ -286,14 +345,15 @@ end_last hash holds root q r node bytes (Ok o) is short law ends at =
     let given_right = ends.1 (handed_out q bytes) z.at_end.tally in
     let right : has_other_radius q.around h.radius (opened_records z.part) ≡ false =
     sym (other_alike q h (handed_out q bytes) z.part law z.at_end.kept) ∙ given_right in
+    let counted : is_other_count h z.part ≡ false = sym z.at_end.counted ∙ ends.2 in
     let there : checked hash root q bytes ≡ Ok (said h z.part) =
-    z.there ∙ ends_well hash root q (said h z.part) z.stand z.empty same right in
+    z.there ∙ ends_well hash root q (said h z.part) z.stand z.empty same right counted in
     record {
       said = said h z.part;
       hands = record { is_read = there; all = z.at_end.kept };
       outline = record {
-        head = ap (λ (x : Outline). x.head) ends.2;
-        rect = ap (λ (x : Outline). x.rect) ends.2
+        head = ap (λ (x : Outline). x.head) ends.3;
+        rect = ap (λ (x : Outline). x.rect) ends.3
             ∙ z.at_end.rect;
       };
     }
@@ -305,7 +365,7 @@ end_last hash holds root q r node bytes (Err f) is short law (inl wrong) at =
     z.there ∙ ends_wrong_root hash root q (said h z.part) z.stand z.empty ne
     ∙ (λ i. Err (fault (rule.WrongRoot (found i)) (z.place i)))
     ∙ ap (λ (g : Fault). Err g) (sym wrong.0)
-end_last hash holds root q r node bytes (Err f) is short law (inr wrong) at =
+end_last hash holds root q r node bytes (Err f) is short law (inr (inl wrong)) at =
     let z = ended hash holds root q r node bytes is short at in
     let h = r.machine.head in
     let same : root_found hash h z.part ≡ root = ap hash (sym z.at_end.root) ∙ wrong.1 in
@@ -314,6 +374,17 @@ end_last hash holds root q r node bytes (Err f) is short law (inr wrong) at =
     sym (other_alike q h (handed_out q bytes) z.part law z.at_end.kept) ∙ given_wrong in
     z.there ∙ ends_wrong_radius hash root q (said h z.part) z.stand z.empty same other
     ∙ (λ i. Err (fault rule.WrongRadius (z.place i)))
+    ∙ ap (λ (g : Fault). Err g) (sym wrong.0)
+end_last hash holds root q r node bytes (Err f) is short law (inr (inr wrong)) at =
+    let z = ended hash holds root q r node bytes is short at in
+    let h = r.machine.head in
+    let same : root_found hash h z.part ≡ root = ap hash (sym z.at_end.root) ∙ wrong.1 in
+    let given_right = wrong.2 (handed_out q bytes) z.at_end.tally in
+    let right : has_other_radius q.around h.radius (opened_records z.part) ≡ false =
+    sym (other_alike q h (handed_out q bytes) z.part law z.at_end.kept) ∙ given_right in
+    let other : is_other_count h z.part ≡ true = sym z.at_end.counted ∙ wrong.3 in
+    z.there ∙ ends_wrong_tally hash root q (said h z.part) z.stand z.empty same right other
+    ∙ (λ i. Err (fault rule.WrongTally (z.place i)))
     ∙ ap (λ (g : Fault). Err g) (sym wrong.0)
 
 pub end_fault : {H : Type 0} (hash : List ℕ → List ℕ) (holds : H → List ℕ → Type 0) (root : List ℕ) (q : Question)
@@ -367,11 +438,14 @@ pub some_want : (k : Kind) (s : Stage) → ((x : Entry) → s ≡ stage.End x �
 some_want k (stage.Head f) other = (head_want k f, refl)
 some_want k (stage.Tag v) other = (want.Tag v, refl)
 some_want k (stage.Shown v) other = (want.Rect, refl)
-some_want k (stage.Digest v r) other = (want.Digest, refl)
+some_want k (stage.Mask v r) other = (want.Mask, refl)
+some_want k (stage.Tally v r n) other = (want.Tally, refl)
+some_want k (stage.Digest v r n c) other = (want.Digest, refl)
 some_want k (stage.Entries w) other = (want.InnerCount, refl)
 some_want k stage.Records other = (want.LeafCount, refl)
 some_want k stage.Number other = (want.Number, refl)
 some_want k (stage.Sides n) other = (want.Rect, refl)
-some_want k (stage.Length n r) other = (want.Length, refl)
-some_want k (stage.Payload n r l) other = (want.Payload l, refl)
+some_want k (stage.Layer n r) other = (want.Layer, refl)
+some_want k (stage.Length n r y) other = (want.Length, refl)
+some_want k (stage.Payload n r y l) other = (want.Payload l, refl)
 some_want k (stage.End x) other = absurd (other x refl)

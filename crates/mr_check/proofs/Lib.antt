@@ -1,7 +1,7 @@
 pub mod Checks
 pub mod Stopping
 pub mod Noting
-pub mod Silent
+pub mod Counted
 pub mod Opening
 pub mod Nodes
 pub mod Stepping
@@ -12,4 +12,5 @@ pub mod Pieces
 pub mod Judging
 pub mod Bytes
 pub mod Gathering
+pub mod Versions
 pub mod Differing

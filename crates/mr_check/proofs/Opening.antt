@@ -1,29 +1,29 @@
 -- Open nodes: what is known of them once one more child, or record, was read.
-use Rattle.std.proofs.Common.{◌≡◌, ℕ, zero, suc, ◌-◌, ◌+◌, ◌<◌, true, false, List, [], ◌∷◌, ◌++◌, length, map, Err, refl, sym, ap, subst, ◌∙◌, append_assoc, arith}
+use Rattle.std.proofs.Common.{◌≡◌, ℕ, zero, suc, ◌-◌, ◌+◌, ◌<◌, true, false, List, [], ◌∷◌, ◌++◌, length, Err, refl, sym, ap, subst, ◌∙◌, append_assoc, arith}
+use Rattle.std.specs.Prelude.{option_map}
 use Rattle.std.specs.List.{flat_map}
 use Rattle.std.proofs.lemmas.List.{append-nil, map-append, length-append}
-use Rattle.std.proofs.lemmas.Simd.{map-map}
 use Rattle.std.proofs.lemmas.Grind.{flat_map-append}
-use Rattle.mr_geom.specs.Rectangle.{union_of}
 use Rattle.mr_record.specs.declared.record.Record.{Record}
 use Rattle.mr_tree.specs.Tree.{first_level}
 use Rattle.mr_tree.specs.Digest.{Scheme, entry_step, level_over, inner_tag}
 use Rattle.mr_tree.specs.HasHashed.{HasHashed, Piece, of_entry}
 use Rattle.mr_tree.specs.declared.entry.Entry.{Entry}
-use Rattle.mr_proof.specs.Fields.{version}
-use Rattle.mr_check.specs.declared.open_node.OpenNode.{OpenNode}
+use Rattle.mr_record.specs.declared.version.Version.{Version}
+use Rattle.mr_tree.specs.declared.node_hasher.NodeHasher.{NodeHasher}
 use Rattle.mr_check.specs.private.OpenNodes.{Gathered}
 use Rattle.mr_tree.specs.declared.tree.Tree.TheOpen as node
 use Rattle.mr_tree.proofs.Gathered.{inner_gathered}
 use Rattle.mr_proof.specs.declared.head.Head.{Head}
 use Rattle.mr_proof.specs.declared.rule.Rule.TheVariants as rule
 use Rattle.mr_proof.specs.declared.want.Want.TheVariants as want
-use Rattle.mr_proof.specs.Cut.{Cut, Cuts, Inner, no_more, first, cuts_of, rect, entry, entries, records, all_records}
+use Rattle.mr_proof.specs.Cut.{Cut, Cuts, Inner, no_more, first, cuts_of, rect, mask, entry, entries, records, all_records}
 use Rattle.mr_proof.specs.Spelling.{Parsed}
 use Rattle.mr_proof.specs.declared.way.Way.{Way}
-use Rattle.mr_proof.specs.Tight.{Key, key_of, opens_seen}
+use Rattle.mr_query.specs.declared.key.Key.{Key}
+use Rattle.mr_proof.specs.Tight.{key_at, key_of, opens_seen}
 use Rattle.mr_proof.specs.Grammar.{Grammar, reads, opened, some_items, item, tag_in}
-use Rattle.mr_proof.proofs.Preimages.{entries-rects}
+use Rattle.mr_proof.proofs.Preimages.{entry-rect, entry-mask}
 use Rattle.mr_check.specs.declared.frame.Frame.{Frame}
 use Rattle.mr_check.specs.private.Stops.{past_notes, noted}
 use Rattle.mr_check.specs.private.Machine.{Open, with_front, after, node_next, said_of, levels_of, pieces_of_cuts, IsFrame, so_far}
@@ -60,29 +60,29 @@ length-said s w (P ∷ front) = ap suc (length-said s w front)
 -- ---- one more child
 
 -- what is gathered of an open node, once a cut of the child under way was read
-pub record Grown {H : Type 0} (s : Scheme) (holds : H → List ℕ → Type 0) (n : OpenNode H) (o : Open) (P : Cut)
+pub record Grown {H : Type 0} (s : Scheme) (holds : H → List ℕ → Type 0) (n : NodeHasher H) (o : Open) (P : Cut)
     (w : ℕ) : Type 0 where
   pub gathers : Gathered holds n (inner_tag ∷ (w + 1) ∷ (length o.front + (o.left + 1)) ∷ [])
       (pieces_of_cuts s w (o.front ++ P ∷ []))
   pub level : first_level (levels_of (said_of s w (o.front ++ P ∷ []))) ≡ w
 
 -- one more entry was added
-abbrev pub Adds : {H : Type 0} → (H → List ℕ → Type 0) → OpenNode H → OpenNode H → Entry → Type 0
-Adds holds m n x =
+abbrev pub Adds : {H : Type 0} → Version → (H → List ℕ → Type 0) → NodeHasher H → NodeHasher H → Entry → Type 0
+Adds u holds m n x =
     (head : List ℕ) (pieces : List Piece) → Gathered holds m head pieces
-    → Gathered holds n head (pieces ++ of_entry version x ∷ [])
+    → Gathered holds n head (pieces ++ of_entry u x ∷ [])
 
-pub grown : {H : Type 0} (s : Scheme) (holds : H → List ℕ → Type 0) (f : Frame H) (n : OpenNode H) (o : Open)
-    (P : Cut) (x : Entry) → s.version ≡ version → IsFrame s holds x.level f o → entry s x.level P ≡ x
-    → Adds holds f.node n x
+pub grown : {H : Type 0} (s : Scheme) (holds : H → List ℕ → Type 0) (f : Frame H) (n : NodeHasher H) (o : Open)
+    (P : Cut) (x : Entry) → IsFrame s holds x.level f o → entry s x.level P ≡ x
+    → Adds s.version holds f.node n x
     → Grown s holds n o P x.level
-grown s holds f n o P x one is says adds =
+grown s holds f n o P x is says adds =
     let w = x.level in
     let es = said_of s w o.front in
     let new : said_of s w (o.front ++ P ∷ []) ≡ es ++ x ∷ [] = map-append (entry s w) o.front (P ∷ [])
     ∙ ap (λ (e : Entry). es ++ e ∷ []) says in
-    let parts : pieces_of_cuts s w o.front ++ of_entry version x ∷ [] ≡ pieces_of_cuts s w (o.front ++ P ∷ []) =
-    (λ i. pieces_of_cuts s w o.front ++ of_entry (sym one i) (sym says i) ∷ [])
+    let parts : pieces_of_cuts s w o.front ++ of_entry s.version x ∷ [] ≡ pieces_of_cuts s w (o.front ++ P ∷ []) =
+    (λ i. pieces_of_cuts s w o.front ++ of_entry s.version (sym says i) ∷ [])
     ∙ sym (map-append (λ (P : Cut). of_entry s.version (entry s w P)) o.front (P ∷ [])) in
     record {
       gathers = subst (Gathered holds n (inner_tag ∷ (w + 1) ∷ (length o.front + (o.left + 1)) ∷ []))
@@ -95,7 +95,7 @@ grown s holds f n o P x one is says adds =
 abbrev pub one_on : Open → Cut → Open
 one_on o P = record { front = o.front ++ P ∷ []; left = o.left - 1 }
 
-pub stays_open : {H : Type 0} (s : Scheme) (holds : H → List ℕ → Type 0) (f : Frame H) (n : OpenNode H) (o : Open)
+pub stays_open : {H : Type 0} (s : Scheme) (holds : H → List ℕ → Type 0) (f : Frame H) (n : NodeHasher H) (o : Open)
     (P : Cut) (w : ℕ) → Grown s holds n o P w → f.left ≡ o.left → 0 < f.left
     → IsFrame s holds w (record { node = n; left = f.left - 1 }) (one_on o P)
 stays_open s holds f n o P w is left some =
@@ -108,28 +108,20 @@ stays_open s holds f n o P w is left some =
       level = λ _. is.level;
     }
 
-rect_of_all : (s : Scheme) (w : ℕ) (front : List Cut)
-    → union_of (map (λ (p : Piece). p.rect) (pieces_of_cuts s w front)) ≡ rect (Inner (cuts_of front))
-rect_of_all s w front =
-    ap union_of (map-map (λ (p : Piece). p.rect) (λ (P : Cut). of_entry s.version (entry s w P)) front
-    ∙ sym (map-map (λ (e : Entry). e.rect) (entry s w) front))
-    ∙ ap (λ (es : List Entry). union_of (map (λ (e : Entry). e.rect) es)) (sym (entries-cuts_of s w front))
-    ∙ ap union_of (entries-rects s w (cuts_of front))
-
 -- the node with that child as its last
 abbrev pub closed : Open → Cut → Cut
 closed o P = Inner (cuts_of (o.front ++ P ∷ []))
 
 -- what is said of it
-pub record IsClosing {H : Type 0} (s : Scheme) (holds : H → List ℕ → Type 0) (n : OpenNode H) (w : ℕ)
+pub record IsClosing {H : Type 0} (s : Scheme) (holds : H → List ℕ → Type 0) (n : NodeHasher H) (w : ℕ)
     (x : Entry) : Type 0 where
   pub level : x.level ≡ w
   pub rect : x.rect ≡ n.rect
-  pub mask : x.mask ≡ 0
-  pub count : x.count ≡ 0
+  pub mask : x.mask ≡ n.mask
+  pub count : x.count ≡ n.count
   pub digest : (fed : List ℕ) → holds n.hasher fed → x.digest ≡ s.of fed
 
-pub said_closed : {H : Type 0} (s : Scheme) (holds : H → List ℕ → Type 0) (n : OpenNode H) (o : Open)
+pub said_closed : {H : Type 0} (s : Scheme) (holds : H → List ℕ → Type 0) (n : NodeHasher H) (o : Open)
     (P : Cut) (w : ℕ) (x : Entry) → Grown s holds n o P w → o.left ≡ 0 → IsClosing s holds n (w + 1) x
     → entry s x.level (closed o P) ≡ x
 said_closed s holds n o P w x is none c =
@@ -150,9 +142,13 @@ said_closed s holds n o P w x is none c =
     ap (λ (es : List Entry). entry_step s (node.Inner es)) children
     ∙ sym (inner_gathered s (holds n.hasher) (entry s w) all (w + 1) x level_is c.level gathers c.digest)
 
-pub rect_closed : {H : Type 0} (s : Scheme) (holds : H → List ℕ → Type 0) (n : OpenNode H) (o : Open)
-    (P : Cut) (w : ℕ) (x : Entry) → Grown s holds n o P w → IsClosing s holds n (w + 1) x → x.rect ≡ rect (closed o P)
-rect_closed s holds n o P w x is c = c.rect ∙ is.gathers.round ∙ rect_of_all s w (o.front ++ P ∷ [])
+-- what is seen of a cut of which this is said
+pub seen_by : (s : Scheme) (way : Key → Way) (v : ℕ) (P : Cut) (x : Entry) → entry s v P ≡ x
+    → opens_seen way (key_of s.version P) ≡ opens_seen way (option_map (key_at s.version x.mask) x.rect)
+seen_by s way v P x says =
+    let place : rect P ≡ x.rect = sym (entry-rect s v P) ∙ ap (λ (y : Entry). y.rect) says in
+    let layers : mask s.version P ≡ x.mask = sym (entry-mask s v P) ∙ ap (λ (y : Entry). y.mask) says in
+    λ i. opens_seen way (option_map (key_at s.version (layers i)) (place i))
 
 pub records_closed : (os : List Open) (o : Open) (P : Cut)
     → so_far (o ∷ os) ++ records P ≡ so_far os ++ records (closed o P)
@@ -172,54 +168,54 @@ records_on os o P =
 
 -- ---- what follows a node
 
-pub item_waits : (way : Key → Way) (v : ℕ) (next : Cut → Grammar Parsed)
-    → item way v next ≡ reads (want.Tag v) (λ t. node_next way v next (tag_in t))
-item_waits way zero next = refl
-item_waits way (suc v) next = refl
+pub item_waits : (u : Version) (way : Key → Way) (v : ℕ) (next : Cut → Grammar Parsed)
+    → item u way v next ≡ reads (want.Tag v) (λ t. node_next u way v next (tag_in t))
+item_waits u way zero next = refl
+item_waits u way (suc v) next = refl
 
-items_more : (way : Key → Way) (w n : ℕ) (front : List Cut) (P : Cut) (X : Cuts → Grammar Parsed)
-    → some_items (item way w) (suc n) (λ Ps. X (with_front front (first P Ps)))
-    ≡ item way w (λ Q. some_items (item way w) n (λ Ps. X (with_front (front ++ P ∷ []) (first Q Ps))))
-items_more way w n front P X =
-    λ j. item way w (λ Q. some_items (item way w) n (λ Ps. X (with_front-append front P (first Q Ps) j)))
+items_more : (u : Version) (way : Key → Way) (w n : ℕ) (front : List Cut) (P : Cut) (X : Cuts → Grammar Parsed)
+    → some_items (item u way w) (suc n) (λ Ps. X (with_front front (first P Ps)))
+    ≡ item u way w (λ Q. some_items (item u way w) n (λ Ps. X (with_front (front ++ P ∷ []) (first Q Ps))))
+items_more u way w n front P X =
+    λ j. item u way w (λ Q. some_items (item u way w) n (λ Ps. X (with_front-append front P (first Q Ps) j)))
 
 -- where more children follow, the next one's item does
 pub after_more : (way : Key → Way) (h : Head) (w : ℕ) (o : Open) (os : List Open) (P : Cut) → 0 < o.left
-    → after way h w (o ∷ os) P ≡ item way w (after way h w (one_on o P ∷ os))
+    → after way h w (o ∷ os) P ≡ item h.version way w (after way h w (one_on o P ∷ os))
 after_more way h w o os P some =
     let e : o.left ≡ suc (o.left - 1) = omega arith in
-    let X = λ (Ps : Cuts). opened way (Inner Ps) (after way h (w + 1) os) in
-    ap (λ (n : ℕ). some_items (item way w) n (λ Ps. X (with_front o.front (first P Ps)))) e
-    ∙ items_more way w (o.left - 1) o.front P X
+    let X = λ (Ps : Cuts). opened h.version way (Inner Ps) (after way h (w + 1) os) in
+    ap (λ (n : ℕ). some_items (item h.version way w) n (λ Ps. X (with_front o.front (first P Ps)))) e
+    ∙ items_more h.version way w (o.left - 1) o.front P X
 
 -- where none does, the node is whole
 pub after_last : (way : Key → Way) (h : Head) (w : ℕ) (o : Open) (os : List Open) (P : Cut) → o.left ≡ 0
-    → after way h w (o ∷ os) P ≡ opened way (closed o P) (after way h (w + 1) os)
+    → after way h w (o ∷ os) P ≡ opened h.version way (closed o P) (after way h (w + 1) os)
 after_last way h w o os P none =
-    let X = λ (Ps : Cuts). opened way (Inner Ps) (after way h (w + 1) os) in
-    ap (λ (n : ℕ). some_items (item way w) n (λ Ps. X (with_front o.front (first P Ps)))) none
+    let X = λ (Ps : Cuts). opened h.version way (Inner Ps) (after way h (w + 1) os) in
+    ap (λ (n : ℕ). some_items (item h.version way w) n (λ Ps. X (with_front o.front (first P Ps)))) none
     ∙ ap X (with_front-append o.front P no_more ∙ with_front-none (o.front ++ P ∷ []))
 
-items_quiet : (way : Key → Way) (w n : ℕ) (X : Cuts → Grammar Parsed) → ((Ps : Cuts) → noted (X Ps) ≡ [])
-    → noted (some_items (item way w) n X) ≡ []
-items_quiet way w zero X quiet = quiet no_more
-items_quiet way w (suc n) X quiet =
-    ap noted (item_waits way w (λ P. some_items (item way w) n (λ Ps. X (first P Ps))))
+items_quiet : (u : Version) (way : Key → Way) (w n : ℕ) (X : Cuts → Grammar Parsed)
+    → ((Ps : Cuts) → noted (X Ps) ≡ []) → noted (some_items (item u way w) n X) ≡ []
+items_quiet u way w zero X quiet = quiet no_more
+items_quiet u way w (suc n) X quiet =
+    ap noted (item_waits u way w (λ P. some_items (item u way w) n (λ Ps. X (first P Ps))))
 
 -- no record is noted behind a node
 pub after_quiet : (way : Key → Way) (h : Head) (w : ℕ) (os : List Open) (P : Cut)
     → noted (after way h w os P) ≡ []
 after_quiet way h w [] P = refl
 after_quiet way h w (o ∷ os) P =
-    items_quiet way w o.left
-    (λ Ps. opened way (Inner (with_front o.front (first P Ps))) (after way h (w + 1) os))
+    items_quiet h.version way w o.left
+    (λ Ps. opened h.version way (Inner (with_front o.front (first P Ps))) (after way h (w + 1) os))
     (λ Ps. after_quiet way h (w + 1) os (Inner (with_front o.front (first P Ps))))
 
 -- past an opened node that the region meets, or misses
-pub past_met : (way : Key → Way) (P : Cut) (next : Cut → Grammar Parsed) → opens_seen way (key_of P) ≡ true
-    → past_notes (opened way P next) ≡ past_notes (next P)
-past_met way P next met = rw met refl
+pub past_met : (u : Version) (way : Key → Way) (P : Cut) (next : Cut → Grammar Parsed)
+    → opens_seen way (key_of u P) ≡ true → past_notes (opened u way P next) ≡ past_notes (next P)
+past_met u way P next met = rw met refl
 
-pub past_missed : (way : Key → Way) (P : Cut) (next : Cut → Grammar Parsed) → opens_seen way (key_of P) ≡ false
-    → past_notes (opened way P next) ≡ Err rule.Needless
-past_missed way P next missed = rw missed refl
+pub past_missed : (u : Version) (way : Key → Way) (P : Cut) (next : Cut → Grammar Parsed)
+    → opens_seen way (key_of u P) ≡ false → past_notes (opened u way P next) ≡ Err rule.Needless
+past_missed u way P next missed = rw missed refl

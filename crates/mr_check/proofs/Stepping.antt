@@ -1,6 +1,6 @@
 -- What each field leads to.
 use Rattle.std.proofs.Common.{◌≡◌, ℕ, zero, suc, ◌-◌, ◌+◌, ◌≤◌, ◌<◌, Bool, true, false, eqb, List, [], ◌∷◌, ◌++◌, length, map, reverse, Ok, Err, Option, Some, None, refl, sym, ap, subst, ◌∙◌, append_assoc, arith, inl, inr}
-use Rattle.std.specs.Prelude.{filter, option_map, if◌then◌else◌, ◌==◌}
+use Rattle.std.specs.Prelude.{filter, option_map, if◌then◌else◌, not, ◌==◌}
 use Rattle.std.proofs.lemmas.Bool.{cases_Bool, eqb-true, ne_eqb}
 use Rattle.std.proofs.lemmas.List.{append-nil, map-append, length-append}
 use Rattle.std.proofs.lemmas.List.Elements.{filter-append}
@@ -9,21 +9,26 @@ use Rattle.mr_record.specs.declared.record.Record.{Record}
 use Rattle.mr_tree.specs.Digest.{leaf_tag, inner_tag, no_entry}
 use Rattle.mr_tree.specs.HasHashed.{Piece, of_record}
 use Rattle.mr_tree.specs.declared.entry.Entry.{Entry}
-use Rattle.mr_check.specs.declared.open_node.OpenNode.{OpenNode}
+use Rattle.mr_record.specs.Version.{told}
+use Rattle.mr_record.specs.declared.version.Version.{Version}
+use Rattle.mr_record.specs.declared.version.Version.TheVariants.{One, Two}
+use Rattle.mr_tree.specs.declared.node_hasher.NodeHasher.{NodeHasher}
 use Rattle.mr_check.specs.private.OpenNodes.{Gathered}
 use Rattle.mr_tree.proofs.Gathered.{leaf_gathered}
 use Rattle.mr_proof.specs.declared.head.Head.{Head}
 use Rattle.mr_proof.specs.declared.rule.Rule.{Rule}
 use Rattle.mr_proof.specs.declared.rule.Rule.TheVariants as rule
+use Rattle.mr_proof.specs.declared.want.Want.{Want}
 use Rattle.mr_proof.specs.declared.want.Want.TheVariants as want
 use Rattle.mr_proof.specs.declared.field.Field.{Field}
-use Rattle.mr_proof.specs.Fields.{version, pruned_tag}
-use Rattle.mr_proof.specs.Cut.{Cut, Cuts, Pruned, Leaf, Inner, entry_shown, rect}
+use Rattle.mr_proof.specs.Fields.{pruned_tag}
+use Rattle.mr_proof.specs.Cut.{Cut, Cuts, Pruned, Leaf, Inner, entry_shown}
 use Rattle.mr_proof.specs.declared.pruned_entry.PrunedEntry.{PrunedEntry}
 use Rattle.mr_proof.specs.Spelling.{Parsed, said}
 use Rattle.mr_proof.specs.declared.way.Way.{Way}
-use Rattle.mr_proof.specs.Tight.{Key, key_at, key_of, opens_seen, Question, opens_at, keeps_at}
-use Rattle.mr_proof.specs.Grammar.{Grammar, done, reads, notes, opens, number_in, tag_in, bytes_in, some_records, opened, some_items, item, part}
+use Rattle.mr_query.specs.declared.key.Key.{Key}
+use Rattle.mr_proof.specs.Tight.{key_at, key_of, opens_seen, Question, opens_at, keeps_record}
+use Rattle.mr_proof.specs.Grammar.{Grammar, done, reads, notes, opens, number_in, tag_in, bytes_in, some_records, opened, unopened, some_items, item, part}
 use Rattle.mr_check.specs.declared.frame.Frame.{Frame}
 use Rattle.mr_check.specs.declared.frame.Stack.{Stack}
 use Rattle.mr_check.specs.declared.stage.HeadField.{HeadField}
@@ -35,8 +40,8 @@ use Rattle.mr_check.specs.declared.machine.StepResult.TheVariants as stepped
 use Rattle.mr_check.specs.private.Stops.{past_notes, noted}
 use Rattle.mr_check.specs.private.Counting.{CountsRecords}
 use Rattle.mr_check.specs.private.Heads.{head_left}
-use Rattle.mr_check.specs.private.Machine.{Open, Above, after, after_record, node_next, shown_next, stage_of, stage_behind, opened_item, behind_number, behind_sides, behind_length, head_next, ways_at, is_handed_out, frames_of, AreFrames, IsLeaf, so_far, scheme, InTree, InHead, HasReadCut, LeafRead, WaitsForField, WaitsPast, StepsPastField, ClosesNode, stepped_by, found_by, plus}
-use Rattle.mr_check.proofs.Opening.{IsClosing, item_waits, after_quiet, past_met, past_missed}
+use Rattle.mr_check.specs.private.Machine.{Open, Above, after, after_record, node_next, shown_next, behind_tally, stage_of, stage_behind, opened_item, behind_number, behind_rect, behind_sides, behind_layer, behind_length, head_next, ways_at, is_handed_out, frames_of, AreFrames, IsLeaf, so_far, scheme, InTree, InHead, HasReadCut, LeafRead, WaitsForField, WaitsPast, StepsPastField, ClosesNode, stepped_by, found_by, plus}
+use Rattle.mr_check.proofs.Opening.{IsClosing, item_waits, seen_by, after_quiet, past_met, past_missed}
 
 -- ---- a step from what it waits for
 
@@ -54,6 +59,11 @@ close_steps hash holds q m given g None quiet w = (quiet, w)
 close_steps hash holds q m given g (Some d) quiet w = w
 
 -- ---- the head
+
+-- neither version tells of records where there are none
+nothing_told : (u : Version) → not (0 == told u 0) ≡ false
+nothing_told One = refl
+nothing_told Two = refl
 
 behind_head : {H : Type 0} (hash : List ℕ → List ℕ) (holds : H → List ℕ → Type 0) (q : Question) (m : Machine H)
     (given : List Record) (h : Head) → h.kind ≡ m.head.kind
@@ -75,6 +85,7 @@ behind_head hash holds q m given h kind is = elim (cases_Bool (eqb h.count 0)) [
         is_open = record {
           root = rw none refl;
           rect = refl;
+          counted = rw none (nothing_told h.version);
           kept = is.nothing;
           tally = rw is.nothing
               (is.tally h.radius);
@@ -85,9 +96,9 @@ behind_head hash holds q m given h kind is = elim (cases_Bool (eqb h.count 0)) [
       let here : stage_behind h None ≡ stage.Tag h.level = rw f refl in
       let way = q.way h.radius in
       let next = after way h h.level [] in
-      let there : part q.way h ≡ reads (want.Tag h.level) (λ t. node_next way h.level next (tag_in t)) =
-      (rw f refl) ∙ item_waits way h.level next in
-      let g = reads (want.Tag h.level) (λ t. node_next way h.level next (tag_in t)) in
+      let there : part q.way h ≡ reads (want.Tag h.level) (λ t. node_next h.version way h.level next (tag_in t)) =
+      (rw f refl) ∙ item_waits h.version way h.level next in
+      let g = reads (want.Tag h.level) (λ t. node_next h.version way h.level next (tag_in t)) in
       let steps : StepsPastField hash holds q (record m { head = h; stage = stage.Tag h.level }) given g stepped.On =
       waits_on hash holds q (record m { head = h; stage = stage.Tag h.level }) given g g refl refl (record {
         above = record { nodes = []; records = [] };
@@ -138,9 +149,9 @@ opened_steps : {H : Type 0} (hash : List ℕ → List ℕ) (holds : H → List �
     (v : ℕ) (given : List Record) (a : Above) → a.records ≡ []
     → InTree hash holds q m.head (frames_of m) m.tally v given a
     → StepsPastField hash holds q (record m { stage = (if v == 0 then stage.Records else stage.Entries (v - 1)) }) given
-    (opened_item (ways_at q m.head) v (after (ways_at q m.head) m.head v a.nodes)) stepped.On
+    (opened_item m.head.version (ways_at q m.head) v (after (ways_at q m.head) m.head v a.nodes)) stepped.On
 opened_steps hash holds q m zero given a none is =
-    let g = opened_item (ways_at q m.head) 0 (after (ways_at q m.head) m.head 0 a.nodes) in
+    let g = opened_item m.head.version (ways_at q m.head) 0 (after (ways_at q m.head) m.head 0 a.nodes) in
     waits_on hash holds q (record m { stage = stage.Records }) given g g refl refl
     (record { above = a; whole = None; waits = refl; is_open = (none, is) })
 opened_steps hash holds q m (suc w) given a none is =
@@ -148,9 +159,10 @@ opened_steps hash holds q m (suc w) given a none is =
     let below : suc w - 1 ≡ w = omega arith in
     let up : suc w ≡ w + 1 = omega arith in
     let not_leaf : eqb (suc w) 0 ≡ false = ne_eqb (suc w) 0 (λ e. omega arith) in
-    let g = opened_item way (suc w) (after way m.head (suc w) a.nodes) in
-    let k = opened_item way (suc w) (after way m.head (w + 1) a.nodes) in
-    let same : k ≡ g = ap (λ (n : ℕ). opened_item way (suc w) (after way m.head n a.nodes)) (sym up) in
+    let u = m.head.version in
+    let g = opened_item u way (suc w) (after way m.head (suc w) a.nodes) in
+    let k = opened_item u way (suc w) (after way m.head (w + 1) a.nodes) in
+    let same : k ≡ g = ap (λ (n : ℕ). opened_item u way (suc w) (after way m.head n a.nodes)) (sym up) in
     let steps : StepsPastField hash holds q (record m { stage = stage.Entries w }) given k stepped.On =
     waits_on hash holds q (record m { stage = stage.Entries w }) given k k refl refl (record {
       above = a;
@@ -169,31 +181,65 @@ pub tagged : {H : Type 0} (hash : List ℕ → List ℕ) (holds : H → List ℕ
     (v t : ℕ) (given : List Record) (a : Above) → a.records ≡ []
     → InTree hash holds q m.head (frames_of m) m.tally v given a
     → StepsPastField hash holds q (record m { stage = stage_of v t }) given
-    (node_next (ways_at q m.head) v (after (ways_at q m.head) m.head v a.nodes) t) stepped.On
+    (node_next m.head.version (ways_at q m.head) v (after (ways_at q m.head) m.head v a.nodes) t) stepped.On
 tagged hash holds q m v t given a none is = elim (cases_Bool (eqb t pruned_tag)) [
   | inl p ↦ rw p
       (waits_on hash holds q (record m { stage = stage.Shown v }) given
-      (node_next (ways_at q m.head) v (after (ways_at q m.head) m.head v a.nodes) pruned_tag)
-      (node_next (ways_at q m.head) v (after (ways_at q m.head) m.head v a.nodes) pruned_tag) refl refl
+      (node_next m.head.version (ways_at q m.head) v (after (ways_at q m.head) m.head v a.nodes) pruned_tag)
+      (node_next m.head.version (ways_at q m.head) v (after (ways_at q m.head) m.head v a.nodes) pruned_tag) refl refl
       (record { above = a; whole = None; waits = refl; is_open = (none, is) }))
   | inr o ↦ rw o (opened_steps hash holds q m v given a none is)
 ]
 
-pub shown_met : (way : Key → Way) (r : Rectangle) (next : Cut → Grammar Parsed) → opens_at way r ≡ true
-    → past_notes (shown_next way next r) ≡ Err rule.Hidden
-shown_met way r next handed_on = rw handed_on refl
+-- a part that is to be opened stops the reading, and one that is not is read on
+pub unopened_met : (way : Key → Way) (part : Key) (next : Grammar Parsed) → opens_at way part ≡ true
+    → past_notes (unopened way part next) ≡ Err rule.Hidden
+unopened_met way part next met = rw met refl
 
-pub shown_missed : {H : Type 0} (hash : List ℕ → List ℕ) (holds : H → List ℕ → Type 0) (q : Question) (m : Machine H)
-    (v : ℕ) (r : Rectangle) (given : List Record) (a : Above) → opens_at (ways_at q m.head) r ≡ false
-    → a.records ≡ [] → InTree hash holds q m.head (frames_of m) m.tally v given a
-    → StepsPastField hash holds q (record m { stage = stage.Digest v r }) given
-    (shown_next (ways_at q m.head) (after (ways_at q m.head) m.head v a.nodes) r) stepped.On
-shown_missed hash holds q m v r given a missed none is =
-    let next = after (ways_at q m.head) m.head v a.nodes in
-    let g = reads want.Digest (λ d. next (Pruned (record { rect = r; digest = bytes_in d }))) in
-    let past : past_notes (shown_next (ways_at q m.head) next r) ≡ Ok g = rw missed refl in
-    waits_on hash holds q (record m { stage = stage.Digest v r }) given (shown_next (ways_at q m.head) next r) g refl
-    past (record { above = a; whole = None; waits = refl; is_open = (none, is) })
+pub unopened_missed : {H : Type 0} (hash : List ℕ → List ℕ) (holds : H → List ℕ → Type 0) (q : Question)
+    (m : Machine H) (way : Key → Way) (part : Key) (given : List Record) (w : Want) (next : Field → Grammar Parsed)
+    → opens_at way part ≡ false → WaitsForField hash holds q m given (reads w next)
+    → StepsPastField hash holds q m given (unopened way part (reads w next)) stepped.On
+unopened_missed hash holds q m way part given w next missed waits =
+    let past : past_notes (unopened way part (reads w next)) ≡ Ok (reads w next) = rw missed refl in
+    waits_on hash holds q m given (unopened way part (reads w next)) (reads w next) refl past waits
+
+-- the fields of a pruned part that are not its last
+pub mask_on : {H : Type 0} (hash : List ℕ → List ℕ) (holds : H → List ℕ → Type 0) (q : Question) (m : Machine H)
+    (v : ℕ) (r : Rectangle) (given : List Record) (a : Above) → a.records ≡ []
+    → InTree hash holds q m.head (frames_of m) m.tally v given a
+    → StepsPastField hash holds q (record m { stage = stage.Mask v r }) given
+    (shown_next Two (ways_at q m.head) (after (ways_at q m.head) m.head v a.nodes) r) stepped.On
+mask_on hash holds q m v r given a none is =
+    let g = shown_next Two (ways_at q m.head) (after (ways_at q m.head) m.head v a.nodes) r in
+    waits_on hash holds q (record m { stage = stage.Mask v r }) given g g refl refl
+    (record { above = a; whole = None; waits = refl; is_open = (none, is) })
+
+pub tally_waits : {H : Type 0} (hash : List ℕ → List ℕ) (holds : H → List ℕ → Type 0) (q : Question) (m : Machine H)
+    (v : ℕ) (r : Rectangle) (n : ℕ) (given : List Record) (a : Above) → a.records ≡ []
+    → InTree hash holds q m.head (frames_of m) m.tally v given a
+    → WaitsForField hash holds q (record m { stage = stage.Tally v r n }) given
+    (reads want.Tally (λ c. behind_tally (after (ways_at q m.head) m.head v a.nodes) r n (number_in c)))
+tally_waits hash holds q m v r n given a none is =
+    record { above = a; whole = None; waits = refl; is_open = (none, is) }
+
+pub digest_waits : {H : Type 0} (hash : List ℕ → List ℕ) (holds : H → List ℕ → Type 0) (q : Question) (m : Machine H)
+    (v : ℕ) (r : Rectangle) (n c : ℕ) (given : List Record) (a : Above) → a.records ≡ []
+    → InTree hash holds q m.head (frames_of m) m.tally v given a
+    → WaitsForField hash holds q (record m { stage = stage.Digest v r n c }) given
+    (behind_tally (after (ways_at q m.head) m.head v a.nodes) r n c)
+digest_waits hash holds q m v r n c given a none is =
+    record { above = a; whole = None; waits = refl; is_open = (none, is) }
+
+pub digest_on : {H : Type 0} (hash : List ℕ → List ℕ) (holds : H → List ℕ → Type 0) (q : Question) (m : Machine H)
+    (v : ℕ) (r : Rectangle) (n c : ℕ) (given : List Record) (a : Above) → a.records ≡ []
+    → InTree hash holds q m.head (frames_of m) m.tally v given a
+    → StepsPastField hash holds q (record m { stage = stage.Digest v r n c }) given
+    (behind_tally (after (ways_at q m.head) m.head v a.nodes) r n c) stepped.On
+digest_on hash holds q m v r n c given a none is =
+    let g = behind_tally (after (ways_at q m.head) m.head v a.nodes) r n c in
+    waits_on hash holds q (record m { stage = stage.Digest v r n c }) given g g refl refl
+    (digest_waits hash holds q m v r n c given a none is)
 
 pub pruned_read : {H : Type 0} (hash : List ℕ → List ℕ) (holds : H → List ℕ → Type 0) (q : Question) (h : Head)
     (fs : List (Frame H)) (t : RadiusCounts) (v : ℕ) (part : PrunedEntry) (x : Entry) (given : List Record) (a : Above)
@@ -218,24 +264,25 @@ closed_at hash holds q m h given way v w os P broken e c =
     subst (λ (k : ℕ). ClosesNode hash holds q m given (after way h k os P) broken) e c
 
 pub inner_opened : {H : Type 0} (hash : List ℕ → List ℕ) (holds : H → List ℕ → Type 0) (q : Question) (m : Machine H)
-    (s : Stack (Frame H)) (x : OpenNode H) (w n : ℕ) (given : List Record) (a : Above) → 1 ≤ n
+    (s : Stack (Frame H)) (x : NodeHasher H) (w n : ℕ) (given : List Record) (a : Above) → 1 ≤ n
     → Gathered holds x (inner_tag ∷ (w + 1) ∷ n ∷ []) []
     → reverse s.list.items ≡ record { node = x; left = n - 1 } ∷ frames_of m
     → a.records ≡ [] → InTree hash holds q m.head (frames_of m) m.tally (w + 1) given a
     → StepsPastField hash holds q (record m { frames = s; stage = stage.Tag w }) given
-    (some_items (item (ways_at q m.head) w) n (λ Ps. opened (ways_at q m.head) (Inner Ps)
+    (some_items (item m.head.version (ways_at q m.head) w) n (λ Ps. opened m.head.version (ways_at q m.head) (Inner Ps)
     (after (ways_at q m.head) m.head (w + 1) a.nodes))) stepped.On
 inner_opened hash holds q m s x w n given a some gathers there none is =
     let way = ways_at q m.head in
-    let X = λ (Ps : Cuts). opened way (Inner Ps) (after way m.head (w + 1) a.nodes) in
+    let u = m.head.version in
+    let X = λ (Ps : Cuts). opened u way (Inner Ps) (after way m.head (w + 1) a.nodes) in
     let o : Open = record { front = []; left = n - 1 } in
     let next = after way m.head w (o ∷ a.nodes) in
-    let g = reads (want.Tag w) (λ t. node_next way w next (tag_in t)) in
+    let g = reads (want.Tag w) (λ t. node_next u way w next (tag_in t)) in
     let count : n ≡ suc (n - 1) = omega arith in
-    let reads_on : some_items (item way w) n X ≡ g = ap (λ (k : ℕ). some_items (item way w) k X) count
-    ∙ item_waits way w next in
+    let reads_on : some_items (item u way w) n X ≡ g = ap (λ (k : ℕ). some_items (item u way w) k X) count
+    ∙ item_waits u way w next in
     let total : n ≡ 0 + ((n - 1) + 1) = omega arith in
-    waits_on hash holds q (record m { frames = s; stage = stage.Tag w }) given (some_items (item way w) n X) g
+    waits_on hash holds q (record m { frames = s; stage = stage.Tag w }) given (some_items (item u way w) n X) g
     (ap noted reads_on) (ap past_notes reads_on) (record {
       above = record { nodes = o ∷ a.nodes; records = [] };
       whole = None;
@@ -265,35 +312,36 @@ inner_opened hash holds q m s x w n given a some gathers there none is =
 -- ---- records
 
 record_waits : (way : Key → Way) (h : Head) (n : ℕ) (os : List Open) (rs : List Record) (r : Record)
-    → some_records way (suc n) (λ ts. opened way (Leaf (rs ++ r ∷ ts)) (after way h 0 os))
-    ≡ reads want.Number (λ v. behind_number (after_record way h n os (rs ++ r ∷ [])) (number_in v))
+    → some_records h.version way (suc n) (λ ts. opened h.version way (Leaf (rs ++ r ∷ ts)) (after way h 0 os))
+    ≡ reads want.Number (λ v. behind_number h.version (after_record way h n os (rs ++ r ∷ [])) (number_in v))
 record_waits way h n os rs r =
-    λ j. reads want.Number (λ v. behind_number (λ (x : Record). notes (opens x (keeps_at way x.rect))
-    (some_records way n (λ ts. opened way (Leaf (sym (append_assoc rs (r ∷ []) (x ∷ ts)) j))
+    λ j. reads want.Number (λ v. behind_number h.version (λ (x : Record). notes (opens x (keeps_record way x))
+    (some_records h.version way n (λ ts. opened h.version way (Leaf (sym (append_assoc rs (r ∷ []) (x ∷ ts)) j))
     (after way h 0 os)))) (number_in v))
 
 first_waits : (way : Key → Way) (h : Head) (n : ℕ) (os : List Open)
-    → some_records way (suc n) (λ ts. opened way (Leaf ts) (after way h 0 os))
-    ≡ reads want.Number (λ v. behind_number (after_record way h n os []) (number_in v))
+    → some_records h.version way (suc n) (λ ts. opened h.version way (Leaf ts) (after way h 0 os))
+    ≡ reads want.Number (λ v. behind_number h.version (after_record way h n os []) (number_in v))
 first_waits way h n os = refl
 
 pub leaf_opened : {H : Type 0} (hash : List ℕ → List ℕ) (holds : H → List ℕ → Type 0) (q : Question) (m : Machine H)
-    (x : OpenNode H) (n : ℕ) (given : List Record) (a : Above) → 1 ≤ n
+    (x : NodeHasher H) (n : ℕ) (given : List Record) (a : Above) → 1 ≤ n
     → Gathered holds x (leaf_tag ∷ n ∷ []) []
     → a.records ≡ [] → InTree hash holds q m.head (frames_of m) m.tally 0 given a
     → StepsPastField hash holds q (record m { leaf = record { node = x; left = n - 1 }; stage = stage.Number })
-    given (some_records (ways_at q m.head) n (λ rs. opened (ways_at q m.head) (Leaf rs)
+    given (some_records m.head.version (ways_at q m.head) n (λ rs. opened m.head.version (ways_at q m.head) (Leaf rs)
     (after (ways_at q m.head) m.head 0 a.nodes))) stepped.On
 leaf_opened hash holds q m x n given a some gathers none is =
     let way = ways_at q m.head in
-    let X = λ (rs : List Record). opened way (Leaf rs) (after way m.head 0 a.nodes) in
-    let g = reads want.Number (λ v. behind_number (after_record way m.head (n - 1) a.nodes []) (number_in v)) in
+    let u = m.head.version in
+    let X = λ (rs : List Record). opened u way (Leaf rs) (after way m.head 0 a.nodes) in
+    let g = reads want.Number (λ v. behind_number u (after_record way m.head (n - 1) a.nodes []) (number_in v)) in
     let count : n ≡ suc (n - 1) = omega arith in
-    let reads_on : some_records way n X ≡ g = ap (λ (k : ℕ). some_records way k X) count
+    let reads_on : some_records u way n X ≡ g = ap (λ (k : ℕ). some_records u way k X) count
     ∙ first_waits way m.head (n - 1) a.nodes in
     let total : n ≡ 0 + ((n - 1) + 1) = omega arith in
     waits_on hash holds q (record m { leaf = record { node = x; left = n - 1 }; stage = stage.Number })
-    given (some_records way n X) g (ap noted reads_on) (ap past_notes reads_on) (record {
+    given (some_records u way n X) g (ap noted reads_on) (ap past_notes reads_on) (record {
       above = record { nodes = a.nodes; records = [] };
       whole = None;
       waits = refl;
@@ -340,25 +388,26 @@ found_steps hash holds q m given false r g is quiet w =
     (quiet, record { next = w.next; past = w.past; waits = w.waits })
 
 -- a record more was added
-abbrev pub AddsRecord : {H : Type 0} → (H → List ℕ → Type 0) → OpenNode H → OpenNode H → Record → Type 0
-AddsRecord holds m n r =
+abbrev pub AddsRecord : {H : Type 0} → Version → (H → List ℕ → Type 0) → NodeHasher H → NodeHasher H → Record
+    → Type 0
+AddsRecord u holds m n r =
     (head : List ℕ) (pieces : List Piece) → Gathered holds m head pieces
-    → Gathered holds n head (pieces ++ of_record version r ∷ [])
+    → Gathered holds n head (pieces ++ of_record u r ∷ [])
 
 -- what is gathered of a leaf with one record more
-added : {H : Type 0} (holds : H → List ℕ → Type 0) (m n : OpenNode H) (r : Record) (rs : List Record) (k j : ℕ)
-    → k ≡ j → AddsRecord holds m n r → Gathered holds m (leaf_tag ∷ k ∷ []) (map (of_record version) rs)
-    → Gathered holds n (leaf_tag ∷ j ∷ []) (map (of_record version) (rs ++ r ∷ []))
-added holds m n r rs k j e adds is =
+added : {H : Type 0} (u : Version) (holds : H → List ℕ → Type 0) (m n : NodeHasher H) (r : Record) (rs : List Record) (k j : ℕ)
+    → k ≡ j → AddsRecord u holds m n r → Gathered holds m (leaf_tag ∷ k ∷ []) (map (of_record u) rs)
+    → Gathered holds n (leaf_tag ∷ j ∷ []) (map (of_record u) (rs ++ r ∷ []))
+added u holds m n r rs k j e adds is =
     subst (λ (x : ℕ × List Piece). Gathered holds n (leaf_tag ∷ x.0 ∷ []) x.1)
-    (λ i. (e i, sym (map-append (of_record version) rs (r ∷ [])) i))
-    (adds (leaf_tag ∷ k ∷ []) (map (of_record version) rs) is)
+    (λ i. (e i, sym (map-append (of_record u) rs (r ∷ [])) i))
+    (adds (leaf_tag ∷ k ∷ []) (map (of_record u) rs) is)
 
 pub record_on : {H : Type 0} (hash : List ℕ → List ℕ) (holds : H → List ℕ → Type 0) (q : Question) (m : Machine H)
-    (n : OpenNode H) (t : RadiusCounts) (handed_on : Bool) (given : List Record) (a : Above)
-    → AddsRecord holds m.leaf.node n m.latest → 0 < m.leaf.left → handed_on ≡ is_handed_out q m.head m.latest
+    (n : NodeHasher H) (t : RadiusCounts) (handed_on : Bool) (given : List Record) (a : Above)
+    → AddsRecord m.head.version holds m.leaf.node n m.latest → 0 < m.leaf.left → handed_on ≡ is_handed_out q m.head m.latest
     → CountsRecords q.around m.head.radius (plus handed_on given m.latest) t
-    → IsLeaf holds m.leaf a.records → InTree hash holds q m.head (frames_of m) m.tally 0 given a
+    → IsLeaf m.head.version holds m.leaf a.records → InTree hash holds q m.head (frames_of m) m.tally 0 given a
     → StepsPastField hash holds q (record m {
       leaf = record { node = n; left = m.leaf.left - 1 };
       tally = t;
@@ -370,15 +419,16 @@ record_on hash holds q m n t handed_on given a adds some is_met counts leaf is =
     let r = m.latest in
     let left = m.leaf.left in
     let all = a.records ++ r ∷ [] in
-    let X = λ (ts : List Record). opened way (Leaf (a.records ++ r ∷ ts)) (after way m.head 0 a.nodes) in
-    let k = reads want.Number (λ v. behind_number (after_record way m.head (left - 1) a.nodes all) (number_in v)) in
+    let u = m.head.version in
+    let X = λ (ts : List Record). opened u way (Leaf (a.records ++ r ∷ ts)) (after way m.head 0 a.nodes) in
+    let k = reads want.Number (λ v. behind_number u (after_record way m.head (left - 1) a.nodes all) (number_in v)) in
     let count : left ≡ suc (left - 1) = omega arith in
-    let reads_on : some_records way left X ≡ k = ap (λ (n : ℕ). some_records way n X) count
+    let reads_on : some_records u way left X ≡ k = ap (λ (n : ℕ). some_records u way n X) count
     ∙ record_waits way m.head (left - 1) a.nodes a.records r in
     let total : length a.records + (left + 1) ≡ length all + ((left - 1) + 1) = omega
     (arith, length-append a.records (r ∷ [])) in
     let after_it = record m { leaf = record { node = n; left = left - 1 }; tally = t; stage = stage.Number } in
-    let w : WaitsPast hash holds q after_it (plus handed_on given r) (some_records way left X) = record {
+    let w : WaitsPast hash holds q after_it (plus handed_on given r) (some_records u way left X) = record {
       next = k;
       past = ap past_notes reads_on;
       waits = record {
@@ -386,7 +436,7 @@ record_on hash holds q m n t handed_on given a adds some is_met counts leaf is =
         whole = None;
         waits = refl;
         is_open = (
-          added holds m.leaf.node n r a.records (length a.records + (left + 1)) (length all + ((left - 1) + 1)) total
+          added u holds m.leaf.node n r a.records (length a.records + (left + 1)) (length all + ((left - 1) + 1)) total
               adds leaf,
           record {
             depth = is.depth;
@@ -398,22 +448,22 @@ record_on hash holds q m n t handed_on given a adds some is_met counts leaf is =
         );
       };
     } in
-    subst (λ (b : Bool). StepsPastField hash holds q after_it given (notes (opens r b) (some_records way left X))
+    subst (λ (b : Bool). StepsPastField hash holds q after_it given (notes (opens r b) (some_records u way left X))
     (found_by None handed_on)) is_met
-    (found_steps hash holds q after_it given handed_on r (some_records way left X) refl (ap noted reads_on) w)
+    (found_steps hash holds q after_it given handed_on r (some_records u way left X) refl (ap noted reads_on) w)
 
 -- the last record of a leaf
 pub leaf_read : {H : Type 0} (hash : List ℕ → List ℕ) (holds : H → List ℕ → Type 0) (q : Question) (h : Head)
-    (fs : List (Frame H)) (old new : RadiusCounts) (f : Frame H) (n : OpenNode H) (handed_on : Bool) (r : Record)
-    (given : List Record) (a : Above) → AddsRecord holds f.node n r → f.left ≡ 0 → handed_on ≡ is_handed_out q h r
+    (fs : List (Frame H)) (old new : RadiusCounts) (f : Frame H) (n : NodeHasher H) (handed_on : Bool) (r : Record)
+    (given : List Record) (a : Above) → AddsRecord h.version holds f.node n r → f.left ≡ 0 → handed_on ≡ is_handed_out q h r
     → CountsRecords q.around h.radius (plus handed_on given r) new
-    → IsLeaf holds f a.records → InTree hash holds q h fs old 0 given a
+    → IsLeaf h.version holds f a.records → InTree hash holds q h fs old 0 given a
     → LeafRead hash holds q h fs new (record { node = n; left = f.left }) (plus handed_on given r) a r
 leaf_read hash holds q h fs old new f n handed_on r given a adds none is_met counts leaf is =
     let total : length a.records + (f.left + 1) ≡ length (a.records ++ r ∷ []) = omega
     (arith, length-append a.records (r ∷ [])) in
     record {
-      gathers = added holds f.node n r a.records (length a.records + (f.left + 1)) (length (a.records ++ r ∷ [])) total
+      gathers = added h.version holds f.node n r a.records (length a.records + (f.left + 1)) (length (a.records ++ r ∷ [])) total
           adds leaf;
       depth = omega (arith, is.depth);
       frames = is.frames;
@@ -446,22 +496,21 @@ leaf_rect : {H : Type 0} (hash : List ℕ → List ℕ) (holds : H → List ℕ 
     (fs : List (Frame H)) (t : RadiusCounts) (f : Frame H) (x : Entry) (given : List Record) (a : Above) (r : Record)
     (b : Bool)
     → IsClosing (scheme hash h) holds f.node 0 x
-    → opens_seen (ways_at q h) (option_map key_at x.rect) ≡ b
+    → opens_seen (ways_at q h) (option_map (key_at h.version x.mask) x.rect) ≡ b
     → LeafRead hash holds q h fs t f given a r
-    → opens_seen (ways_at q h) (key_of (Leaf (a.records ++ r ∷ []))) ≡ b
+    → opens_seen (ways_at q h) (key_of h.version (Leaf (a.records ++ r ∷ []))) ≡ b
 leaf_rect hash holds q h fs t f x given a r b c handed_on is =
-    let place : x.rect ≡ rect (Leaf (a.records ++ r ∷ [])) =
-    sym (ap (λ (y : Entry). y.rect) (leaf_said hash holds q h fs t f x given a r c is).says) in
-    ap (λ (z : Option Rectangle). opens_seen (ways_at q h) (option_map key_at z)) (sym place) ∙ handed_on
+    seen_by (scheme hash h) (ways_at q h) x.level (Leaf (a.records ++ r ∷ [])) x
+    (leaf_said hash holds q h fs t f x given a r c is).says ∙ handed_on
 
 pub leaf_missed : {H : Type 0} (hash : List ℕ → List ℕ) (holds : H → List ℕ → Type 0) (q : Question) (h : Head)
     (fs : List (Frame H)) (t : RadiusCounts) (f : Frame H) (x : Entry) (given : List Record) (a : Above) (r : Record)
     → IsClosing (scheme hash h) holds f.node 0 x
-    → opens_seen (ways_at q h) (option_map key_at x.rect) ≡ false
+    → opens_seen (ways_at q h) (option_map (key_at h.version x.mask) x.rect) ≡ false
     → LeafRead hash holds q h fs t f given a r
     → past_notes (after_record (ways_at q h) h 0 a.nodes a.records r) ≡ Err rule.Needless
 leaf_missed hash holds q h fs t f x given a r c missed is =
-    past_missed (ways_at q h) (Leaf (a.records ++ r ∷ [])) (after (ways_at q h) h 0 a.nodes)
+    past_missed h.version (ways_at q h) (Leaf (a.records ++ r ∷ [])) (after (ways_at q h) h 0 a.nodes)
     (leaf_rect hash holds q h fs t f x given a r false c missed is)
 
 leaf_found : {H : Type 0} (hash : List ℕ → List ℕ) (holds : H → List ℕ → Type 0) (q : Question) (m : Machine H)
@@ -482,7 +531,7 @@ pub leaf_closed : {H : Type 0} (hash : List ℕ → List ℕ) (holds : H → Lis
     (fs : List (Frame H)) (t : RadiusCounts) (m : Machine H) (f : Frame H) (x : Entry) (handed_on : Bool)
     (given : List Record)
     (a : Above) (r : Record) (broken : Option Rule) → m.latest ≡ r → IsClosing (scheme hash h) holds f.node 0 x
-    → opens_seen (ways_at q h) (option_map key_at x.rect) ≡ true → handed_on ≡ is_handed_out q h r
+    → opens_seen (ways_at q h) (option_map (key_at h.version x.mask) x.rect) ≡ true → handed_on ≡ is_handed_out q h r
     → ((os : List Open) (P : Cut) → HasReadCut hash holds q h fs t x (plus handed_on given r) os P
     → ClosesNode hash holds q m (plus handed_on given r) (after (ways_at q h) h x.level os P) broken)
     → LeafRead hash holds q h fs t f (plus handed_on given r) a r
@@ -491,47 +540,63 @@ pub leaf_closed : {H : Type 0} (hash : List ℕ → List ℕ) (holds : H → Lis
 leaf_closed hash holds q h fs t m f x handed_on given a r broken same c meets is_met behind_it is =
     let way = ways_at q h in
     let all = a.records ++ r ∷ [] in
-    let behind = opened way (Leaf all) (after way h 0 a.nodes) in
+    let behind = opened h.version way (Leaf all) (after way h 0 a.nodes) in
     subst (λ (b : Bool). StepsPastField hash holds q m given (notes (opens r b) behind) (found_by broken handed_on))
     is_met
     (leaf_found hash holds q m given handed_on r behind (after way h 0 a.nodes (Leaf all)) broken same
     (after_quiet way h 0 a.nodes (Leaf all))
-    (past_met way (Leaf all) (after way h 0 a.nodes)
+    (past_met h.version way (Leaf all) (after way h 0 a.nodes)
     (leaf_rect hash holds q h fs t f x (plus handed_on given r) a r true c meets is))
     (closed_at hash holds q m h (plus handed_on given r) way 0 x.level a.nodes (Leaf all) broken c.level
     (behind_it a.nodes (Leaf all) (leaf_said hash holds q h fs t f x (plus handed_on given r) a r c is))))
 
 -- a field of a record that is not its last
 pub sides_on : {H : Type 0} (hash : List ℕ → List ℕ) (holds : H → List ℕ → Type 0) (q : Question) (m : Machine H)
-    (n : ℕ) (given : List Record) (a : Above) → IsLeaf holds m.leaf a.records
+    (n : ℕ) (given : List Record) (a : Above) → IsLeaf m.head.version holds m.leaf a.records
     → InTree hash holds q m.head (frames_of m) m.tally 0 given a
     → StepsPastField hash holds q (record m { stage = stage.Sides n }) given
-    (behind_number (after_record (ways_at q m.head) m.head m.leaf.left a.nodes a.records) n) stepped.On
+    (behind_number m.head.version (after_record (ways_at q m.head) m.head m.leaf.left a.nodes a.records) n) stepped.On
 sides_on hash holds q m n given a leaf is =
-    let g = behind_number (after_record (ways_at q m.head) m.head m.leaf.left a.nodes a.records) n in
+    let g = behind_number m.head.version (after_record (ways_at q m.head) m.head m.leaf.left a.nodes a.records) n in
     waits_on hash holds q (record m { stage = stage.Sides n }) given g g refl refl
     (record { above = a; whole = None; waits = refl; is_open = (leaf, is) })
 
-pub length_on : {H : Type 0} (hash : List ℕ → List ℕ) (holds : H → List ℕ → Type 0) (q : Question) (m : Machine H)
-    (n : ℕ) (r : Rectangle) (given : List Record) (a : Above) → IsLeaf holds m.leaf a.records
+-- behind the rectangle, where the version that is told stands in the head
+pub layer_on : {H : Type 0} (hash : List ℕ → List ℕ) (holds : H → List ℕ → Type 0) (q : Question) (m : Machine H)
+    (u : Version) (n : ℕ) (r : Rectangle) (given : List Record) (a : Above) → IsLeaf m.head.version holds m.leaf a.records
     → InTree hash holds q m.head (frames_of m) m.tally 0 given a
-    → StepsPastField hash holds q (record m { stage = stage.Length n r }) given
-    (behind_sides (after_record (ways_at q m.head) m.head m.leaf.left a.nodes a.records) n r) stepped.On
-length_on hash holds q m n r given a leaf is =
-    let g = behind_sides (after_record (ways_at q m.head) m.head m.leaf.left a.nodes a.records) n r in
-    waits_on hash holds q (record m { stage = stage.Length n r }) given g g refl refl
+    → StepsPastField hash holds q (record m { stage = behind_rect u n r }) given
+    (behind_sides u (after_record (ways_at q m.head) m.head m.leaf.left a.nodes a.records) n r) stepped.On
+layer_on hash holds q m One n r given a leaf is =
+    let g = behind_sides One (after_record (ways_at q m.head) m.head m.leaf.left a.nodes a.records) n r in
+    waits_on hash holds q (record m { stage = stage.Length n r 0 }) given g g refl refl
+    (record { above = a; whole = None; waits = refl; is_open = (leaf, is) })
+layer_on hash holds q m Two n r given a leaf is =
+    let g = behind_sides Two (after_record (ways_at q m.head) m.head m.leaf.left a.nodes a.records) n r in
+    waits_on hash holds q (record m { stage = stage.Layer n r }) given g g refl refl
+    (record { above = a; whole = None; waits = refl; is_open = (leaf, is) })
+
+pub length_on : {H : Type 0} (hash : List ℕ → List ℕ) (holds : H → List ℕ → Type 0) (q : Question) (m : Machine H)
+    (n : ℕ) (r : Rectangle) (y : ℕ) (given : List Record) (a : Above) → IsLeaf m.head.version holds m.leaf a.records
+    → InTree hash holds q m.head (frames_of m) m.tally 0 given a
+    → StepsPastField hash holds q (record m { stage = stage.Length n r y }) given
+    (behind_layer (after_record (ways_at q m.head) m.head m.leaf.left a.nodes a.records) n r y) stepped.On
+length_on hash holds q m n r y given a leaf is =
+    let g = behind_layer (after_record (ways_at q m.head) m.head m.leaf.left a.nodes a.records) n r y in
+    waits_on hash holds q (record m { stage = stage.Length n r y }) given g g refl refl
     (record { above = a; whole = None; waits = refl; is_open = (leaf, is) })
 
 pub payload_on : {H : Type 0} (hash : List ℕ → List ℕ) (holds : H → List ℕ → Type 0) (q : Question) (m : Machine H)
-    (n : ℕ) (r : Rectangle) (l : ℕ) (given : List Record) (a : Above) → 0 < l → IsLeaf holds m.leaf a.records
+    (n : ℕ) (r : Rectangle) (y l : ℕ) (given : List Record) (a : Above) → 0 < l
+    → IsLeaf m.head.version holds m.leaf a.records
     → InTree hash holds q m.head (frames_of m) m.tally 0 given a
-    → StepsPastField hash holds q (record m { stage = stage.Payload n r l }) given
-    (behind_length (after_record (ways_at q m.head) m.head m.leaf.left a.nodes a.records) n r l) stepped.On
-payload_on hash holds q m n r l given a some leaf is =
+    → StepsPastField hash holds q (record m { stage = stage.Payload n r y l }) given
+    (behind_length (after_record (ways_at q m.head) m.head m.leaf.left a.nodes a.records) n r y l) stepped.On
+payload_on hash holds q m n r y l given a some leaf is =
     let next = after_record (ways_at q m.head) m.head m.leaf.left a.nodes a.records in
     let is_not : eqb l 0 ≡ false = ne_eqb l 0 (λ e. omega arith) in
-    let g = reads (want.Payload l) (λ p. next (record { number = n; rect = r; layer = 0; payload = bytes_in p })) in
-    let here : behind_length next n r l ≡ g = rw is_not refl in
-    waits_on hash holds q (record m { stage = stage.Payload n r l }) given (behind_length next n r l) g
+    let g = reads (want.Payload l) (λ p. next (record { number = n; rect = r; layer = y; payload = bytes_in p })) in
+    let here : behind_length next n r y l ≡ g = rw is_not refl in
+    waits_on hash holds q (record m { stage = stage.Payload n r y l }) given (behind_length next n r y l) g
     (ap noted here) (ap past_notes here)
     (record { above = a; whole = None; waits = refl; is_open = (leaf, is) })

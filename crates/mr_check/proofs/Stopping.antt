@@ -182,7 +182,7 @@ pub checked_stop : (hash : List ℕ → List ℕ) (root : List ℕ) (q : Questio
     → checked hash root q bytes ≡ ends_at (ending hash root q) (stop_of q bytes)
 unfolding checked stop_of
 checked_stop hash root q bytes =
-    walk_stop (ending hash root q) (ending_trails hash root q) (whole q.kind q.way) (start bytes)
+    walk_stop (ending hash root q) (ending_trails hash root q) (whole q.kind q.two_only q.way) (start bytes)
 
 -- ---- a fault at which reading stops is settled
 
@@ -196,7 +196,7 @@ settles r d e h = subst IsSettled e h
 field_settled : (w : Want) (raw : List ℕ) (d : Rule) → field_of w raw ≡ Err d → IsSettled d
 unfolding field_of
 field_settled want.Magic raw d e = settles rule.BadMagic d (broken_is _ _ _ d e) tt
-field_settled want.Version raw d e = settles rule.BadVersion d (broken_is _ _ _ d e) tt
+field_settled (want.Version two_only) raw d e = settles rule.BadVersion d (broken_is _ _ _ d e) tt
 field_settled (want.Kind k) raw d e = settles rule.WrongKind d (broken_is _ _ _ d e) tt
 field_settled want.Batch raw d e = absurd cc
 field_settled want.Count raw d e = settles rule.BadCount d (broken_is _ _ _ d e) tt
@@ -208,8 +208,11 @@ field_settled want.LeafCount raw d e = settles rule.BadEntries d (broken_is _ _ 
 field_settled want.InnerCount raw d e = settles rule.BadEntries d (broken_is _ _ _ d e) tt
 field_settled want.Number raw d e = absurd cc
 field_settled want.Rect raw d e = settles rule.BadRect d (broken_is _ _ _ d e) tt
+field_settled want.Layer raw d e = settles rule.BadLayer d (broken_is _ _ _ d e) tt
 field_settled want.Length raw d e = settles rule.BadLength d (broken_is _ _ _ d e) tt
 field_settled (want.Payload n) raw d e = absurd cc
+field_settled want.Mask raw d e = absurd cc
+field_settled want.Tally raw d e = settles rule.BadCount d (broken_is _ _ _ d e) tt
 field_settled want.Digest raw d e = absurd cc
 
 judged_settled : (r : Rule) → IsJudged r → IsSettled r
@@ -248,4 +251,4 @@ stop_settled n (notes (opens r met) next) sized s f e = stop_settled n next size
 pub fault_settled : (q : Question) (bytes : List ℕ) (f : Fault) → stop_of q bytes ≡ fails f → IsSettled f.rule
 unfolding stop_of
 fault_settled q bytes f e =
-    stop_settled 0 (whole q.kind q.way) (sized_whole q.kind q.way) (start bytes) f e
+    stop_settled 0 (whole q.kind q.two_only q.way) (sized_whole q.kind q.two_only q.way) (start bytes) f e

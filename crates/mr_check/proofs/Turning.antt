@@ -12,11 +12,12 @@ use Rattle.mr_proof.specs.declared.want.Want.TheVariants as want
 use Rattle.mr_proof.specs.declared.field.Field.{Field}
 use Rattle.mr_proof.specs.declared.head.Head.{Head}
 use Rattle.mr_proof.specs.Limits.{place_limit}
-use Rattle.mr_proof.specs.Fields.{version, size_of, field_of}
+use Rattle.mr_proof.specs.Fields.{size_of, field_of}
 use Rattle.mr_proof.specs.Cut.{Cut}
 use Rattle.mr_proof.specs.Spelling.{Parsed, said}
 use Rattle.mr_proof.specs.declared.way.Way.{Way}
-use Rattle.mr_proof.specs.Tight.{Key, Question}
+use Rattle.mr_query.specs.declared.key.Key.{Key}
+use Rattle.mr_proof.specs.Tight.{Question}
 use Rattle.mr_proof.specs.Grammar.{Grammar, done, reads, number_in, whole}
 use Rattle.mr_proof.specs.Layout.{fault, Cursor, start}
 use Rattle.mr_check.specs.declared.stage.Stage.{Stage}
@@ -123,24 +124,24 @@ goes_on : (q : Question) (s more : List ℕ) (g : Grammar Parsed) (t : Cursor) �
     → stop_of q (s ++ more) ≡ stop g (longer more t)
 unfolding stop_of
 goes_on q s more g t e =
-    stop_more more (whole q.kind q.way) (start s) ∙ ap (λ (z : Stop Parsed). resume z more) e
+    stop_more more (whole q.kind q.two_only q.way) (start s) ∙ ap (λ (z : Stop Parsed). resume z more) e
 
 hands_on : (q : Question) (s more : List ℕ) (g : Grammar Parsed) (t : Cursor) → stop_of q s ≡ waits g t
     → handed_out q (s ++ more) ≡ handed_out q s ++ handed g (longer more t)
 unfolding handed_out stop_of
 hands_on q s more g t e =
-    handed_more more (whole q.kind q.way) (start s)
-    ∙ ap (λ (z : Stop Parsed). handed (whole q.kind q.way) (start s) ++ handed_on z more) e
+    handed_more more (whole q.kind q.two_only q.way) (start s)
+    ∙ ap (λ (z : Stop Parsed). handed (whole q.kind q.two_only q.way) (start s) ++ handed_on z more) e
 
 -- a fault stays, and nothing more is handed out
 pub stays : (q : Question) (s more : List ℕ) (f : Fault) → stop_of q s ≡ fails f
     → (stop_of q (s ++ more) ≡ fails f) × (handed_out q (s ++ more) ≡ handed_out q s)
 unfolding handed_out stop_of
 stays q s more f e = (
-  stop_more more (whole q.kind q.way) (start s) ∙ ap (λ (z : Stop Parsed). resume z more) e,
-  handed_more more (whole q.kind q.way) (start s)
-      ∙ ap (λ (z : Stop Parsed). handed (whole q.kind q.way) (start s) ++ handed_on z more) e
-      ∙ append-nil (handed (whole q.kind q.way) (start s)),
+  stop_more more (whole q.kind q.two_only q.way) (start s) ∙ ap (λ (z : Stop Parsed). resume z more) e,
+  handed_more more (whole q.kind q.two_only q.way) (start s)
+      ∙ ap (λ (z : Stop Parsed). handed (whole q.kind q.two_only q.way) (start s) ++ handed_on z more) e
+      ∙ append-nil (handed (whole q.kind q.two_only q.way) (start s)),
 )
 
 -- the field that is under way, of a reader that stands
@@ -307,29 +308,30 @@ record_waits hash holds q r s is none at =
 pub turn_record : {H : Type 0} (hash : List ℕ → List ℕ) (holds : H → List ℕ → Type 0) (q : Question) (r new : Reader H)
     (s piece : List ℕ) (n : ℕ) (one : Record) (turn : Progress) → IsWhole r piece one n
     → ((given : List Record) (a : Above) (p : Option Cut) → IsOpen hash holds q r.machine stage.Number given a p
-    → Behind hash holds q given (r.at + n) (last_field r.at one) n new
+    → Behind hash holds q given (r.at + n) (last_field r.machine.head.version r.at one) n new
     (after_record (ways_at q r.machine.head) r.machine.head r.machine.leaf.left a.nodes a.records one) turn)
     → StandsAt hash holds q r s → MakesProgress hash holds q s piece new turn
 turn_record hash holds q r new s piece n one turn w behind at =
     let i = record_waits hash holds q r s w.stage w.held at in
     let X = after_record (ways_at q r.machine.head) r.machine.head r.machine.leaf.left i.above.nodes i.above.records
     in
-    let g = reads want.Number (λ v. behind_number X (number_in v)) in
+    let u = r.machine.head.version in
+    let g = reads want.Number (λ v. behind_number u X (number_in v)) in
     let t : Cursor = record { at = r.at; last = i.last; rest = [] } in
     let stops : stop_of q s ≡ waits g t = i.stops ∙ (λ j. waits
     (reads want.Number (next_at q.way r.machine.head
     r.machine.leaf.left i.above (w.stage j))) (record { at = r.at; last = i.last; rest = w.held j })) in
     let is_open : IsOpen hash holds q r.machine stage.Number (handed_out q s) i.above i.part =
     subst (λ (z : Stage). IsOpen hash holds q r.machine z (handed_out q s) i.above i.part) w.stage i.is_open in
-    let within : r.at + length (record_bytes version one) ≤ place_limit = omega (arith, w.sized, w.place) in
-    let front : take n piece ≡ record_bytes version one = ap (take n) w.bytes
-    ∙ take-append-le n (record_bytes version one) (drop n piece) (omega (arith, w.sized))
-    ∙ take_all n (record_bytes version one) (omega (arith, w.sized)) in
-    let less : take (n - 1) piece ≡ take (length (record_bytes version one) - 1) (record_bytes version one) =
+    let within : r.at + length (record_bytes u one) ≤ place_limit = omega (arith, w.sized, w.place) in
+    let front : take n piece ≡ record_bytes u one = ap (take n) w.bytes
+    ∙ take-append-le n (record_bytes u one) (drop n piece) (omega (arith, w.sized))
+    ∙ take_all n (record_bytes u one) (omega (arith, w.sized)) in
+    let less : take (n - 1) piece ≡ take (length (record_bytes u one) - 1) (record_bytes u one) =
     sym (take-take (n - 1) n piece (omega arith)) ∙ (λ j. take (w.sized j - 1) (front j)) in
-    let read = record_on X one r.at i.last w.is_record w.layer within in
-    let size : r.at + length (record_bytes version one) ≡ r.at + n = ap (λ (k : ℕ). r.at + k) (sym w.sized) in
-    let last = last_field r.at one in
+    let read = record_on u X one r.at i.last w.is_record w.layer within in
+    let size : r.at + length (record_bytes u one) ≡ r.at + n = ap (λ (k : ℕ). r.at + k) (sym w.sized) in
+    let last = last_field u r.at one in
     turn_behind hash holds q new s piece (drop n piece) n (r.at + n) last (X one) turn
     (take-append-drop n piece)
     (goes_on q s (take n piece) g t stops ∙ ap (λ (bytes : List ℕ). stop g
@@ -342,7 +344,7 @@ turn_record hash holds q r new s piece n one turn w behind at =
     (hands_on q s (take (n - 1) piece) g t stops
     ∙ ap (λ (rs : List Record). handed_out q s ++ rs)
     (ap (λ (bytes : List ℕ). handed g (record { at = r.at; last = i.last; rest = bytes })) less
-    ∙ quiet_on X one r.at i.last w.is_record within)
+    ∙ quiet_on u X one r.at i.last w.is_record w.layer within)
     ∙ append-nil (handed_out q s))
     (behind (handed_out q s) i.above i.part is_open)
 

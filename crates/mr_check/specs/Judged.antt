@@ -8,7 +8,7 @@ use Rattle.mr_query.specs.Word.{IsQuery}
 use Rattle.mr_query.specs.declared.query.Query.{Query}
 use Rattle.mr_proof.specs.declared.rule.Fault.{Fault}
 use Rattle.mr_proof.specs.Spelling.{Parsed, opened_records}
-use Rattle.mr_proof.specs.Tight.{Question, question, keeps_at, IsLawful}
+use Rattle.mr_proof.specs.Tight.{Question, question, keeps_record, IsLawful}
 use Rattle.mr_proof.specs.Handed.{handed_out}
 use Rattle.mr_proof.specs.Feeding.{HandsOut}
 use Rattle.mr_proof.specs.Reading.{checked}
@@ -81,7 +81,7 @@ HasCollected hash holds root q h bytes = Took hash holds root q h.verifier h.kep
 pub record IsCollected (x : Parsed) (q : Question) (o : Collected) : Type 0 where
   pub outline : IsOutline x o.outline
   pub records : o.records.items
-      ≡ filter (λ (r : Record). keeps_at (q.way x.head.radius) r.rect) (opened_records x.part)
+      ≡ filter (keeps_record (q.way x.head.radius)) (opened_records x.part)
 
 -- what is answered for bytes: their verdict, unless memory ran out
 abbrev pub AnswersCollected : (List ℕ → List ℕ) → List ℕ → Question → List ℕ

@@ -1,3 +1,4 @@
 pub mod Answers
+pub mod Versions
 pub mod private
 pub mod Judged

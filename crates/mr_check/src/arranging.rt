@@ -1,14 +1,14 @@
 //! The records that were kept, put in rising number where they lie.
 
-ghost use Rattle.std.specs.Prelude.{◌≡◌, true, IfOk, OnOk};
+ghost use Rattle.std.specs.Prelude.{◌≡◌, ℕ, true, IfOk, OnOk};
 ghost use Rattle.std.specs.List.Sorted.{IsPermutation, IsNonDecreasing};
 ghost use Rattle.mr_geom.specs.Rectangle.{Rectangle};
-ghost use Rattle.mr_query.specs.Scan.{scan};
-ghost use Rattle.mr_query.specs.declared.query.Query.TheVariants as queries;
+ghost use Rattle.mr_query.specs.Scan.{on_layers, scan_shape, scan};
+ghost use Rattle.mr_query.specs.declared.query.Shape.TheVariants as shapes;
 ghost use Rattle.mr_check.specs.private.Differing.{rise, rise_after, numbers_of, EachOnce, AreInOrder};
 
 use mr_geom::Rect;
-use mr_query::Query;
+use mr_query::{Query, Shape};
 use mr_record::Record;
 use std::alloc::{AllocError, Global};
 
@@ -62,8 +62,9 @@ fn sort(records: &mut Vec<Record>)
 }
 
 fn arrange_window(records: &mut Vec<Record>, window: &Rect) -> Result<(), AllocError>
-    ensures same { OnOk result (scan records.new.items (queries.Window window.now)
-        ≡ scan records.old.items (queries.Window window.now)) }
+    ensures same { OnOk result ((layers : ℕ)
+        → scan_shape (on_layers layers records.new.items) (shapes.Window window.now)
+        ≡ scan_shape (on_layers layers records.old.items) (shapes.Window window.now)) }
     ensures in_order { OnOk result (EachOnce records.old.items → AreInOrder records.new.items) }
 {
     let alloc = *records.allocator();
@@ -78,11 +79,11 @@ fn arrange_window(records: &mut Vec<Record>, window: &Rect) -> Result<(), AllocE
 // them in order.
 pub(crate) fn arrange(records: &mut Vec<Record>, q: &Query) -> Result<(), AllocError>
     ensures same { OnOk result (scan records.new.items q.now ≡ scan records.old.items q.now) }
-    ensures in_order { (w : Rectangle) → q.now ≡ queries.Window w
+    ensures in_order { (w : Rectangle) → q.now.shape ≡ shapes.Window w
         → OnOk result (EachOnce records.old.items → AreInOrder records.new.items) }
 {
-    match q {
-        Query::Window(window) => arrange_window(records, window),
-        Query::Nearest { center: _, k: _ } => Ok(()),
+    match &q.shape {
+        Shape::Window(window) => arrange_window(records, window),
+        Shape::Nearest { center: _, k: _ } => Ok(()),
     }
 }

@@ -2,7 +2,6 @@
 
 ghost use Rattle.std.specs.Prelude.{◌≡◌, IfOk, Err};
 ghost use Rattle.mr_record.specs.declared.version.Version.{Version};
-ghost use Rattle.mr_record.specs.declared.version.Version.TheVariants.{One};
 ghost use Rattle.mr_tree.specs.Digest.{by};
 ghost use Rattle.mr_proof.specs.declared.rule.Fault.{Fault};
 ghost use Rattle.mr_query.specs.Word.{IsAskable};
@@ -44,9 +43,9 @@ fn answered_by<H: Hashes>(
 /// distance by rising number.
 ///
 /// A proof that proves nothing is refused with the first rule that it breaks. The proof is read
-/// once, from the front; kept are the records in the region of the proof, and a hasher and a
-/// rectangle for each of at most eight levels. The work is in proportion to the proof's length, and
-/// that of a sort of the records that were kept. A `Judge` takes the proof in pieces.
+/// once, from the front; kept are the records in reach of the query, and a hasher, a rectangle, a
+/// mask and a count for each of at most eight levels. The work is in proportion to the proof's
+/// length, and that of a sort of the records that were kept. A `Judge` takes the proof in pieces.
 pub fn check<H: Hashes>(
     alloc: Global,
     root: &[u8; 32],
@@ -61,9 +60,10 @@ pub fn check<H: Hashes>(
     ensures one_half { OneHalf H.of root.now q.now proof.now }
     // What an answer is worth: the bytes prove it; they are the honest proof of the map with this
     // root, and it is the answer of a scan, or the hash function has a collision. The honest proof
-    // of a map of version 1 is accepted, and any other string is refused or shows a collision.
+    // of a map, where there is one, is accepted, and any other string is refused or shows a
+    // collision.
     ensures proved { IfOk result (λ v. ProvesAnswer H.of root.now q.now proof.now v.items) }
-    ensures complete { AcceptsHonest (by One H.of) q.now }
+    ensures complete { (v : Version) → AcceptsHonest (by v H.of) q.now }
     ensures headline { (v : Version) → Headline (by v H.of) q.now proof.now }
     ensures accepted { (v : Version) → AcceptedIsHonest (by v H.of) q.now proof.now }
     ensures other_strings { (v : Version) → OthersFail (by v H.of) q.now proof.now }

@@ -1,25 +1,29 @@
 //! Nodes that were read whole, and what comes of the open nodes above them.
 
-ghost use Rattle.std.specs.Prelude.{◌≡◌, ◌+◌, ◌≤◌, List, option_map, vec_len};
+ghost use Rattle.std.specs.Prelude.{◌≡◌, ◌+◌, ◌^◌, ◌<◌, ◌≤◌, List, option_map, vec_len};
 ghost use Rattle.mr_record.specs.declared.record.Record as types;
 ghost use Rattle.mr_proof.specs.Cut.{Cut};
 ghost use Rattle.mr_proof.specs.Tight.{opens_seen, key_at};
-ghost use Rattle.mr_check.specs.private.Machine.{frames_of, Open, HasReadCut, ClosesNode, CloseFits, after, ways_at};
+ghost use Rattle.mr_check.specs.private.Machine.{frames_of, counted_so_far, Open, HasReadCut, ClosesNode, CloseFits, after, ways_at};
 
 use crate::frame::{pop, push};
 use crate::machine::Machine;
 use crate::stage::Stage;
-use mr_proof::{AsQuestion, Head, Rule};
+use mr_proof::{AsQuestion, Head, Rule, mask_seen};
+use mr_query::Key;
 use mr_tree::{Entry, Hashes};
 
 // Whether the node is to be opened.
 pub(crate) fn is_to_be_opened<A: AsQuestion>(q: &A, head: &Head, node: &Entry) -> bool
     ensures { result ≡ opens_seen (ways_at (A.question q.now) head.now)
-        (option_map key_at node.now.rect) }
+        (option_map (key_at head.now.version node.now.mask) node.now.rect) }
 {
     match node.rect {
         None => false,
-        Some(rect) => q.way(head.radius, &rect).is_open(),
+        Some(rect) => {
+            let mask = mask_seen(head.version, node.mask);
+            q.way(head.radius, &Key { rect, mask }).is_open()
+        }
     }
 }
 
@@ -30,8 +34,8 @@ pub(crate) fn close<H: Hashes, A: AsQuestion>(
     node: &Entry,
 ) -> Option<Rule>
     requires deep { vec_len m.old.frames.list + node.now.level ≤ 7 }
-    requires mask { node.now.mask ≡ 0 }
-    requires count { node.now.count ≡ 0 }
+    requires few { counted_so_far m.old + node.now.count < 2 ^ 64 }
+    ensures few { counted_so_far m.new ≤ counted_so_far m.old + node.now.count }
     ensures fits { CloseFits m.new.head.kind m.new.stage (vec_len m.new.frames.list) result }
     ensures kept { m.new.latest ≡ m.old.latest }
     ensures closes { (given : List types.Record) (os : List Open) (P : Cut)
@@ -47,7 +51,7 @@ pub(crate) fn close<H: Hashes, A: AsQuestion>(
             None
         }
         Some(mut frame) => {
-            frame.node.add_entry(node);
+            frame.node.add_entry(m.head.version, node);
             if frame.left > 0 {
                 frame.left -= 1;
                 push(&mut m.frames, frame);

@@ -2,7 +2,6 @@
 
 ghost use Rattle.std.specs.Prelude.{◌++◌, [], List, ℕ, IfOk, IfErr};
 ghost use Rattle.mr_record.specs.declared.version.Version.{Version};
-ghost use Rattle.mr_record.specs.declared.version.Version.TheVariants.{One};
 ghost use Rattle.mr_tree.specs.Digest.{by};
 ghost use Rattle.mr_proof.specs.Tight.{IsLawful};
 ghost use Rattle.mr_proof.specs.Halves.{ShowsJust, FaultsJust, SpellsOneOf, FindsPairOf, StaysRefused, AcceptsHonestProof};
@@ -134,11 +133,11 @@ pub fn check_question<H: Hashes, A: AsQuestion>(
     ensures shows { ShowsJust H.of root.now (A.question q.now) proof.now }
     ensures faults { FaultsJust H.of root.now (A.question q.now) proof.now }
     // What accepted bytes are worth: they are the honest proof of the map with this root, and show
-    // its head and cut, or the hash function has a collision. The honest proof of a map of version
-    // 1 is accepted.
+    // its head and cut, or the hash function has a collision. The honest proof of a map, where
+    // there is one, is accepted.
     ensures accepted { (v : Version) → AcceptedMatchesHonest (by v H.of) (A.question q.now)
         proof.now }
-    ensures complete { AcceptsHonestProof (by One H.of) (A.question q.now) }
+    ensures complete { (v : Version) → AcceptsHonestProof (by v H.of) (A.question q.now) }
     // A fault stays so behind whatever follows.
     ensures longer { StaysRefused H.of root.now (A.question q.now) proof.now }
     // What the bytes spell: one head and cut at most, which reading finds, and of which the opened

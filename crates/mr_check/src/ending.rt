@@ -10,26 +10,34 @@ ghost use Rattle.mr_proof.specs.Tight.{IsLawful};
 ghost use Rattle.mr_proof.specs.Headline.{AcceptedIsHonest, OthersFail};
 ghost use Rattle.mr_check.specs.Judged.{EndsAs};
 ghost use Rattle.mr_check.specs.private.Reads.{FitsReader, StandsBy, StandsAt, OtherRadius, found_at, EndsAt};
+ghost use Rattle.mr_check.specs.private.Machine.{is_other_tally};
 
 use crate::outline::Outline;
-use crate::radius_counts::has_other_radius;
+use crate::radius_counts::other_radius;
 use crate::reader::{Reader, fault_at};
 use crate::stage::Stage;
 use mr_proof::{AsQuestion, Fault, Head, Rule};
-use mr_tree::{Entry, Hashes, root_digest};
+use mr_tree::{Entry, Hashes, as_told, root_digest};
 
 // What is found as the root digest, from what the proof says of the root node.
 fn found_at<H: Hashes>(head: &Head, node: &Entry) -> [u8; 32]
     ensures { result ≡ found_at H.of head.now node.now }
 {
-    root_digest::<H>(head.version(), head.batch, head.count, node)
+    root_digest::<H>(head.version, head.batch, head.count, node)
 }
 
 // Whether the squared radius is another than that of the records that were handed out.
-fn is_other<H: Hashes, A: AsQuestion>(q: &A, r: &Reader<H>) -> bool
+fn is_other_radius<H: Hashes, A: AsQuestion>(q: &A, r: &Reader<H>) -> bool
     ensures { OtherRadius (A.question q.now) r.now result }
 {
-    has_other_radius(&r.machine.tally, q.around(), r.machine.head.radius)
+    other_radius(&r.machine.tally, q.around(), r.machine.head.radius)
+}
+
+// Whether the root node has another number of records than the head, as the version tells it.
+fn is_other_count(head: &Head, node: &Entry) -> bool
+    ensures { result ≡ is_other_tally head.now node.now }
+{
+    node.count != as_told(head.version, head.count)
 }
 
 // The verdict behind the last field.
@@ -46,8 +54,11 @@ fn at_last<H: Hashes, A: AsQuestion>(
     if found.as_slice() != root.as_slice() {
         return Err(fault_at(Rule::WrongRoot { found }, r.at));
     }
-    if is_other(q, r) {
+    if is_other_radius(q, r) {
         return Err(fault_at(Rule::WrongRadius, r.at));
+    }
+    if is_other_count(head, node) {
+        return Err(fault_at(Rule::WrongTally, r.at));
     }
     Ok(Outline {
         head: *head,

@@ -9,7 +9,7 @@ pub enum Fed {
     /// The whole piece was taken.
     More,
     /// So many bytes of the piece were taken, the last of which completes a record that is not left
-    /// out (of a query: that its region meets): this one. The rest of the piece is to be fed next.
+    /// out (of a query: that is in its reach): this one. The rest of the piece is to be fed next.
     Found { taken: usize, item: Record },
     /// The whole piece was taken. This is the verdict of every string that begins with the bytes so
     /// far.

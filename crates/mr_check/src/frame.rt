@@ -3,15 +3,14 @@
 ghost use Rattle.std.specs.Prelude.{◌≡◌, ◌+◌, ◌<◌, ◌≤◌, [], ◌∷◌, reverse, vec_len, vec_capacity, IfOk};
 ghost use Rattle.mr_check.specs.private.Popping.{PopsFrame};
 
-use crate::open_node::OpenNode;
-use mr_tree::Hashes;
+use mr_tree::{Hashes, NodeHasher};
 use std::alloc::{AllocError, Global};
 
 // An open node: what was gathered of the entries that were read, and how many stand behind the one
 // that is under way.
 #[derive(Drop)]
 pub(crate) struct Frame<H: Hashes> {
-    pub(crate) node: OpenNode<H>,
+    pub(crate) node: NodeHasher<H>,
     pub(crate) left: u8,
 }
 

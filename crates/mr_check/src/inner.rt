@@ -1,19 +1,25 @@
 //! Items: their tags, pruned parts, and the number of entries of opened nodes.
 
-ghost use Rattle.std.specs.Prelude.{◌≡◌, ◌+◌, ◌≤◌, [], List, vec_len};
+ghost use Rattle.std.specs.Prelude.{◌≡◌, ◌+◌, ◌^◌, ◌<◌, ◌≤◌, [], List, vec_len};
 ghost use Rattle.mr_record.specs.declared.record.Record as types;
 ghost use Rattle.mr_proof.specs.Cut.{Pruned, Inner, Leaf};
-ghost use Rattle.mr_proof.specs.Grammar.{item, some_items, some_records, opened};
-ghost use Rattle.mr_check.specs.private.Machine.{frames_of, Above, InTree, StepsPastField, StepFits, after, node_next, ways_at, shown_next, stage_of, stepped_by};
+ghost use Rattle.mr_proof.specs.Limits.{count_limit};
+ghost use Rattle.mr_proof.specs.declared.field.Field.{Field};
+ghost use Rattle.mr_proof.specs.declared.want.Want.{Want};
+ghost use Rattle.mr_proof.specs.Spelling.{Parsed};
+ghost use Rattle.mr_proof.specs.Grammar.{Grammar, reads, item, some_items, some_records, opened, unopened};
+ghost use Rattle.mr_check.specs.private.Stages.{FitsStage};
+ghost use Rattle.mr_check.specs.private.Machine.{frames_of, counted_so_far, Above, InTree, WaitsForField, StepsPastField, StepFits, after, node_next, ways_at, shown_next, behind_mask, stage_of, stepped_by};
 
 use crate::closing::close;
 use crate::frame::{Frame, push};
 use crate::machine::{Machine, StepResult};
-use crate::open_node::OpenNode;
 use crate::stage::Stage;
 use mr_geom::Rect;
-use mr_proof::{AsQuestion, PrunedEntry, Rule};
-use mr_tree::Hashes;
+use mr_proof::{AsQuestion, PrunedEntry, Rule, mask_seen};
+use mr_query::Key;
+use mr_record::Version;
+use mr_tree::{Hashes, NodeHasher};
 
 // The stage behind a tag.
 fn stage_of(level: u8, tag: u8) -> Stage
@@ -37,15 +43,39 @@ pub(crate) fn tagged<H: Hashes, A: AsQuestion>(
     tag: u8,
 ) -> StepResult
     requires { vec_len m.old.frames.list + level ≤ 7 }
+    ensures few { counted_so_far m.new ≡ counted_so_far m.old }
     ensures fits { StepFits m.new.head.kind m.new.stage (vec_len m.new.frames.list) result }
     ensures steps { (given : List types.Record) (a : Above) → a.records ≡ []
         → InTree H.of H.holds (A.question q.now) m.old.head (frames_of m.old) m.old.tally level
         given a
         → StepsPastField H.of H.holds (A.question q.now) m.new given (node_next
-        (ways_at (A.question q.now) m.old.head) level
+        m.old.head.version (ways_at (A.question q.now) m.old.head) level
         (after (ways_at (A.question q.now) m.old.head) m.old.head level a.nodes) tag) result }
 {
     m.stage = stage_of(level, tag);
+    StepResult::On
+}
+
+// The stage, unless the part was to be opened.
+fn unopened<H: Hashes, A: AsQuestion>(
+    q: &A,
+    m: &mut Machine<H>,
+    part: &Key,
+    stage: Stage,
+) -> StepResult
+    requires { FitsStage m.old.head.kind stage (vec_len m.old.frames.list) }
+    ensures few { counted_so_far m.new ≡ counted_so_far m.old }
+    ensures fits { StepFits m.new.head.kind m.new.stage (vec_len m.new.frames.list) result }
+    ensures steps { (given : List types.Record) (want : Want) (next : Field → Grammar Parsed)
+        → WaitsForField H.of H.holds (A.question q.now) (record m.old { stage = stage }) given
+        (reads want next)
+        → StepsPastField H.of H.holds (A.question q.now) m.new given
+        (unopened (ways_at (A.question q.now) m.old.head) part.now (reads want next)) result }
+{
+    if q.way(m.head.radius, part).is_open() {
+        return StepResult::Broken(Rule::Hidden);
+    }
+    m.stage = stage;
     StepResult::On
 }
 
@@ -57,20 +87,55 @@ pub(crate) fn shown<H: Hashes, A: AsQuestion>(
     rect: &Rect,
 ) -> StepResult
     requires { vec_len m.old.frames.list + level ≤ 7 }
+    ensures few { counted_so_far m.new ≡ counted_so_far m.old }
     ensures fits { StepFits m.new.head.kind m.new.stage (vec_len m.new.frames.list) result }
     ensures steps { (given : List types.Record) (a : Above) → a.records ≡ []
         → InTree H.of H.holds (A.question q.now) m.old.head (frames_of m.old) m.old.tally level
         given a
         → StepsPastField H.of H.holds (A.question q.now) m.new given
-        (shown_next (ways_at (A.question q.now) m.old.head)
+        (shown_next m.old.head.version (ways_at (A.question q.now) m.old.head)
         (after (ways_at (A.question q.now) m.old.head) m.old.head level a.nodes) rect.now)
         result }
 {
-    if q.way(m.head.radius, rect).is_open() {
-        return StepResult::Broken(Rule::Hidden);
+    match m.head.version {
+        Version::One => {
+            let part = Key {
+                rect: *rect,
+                mask: mask_seen(Version::One, 0),
+            };
+            unopened(q, m, &part, Stage::Digest(level, *rect, 0, 0))
+        }
+        Version::Two => {
+            m.stage = Stage::Mask(level, *rect);
+            StepResult::On
+        }
     }
-    m.stage = Stage::Digest(level, *rect);
-    StepResult::On
+}
+
+// The mask of a pruned part with this rectangle.
+pub(crate) fn masked<H: Hashes, A: AsQuestion>(
+    q: &A,
+    m: &mut Machine<H>,
+    level: u8,
+    rect: &Rect,
+    mask: u64,
+) -> StepResult
+    requires { vec_len m.old.frames.list + level ≤ 7 }
+    ensures few { counted_so_far m.new ≡ counted_so_far m.old }
+    ensures fits { StepFits m.new.head.kind m.new.stage (vec_len m.new.frames.list) result }
+    ensures steps { (given : List types.Record) (a : Above) → a.records ≡ []
+        → InTree H.of H.holds (A.question q.now) m.old.head (frames_of m.old) m.old.tally level
+        given a
+        → StepsPastField H.of H.holds (A.question q.now) m.new given
+        (behind_mask (ways_at (A.question q.now) m.old.head)
+        (after (ways_at (A.question q.now) m.old.head) m.old.head level a.nodes) rect.now mask)
+        result }
+{
+    let part = Key {
+        rect: *rect,
+        mask: mask_seen(Version::Two, mask),
+    };
+    unopened(q, m, &part, Stage::Tally(level, *rect, mask))
 }
 
 fn stepped(broken: Option<Rule>) -> StepResult
@@ -89,7 +154,10 @@ pub(crate) fn pruned<H: Hashes, A: AsQuestion>(
     level: u8,
     part: &PrunedEntry,
 ) -> StepResult
-    requires { vec_len m.old.frames.list + level ≤ 7 }
+    requires deep { vec_len m.old.frames.list + level ≤ 7 }
+    requires counted { part.now.count ≤ count_limit }
+    requires few { counted_so_far m.old + count_limit < 2 ^ 64 }
+    ensures few { counted_so_far m.new ≤ counted_so_far m.old + count_limit }
     ensures fits { StepFits m.new.head.kind m.new.stage (vec_len m.new.frames.list) result }
     ensures steps { (given : List types.Record) (a : Above) → a.records ≡ []
         → InTree H.of H.holds (A.question q.now) m.old.head (frames_of m.old) m.old.tally level
@@ -111,17 +179,18 @@ pub(crate) fn opened_inner<H: Hashes, A: AsQuestion>(
 ) -> StepResult
     requires levels { vec_len m.old.frames.list + (below + 1) ≤ 7 }
     requires some { 1 ≤ entries }
+    ensures few { counted_so_far m.new ≤ counted_so_far m.old }
     ensures fits { StepFits m.new.head.kind m.new.stage (vec_len m.new.frames.list) result }
     ensures steps { (given : List types.Record) (a : Above) → a.records ≡ []
         → InTree H.of H.holds (A.question q.now) m.old.head (frames_of m.old) m.old.tally
         (below + 1) given a
         → StepsPastField H.of H.holds (A.question q.now) m.new given
-        (some_items (item (ways_at (A.question q.now) m.old.head) below) entries
-        (λ Ps. opened (ways_at (A.question q.now) m.old.head) (Inner Ps)
+        (some_items (item m.old.head.version (ways_at (A.question q.now) m.old.head) below) entries
+        (λ Ps. opened m.old.head.version (ways_at (A.question q.now) m.old.head) (Inner Ps)
         (after (ways_at (A.question q.now) m.old.head) m.old.head (below + 1) a.nodes))) result }
 {
     let frame = Frame {
-        node: OpenNode::<H>::inner(below + 1, entries),
+        node: NodeHasher::<H>::inner(below + 1, entries),
         left: entries - 1,
     };
     push(&mut m.frames, frame);
@@ -137,16 +206,17 @@ pub(crate) fn opened_leaf<H: Hashes, A: AsQuestion>(
 ) -> StepResult
     requires levels { vec_len m.old.frames.list ≤ 7 }
     requires some { 1 ≤ entries }
+    ensures few { counted_so_far m.new ≤ counted_so_far m.old }
     ensures fits { StepFits m.new.head.kind m.new.stage (vec_len m.new.frames.list) result }
     ensures steps { (given : List types.Record) (a : Above) → a.records ≡ []
         → InTree H.of H.holds (A.question q.now) m.old.head (frames_of m.old) m.old.tally 0 given a
         → StepsPastField H.of H.holds (A.question q.now) m.new given
-        (some_records (ways_at (A.question q.now) m.old.head) entries
-        (λ rs. opened (ways_at (A.question q.now) m.old.head) (Leaf rs)
+        (some_records m.old.head.version (ways_at (A.question q.now) m.old.head) entries
+        (λ rs. opened m.old.head.version (ways_at (A.question q.now) m.old.head) (Leaf rs)
         (after (ways_at (A.question q.now) m.old.head) m.old.head 0 a.nodes))) result }
 {
     m.leaf = Frame {
-        node: OpenNode::<H>::leaf(entries),
+        node: NodeHasher::<H>::leaf(entries),
         left: entries - 1,
     };
     m.stage = Stage::Number;

@@ -43,7 +43,7 @@ impl<H: Hashes> Judge<H> {
         })
     }
 
-    /// Takes the next piece of the proof, up to the first record of the query's region that it
+    /// Takes the next piece of the proof, up to the first record in reach of the query that it
     /// completes, or to the first fault that no further byte changes, which each later call answers
     /// again. It takes no memory. The records that are found are proved to be nothing yet: what
     /// they are worth is said by `end`.

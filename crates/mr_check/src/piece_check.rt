@@ -7,14 +7,14 @@ ghost use Rattle.mr_query.specs.declared.query.Query as queries;
 ghost use Rattle.mr_proof.specs.Tight.{question};
 ghost use Rattle.mr_proof.specs.Feeding.{IsUnsettled};
 ghost use Rattle.mr_proof.specs.Reading.{verdict};
-ghost use Rattle.mr_check.specs.Answers.{AnswersVerdict};
+ghost use Rattle.mr_check.specs.Versions.{AnswersBeside, proof_version as version_of};
 ghost use Rattle.mr_check.specs.Judged.{IsStopped};
 
 use crate::arranging::arrange;
 use crate::{CheckErr, Collected, Collector};
 use mr_proof::query_is_lawful;
 use mr_query::{Query, answer, is_query};
-use mr_record::Record;
+use mr_record::{Record, Version};
 use mr_tree::Hashes;
 use std::alloc::{AllocError, Global};
 
@@ -24,6 +24,17 @@ use std::alloc::{AllocError, Global};
 pub struct PieceCheck<H: Hashes> {
     query: Query,
     collector: Collector<H>,
+}
+
+/// The version of the proof that some bytes are, where they are one: byte 4 tells it.
+pub fn proof_version(bytes: &[u8]) -> Version
+    ensures { result ≡ version_of bytes.now }
+{
+    if bytes.len() > 4 && bytes[4] == 2 {
+        Version::Two
+    } else {
+        Version::One
+    }
 }
 
 /// The scan of the records that were collected: the answer to the query, where they were collected
@@ -71,14 +82,16 @@ impl<H: Hashes> PieceCheck<H> {
         Ok(PieceCheck { query, collector })
     }
 
-    /// What `check` answers for the bytes that were taken.
-    pub fn end(self) -> Result<Vec<Record>, CheckErr>
+    /// What `check` answers for the bytes that were taken, and beside an answer the version of the
+    /// proof.
+    pub fn end(self) -> Result<(Version, Vec<Record>), CheckErr>
         ensures { (root : List ℕ) (q : queries.Query) (bytes : List ℕ)
             → IsTaken H.of H.holds root q self bytes
-            → AnswersVerdict result (verdict H.of root q bytes) }
+            → AnswersBeside bytes result (verdict H.of root q bytes) }
     {
         let query = self.query;
         let collected = self.collector.end(&query)?;
-        Ok(answer_of(collected, &query)?)
+        let version = collected.outline.head.version;
+        Ok((version, answer_of(collected, &query)?))
     }
 }

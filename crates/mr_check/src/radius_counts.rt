@@ -2,8 +2,7 @@
 
 ghost use Rattle.std.specs.Prelude.{◌≡◌, ◌+◌, ◌-◌, ◌^◌, ◌<◌, ◌∷◌, [], ◌++◌, List, min, if◌then◌else◌};
 ghost use Rattle.mr_record.specs.declared.record.Record as types;
-ghost use Rattle.mr_proof.specs.Refused.{has_other_radius};
-ghost use Rattle.mr_check.specs.private.Counting.{CountsRecords, no_counts, is_near, is_in};
+ghost use Rattle.mr_check.specs.private.Counting.{CountsRecords, no_counts, is_near, is_in, other_radius};
 
 use mr_proof::Around;
 use mr_record::Record;
@@ -82,13 +81,13 @@ fn number_of(around: &Around) -> u64
 }
 
 // Whether the squared radius is another than that of the records that were counted.
-pub(crate) fn has_other_radius(
+pub(crate) fn other_radius(
     tally: &RadiusCounts,
     around: Option<Around>,
     radius: Option<u128>,
 ) -> bool
     ensures { (rs : List types.Record) → CountsRecords around radius rs tally.now
-        → result ≡ has_other_radius around radius rs }
+        → result ≡ other_radius around radius rs }
 {
     match around {
         None => false,

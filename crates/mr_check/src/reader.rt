@@ -12,8 +12,9 @@ ghost use Rattle.mr_check.specs.declared.reader.Progress.TheVariants as turns;
 ghost use Rattle.mr_check.specs.private.Stops.{noted};
 ghost use Rattle.mr_check.specs.private.Stages.{want_at, size_in, MayBe, FitsStage};
 ghost use Rattle.mr_check.specs.private.Machine.{Above, IsOpen, StepsPastField, StepFits, WaitsPast, next_at};
-ghost use Rattle.mr_check.specs.private.Reads.{want_of, last_field, FitsReader, IsWhole, StandsAt, Behind, MakesProgress, TakesSome, TakesJust, FaultOf};
+ghost use Rattle.mr_check.specs.private.Reads.{want_of, last_field, IsCounted, FitsReader, IsWhole, StandsAt, Behind, MakesProgress, TakesSome, TakesJust, FaultOf};
 ghost use Rattle.mr_record.specs.Record.{payload_limit};
+ghost use Rattle.mr_record.specs.RecordField.{length_place};
 
 use crate::leaf::record;
 use crate::machine::{Machine, StepResult};
@@ -21,7 +22,7 @@ use crate::stage::{Stage, want_at};
 use crate::step::step;
 use mr_outside::Buffer;
 use mr_proof::{AsQuestion, Fault, Field, PLACE_LIMIT, Rule, Want, read_field};
-use mr_record::{PAYLOAD_LIMIT, Record, read_record};
+use mr_record::{PAYLOAD_LIMIT, Record, Version, read_record_of};
 use mr_tree::{Entry, Hashes};
 
 // A machine, the bytes of the field that is under way, the place of that field, and the fault, once
@@ -74,6 +75,7 @@ pub(crate) fn fault_at(rule: Rule, at: usize) -> Fault
 fn fail<H: Hashes>(r: &mut Reader<H>, rule: Rule, at: usize) -> Progress
     requires deep { vec_len r.old.machine.frames.list ≤ 7 }
     requires place { r.old.at ≤ place_limit }
+    requires counted { IsCounted r.old }
     ensures fits { FitsReader r.new }
     ensures fault { r.new.fault ≡ Some (record { rule = rule; at = at }) }
     ensures value { result ≡ turns.Broken (record { rule = rule; at = at }) }
@@ -103,6 +105,7 @@ fn goes_on<H: Hashes>(r: &mut Reader<H>, taken: usize) -> Progress
         (vec_len r.old.machine.frames.list) }
     requires held { r.old.held ≡ [] }
     requires place { r.old.at ≤ place_limit }
+    requires counted { IsCounted r.old }
     requires none { r.old.fault ≡ None }
     ensures fits { FitsReader r.new }
     ensures fault { FaultOf r.new.fault result }
@@ -124,6 +127,7 @@ fn hands_out<H: Hashes>(r: &mut Reader<H>, taken: usize) -> Progress
         (vec_len r.old.machine.frames.list) }
     requires held { r.old.held ≡ [] }
     requires place { r.old.at ≤ place_limit }
+    requires counted { IsCounted r.old }
     requires none { r.old.fault ≡ None }
     ensures fits { FitsReader r.new }
     ensures fault { FaultOf r.new.fault result }
@@ -147,6 +151,7 @@ fn behind<H: Hashes>(r: &mut Reader<H>, stepped: StepResult, last: usize, taken:
         (vec_len r.old.machine.frames.list) stepped }
     requires held { r.old.held ≡ [] }
     requires place { r.old.at ≤ place_limit }
+    requires counted { IsCounted r.old }
     requires none { r.old.fault ≡ None }
     ensures fits { FitsReader r.new }
     ensures fault { FaultOf r.new.fault result }
@@ -174,7 +179,9 @@ fn behind_field<H: Hashes, A: AsQuestion>(
         (vec_len r.old.machine.frames.list) }
     requires may { MayBe (want_of r.old) field.now }
     requires held { r.old.held ≡ [] }
+    requires some { 1 ≤ size }
     requires place { r.old.at + size ≤ place_limit }
+    requires counted { IsCounted r.old }
     requires none { r.old.fault ≡ None }
     ensures fits { FitsReader r.new }
     ensures fault { FaultOf r.new.fault result }
@@ -270,21 +277,34 @@ fn whole_record<H: Hashes>(r: &Reader<H>, piece: &[u8]) -> Option<(Record, usize
     if !r.held.as_slice().is_empty() {
         return None;
     }
-    match read_record(piece) {
+    match read_record_of(r.machine.head.version, piece) {
         Ok((one, size)) if size <= PLACE_LIMIT - r.at => Some((one, size)),
         _ => None,
     }
 }
 
-// The place of a record's last field.
-fn last_field(at: usize, one: &Record) -> usize
-    requires { at + 25 ≤ place_limit }
-    ensures { result ≡ last_field at one.now }
+// The place of the length of a record's payload, behind this place of the record.
+fn length_at(version: Version, at: usize) -> usize
+    requires { at ≤ place_limit }
+    ensures value { result ≡ at + length_place version }
+    ensures bound { result ≤ at + 25 }
 {
+    match version {
+        Version::One => at + 24,
+        Version::Two => at + 25,
+    }
+}
+
+// The place of a record's last field.
+fn last_field(version: Version, at: usize, one: &Record) -> usize
+    requires { at ≤ place_limit }
+    ensures { result ≡ last_field version at one.now }
+{
+    let length = length_at(version, at);
     if one.payload.bytes().is_empty() {
-        at + 24
+        length
     } else {
-        at + 25
+        length + 1
     }
 }
 
@@ -305,7 +325,7 @@ fn behind_record<H: Hashes, A: AsQuestion>(
     ensures turns { (s : List ℕ) → StandsAt H.of H.holds (A.question q.now) r.old s
         → MakesProgress H.of H.holds (A.question q.now) s piece.now r.new result }
 {
-    let last = last_field(r.at, one);
+    let last = last_field(r.machine.head.version, r.at, one);
     r.at += size;
     r.machine.latest = *one;
     let stepped = record(q, &mut r.machine);

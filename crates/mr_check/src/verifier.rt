@@ -1,7 +1,7 @@
 //! A proof as it is read in pieces, whatever it has to show.
 
 ghost use Rattle.std.specs.Prelude.{◌≡◌, ◌++◌, [], ℕ, List, None, length, IfOk};
-ghost use Rattle.mr_record.specs.declared.version.Version.{Version};
+ghost use Rattle.mr_record.specs.declared.version.Version as versions;
 ghost use Rattle.mr_tree.specs.Digest.{by};
 ghost use Rattle.mr_proof.specs.Tight.{Question, IsLawful};
 ghost use Rattle.mr_proof.specs.Headline.{AcceptedMatchesHonest};
@@ -14,20 +14,19 @@ use crate::fed::Fed;
 use crate::feeding::read_piece;
 use crate::frame::{Frame, no_frames};
 use crate::machine::Machine;
-use crate::open_node::OpenNode;
 use crate::outline::Outline;
 use crate::radius_counts::no_counts;
 use crate::reader::Reader;
 use crate::stage::{HeadField, Stage};
 use mr_outside::Buffer;
 use mr_proof::{AsQuestion, Fault, Head};
-use mr_record::Record;
-use mr_tree::Hashes;
+use mr_record::{Record, Version};
+use mr_tree::{Hashes, NodeHasher};
 use std::alloc::{AllocError, Global};
 
 /// Reads a proof against one root digest, as its bytes come in pieces of any size. What the proof
 /// has to show is given with each call, the same each time: of a call with another nothing is said.
-/// It keeps a hasher and a rectangle for each open node, of which there are at most eight, three
+/// It keeps a hasher, a rectangle, a mask and a count for each open node, of which there are at most eight, three
 /// counts, the record that was read last, and at most the 200 bytes of the field that is under way.
 ///
 /// It does not keep the bytes. Contracts go by a relation: a verifier stands for the bytes that it
@@ -49,16 +48,17 @@ fn fresh<H: Hashes, A: AsQuestion>(alloc: Global, q: &A) -> Result<Reader<H>, Al
     Ok(Reader {
         machine: Machine {
             head: Head {
+                version: Version::One,
                 kind: q.kind(),
                 batch: 0,
                 count: 0,
                 radius: None,
                 level: 0,
             },
-            stage: Stage::Head(HeadField::Magic),
+            stage: Stage::Head(HeadField::Magic(q.two_only())),
             frames,
             leaf: Frame {
-                node: OpenNode::<H>::leaf(0),
+                node: NodeHasher::<H>::leaf(0),
                 left: 0,
             },
             tally: no_counts(),
@@ -133,7 +133,7 @@ impl<H: Hashes> Verifier<H> {
             → WasFed H.of H.holds root (A.question q.now) self bytes
             → HandsOpened (A.question q.now) bytes }
         // What accepted bytes are worth: they are the honest proof, or show a collision.
-        ensures accepted { (v : Version) (root : List ℕ) (bytes : List ℕ)
+        ensures accepted { (v : versions.Version) (root : List ℕ) (bytes : List ℕ)
             → WasFed H.of H.holds root (A.question q.now) self bytes
             → AcceptedMatchesHonest (by v H.of) (A.question q.now) bytes }
     {

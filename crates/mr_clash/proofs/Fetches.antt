@@ -1,6 +1,8 @@
 -- How many nodes of the map are fetched beside the items of a proof.
 use Rattle.std.proofs.Common.{◌≡◌, ℕ, suc, ◌+◌, ◌≤◌, ◌<◌, false, List, [], ◌++◌, append_assoc, append-nil, sym, ap, subst, ◌∙◌, arith}
 use Rattle.std.specs.Prelude.{Option, Some, None, IfSome}
+use Rattle.mr_record.specs.declared.version.Version.{Version}
+use Rattle.mr_tree.specs.Digest.{Scheme}
 use Rattle.mr_tree.specs.declared.tree.Tree.{Tree}
 use Rattle.mr_proof.specs.declared.head.Head.{Head}
 use Rattle.mr_proof.specs.Cut.{Cut, Cuts, Pruned, Leaf, Inner, number_of_cuts, opened_nodes, all_opened}
@@ -16,24 +18,28 @@ opened_one (Leaf rs) is = omega arith
 opened_one (Inner Ps) is = omega arith
 
 -- an inner node and what is fetched below it
-pub opened_inner : (v : ℕ) (P : Cut) (rest before : List ℕ) (old mid new : ℕ) → (v ≡ 0 → ⊥) → is_pruned P ≡ false
-    → FitsCut v P → before ≡ cut_bytes P ++ rest → mid ≤ old + 1 → FetchesChildren v before mid new
+pub opened_inner : (u : Version) (v : ℕ) (P : Cut) (rest before : List ℕ) (old mid new : ℕ) → (v ≡ 0 → ⊥)
+    → is_pruned P ≡ false
+    → FitsCut u v P → before ≡ cut_bytes u P ++ rest → mid ≤ old + 1 → FetchesChildren u v before mid new
     → new ≤ old + opened_nodes P
-opened_inner v (Pruned part) rest before old mid new above is fits e one few = absurd cc
-opened_inner v (Leaf rs) rest before old mid new above is fits e one few = absurd (above fits.at_leaf)
-opened_inner v (Inner Ps) rest before old mid new above is fits e one few =
+opened_inner u v (Pruned part) rest before old mid new above is fits e one few = absurd cc
+opened_inner u v (Leaf rs) rest before old mid new above is fits e one few = absurd (above fits.at_leaf)
+opened_inner u v (Inner Ps) rest before old mid new above is fits e one few =
     let below = few Ps rest fits e in omega (arith, below, one)
 
 -- one more of some items side by side
-pub fetched_more : (hash : List ℕ → List ℕ) (v w : ℕ) (Ps : Cuts) (rest : List ℕ) (i : ℕ) (bytes : List ℕ)
-    (old mid new : ℕ) → i < number_of_cuts Ps → FitCuts w Ps → bytes ≡ cuts_bytes (drop_cuts i Ps) ++ rest → v ≡ w
-    → FetchesItem v bytes mid new → mid + all_opened (drop_cuts i Ps) ≤ old + all_opened Ps
+pub fetched_more : (scheme : Scheme) (v w : ℕ) (Ps : Cuts) (rest : List ℕ) (i : ℕ) (bytes : List ℕ)
+    (old mid new : ℕ) → i < number_of_cuts Ps → FitCuts scheme.version w Ps
+    → bytes ≡ cuts_bytes scheme.version (drop_cuts i Ps) ++ rest → v ≡ w
+    → FetchesItem scheme.version v bytes mid new → mid + all_opened (drop_cuts i Ps) ≤ old + all_opened Ps
     → new + all_opened (drop_cuts (i + 1) Ps) ≤ old + all_opened Ps
-fetched_more hash v w Ps rest i bytes old mid new lt fits here level few so_far =
-    let n = next_cut hash w Ps i lt fits in
+fetched_more scheme v w Ps rest i bytes old mid new lt fits here level few so_far =
+    let n = next_cut scheme w Ps i lt fits in
     let Qs = drop_cuts (suc i) Ps in
-    let own = few n.cut (cuts_bytes Qs ++ rest) (subst (λ k. FitsCut k n.cut) (sym level) n.fits)
-    (here ∙ ap (λ Qs. cuts_bytes Qs ++ rest) n.here ∙ append_assoc (cut_bytes n.cut) (cuts_bytes Qs) rest) in
+    let own = few n.cut (cuts_bytes scheme.version Qs ++ rest)
+    (subst (λ k. FitsCut scheme.version k n.cut) (sym level) n.fits)
+    (here ∙ ap (λ Qs. cuts_bytes scheme.version Qs ++ rest) n.here
+    ∙ append_assoc (cut_bytes scheme.version n.cut) (cuts_bytes scheme.version Qs) rest) in
     let sum = ap all_opened n.here in
     let plus = ap (λ k. all_opened (drop_cuts k Ps)) (suc_is i) in
     omega (arith, own, sum, plus, so_far)
@@ -43,11 +49,12 @@ fetched_more hash v w Ps rest i bytes old mid new lt fits here level few so_far 
 
 -- the root item
 pub fetched_root : (h : Head) (P : Option Cut) (bytes : List ℕ) (v w : ℕ) (before : List ℕ) (old new : ℕ)
-    → IsSpelled h P bytes → (h.count ≡ 0 → ⊥) → v ≡ w → w ≡ h.level → before ≡ part_bytes P
-    → FetchesItem v before old new → new ≤ old + opened_of P
+    → IsSpelled h P bytes → (h.count ≡ 0 → ⊥) → v ≡ w → w ≡ h.level → before ≡ part_bytes h.version P
+    → FetchesItem h.version v before old new → new ≤ old + opened_of P
 fetched_root h None bytes v w before old new spelled some one level here few = absurd (some spelled.part)
 fetched_root h (Some P) bytes v w before old new spelled some one level here few =
-    few P [] (subst (λ k. FitsCut k P) (sym (one ∙ level)) spelled.part.1) (here ∙ sym (append-nil (cut_bytes P)))
+    few P [] (subst (λ k. FitsCut h.version k P) (sym (one ∙ level)) spelled.part.1)
+    (here ∙ sym (append-nil (cut_bytes h.version P)))
 
 -- ---- the whole
 

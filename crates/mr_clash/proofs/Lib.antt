@@ -1,4 +1,5 @@
 pub mod Levels
+pub mod Versions
 pub mod Taking
 pub mod Nodes
 pub mod OwnNodes

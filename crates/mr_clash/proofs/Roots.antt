@@ -5,25 +5,25 @@ use Rattle.mr_tree.specs.Tree.{records}
 use Rattle.mr_tree.specs.Digest.{Scheme, by, root_preimage}
 use Rattle.mr_tree.specs.declared.entry.Entry.{Entry}
 use Rattle.mr_tree.specs.Digest as digests
+use Rattle.mr_tree.specs.Limits.{level_limit}
 use Rattle.mr_tree.specs.Nodes.{MapModel, IsTop, MayFetch, tree_under, root_entry}
 use Rattle.mr_tree.specs.View.{child_entry}
 use Rattle.mr_tree.specs.declared.child.Child.{Child}
 use Rattle.mr_tree.specs.declared.nodes.Top.{Top}
 use Rattle.mr_tree.specs.declared.tree.Tree.{Tree}
 use Rattle.mr_proof.specs.declared.head.Head.{Head}
-use Rattle.mr_proof.specs.Fields.{version}
-use Rattle.mr_proof.specs.Cut.{Cut, rect, digest, entry}
-use Rattle.mr_proof.specs.Spelling.{version_of, cut_bytes, part_bytes, FitsCut, IsSpelled}
+use Rattle.mr_proof.specs.Cut.{Cut, rect, mask, digest, entry}
+use Rattle.mr_proof.specs.Spelling.{cut_bytes, part_bytes, FitsCut, IsSpelled}
 use Rattle.mr_proof.specs.Accepted.{proof_preimage, root_found}
 use Rattle.mr_proof.specs.Clash.{Pair, differ, or_else, node_clash, part_clash, pair_clash, if_said, clash_of}
 use Rattle.mr_proof.proofs.Full.{IsThere}
 use Rattle.mr_proof.proofs.Pairs.{pair_found_of}
-use Rattle.mr_proof.proofs.Preimages.{entry-rect}
+use Rattle.mr_proof.proofs.Preimages.{entry-rect, entry-mask}
 use Rattle.mr_proof.proofs.SameNodes.{named_cut}
 use Rattle.mr_proof.proofs.SameRoots.{same_root, empty_filled}
 use Rattle.mr_proof.proofs.Worth.{version_said}
 use Rattle.mr_clash.specs.Finding.{root_at}
-use Rattle.mr_clash.specs.private.Steps.{scheme, pair_of, PassesRoot, WalksCut, WalkedOne, WalkedRoot, Compared, ComparedMap}
+use Rattle.mr_clash.specs.private.Steps.{pair_of, PassesRoot, WalksCut, WalkedOne, WalkedRoot, Compared, ComparedMap}
 use Rattle.mr_clash.specs.declared.walked.Walked.{Walked}
 use Rattle.mr_clash.proofs.Levels.{entry_at_level}
 use Rattle.mr_clash.proofs.Walks.{node_collides, same_strings, some_node}
@@ -31,21 +31,21 @@ use Rattle.mr_clash.proofs.Walks.{node_collides, same_strings, some_node}
 -- ---- the strings of the roots
 
 -- that of a cut, by what is said of its node
-pub root_of_cut : (hash : List ℕ → List ℕ) (h : Head) (P : Cut) (x : Entry) → FitsCut h.level P
-    → x ≡ entry (scheme hash) h.level P
-    → root_preimage (version_of h) h.batch h.count x ≡ proof_preimage hash h (Some P)
-root_of_cut hash h P x fits e = λ i. root_preimage (version_of h) h.batch h.count (record {
-  level = (ap (λ (e : Entry). e.level) e ∙ entry_at_level (scheme hash) h.level P fits) i;
-  rect = (ap (λ (e : Entry). e.rect) e ∙ entry-rect (scheme hash) h.level P) i;
-  mask = x.mask;
+pub root_of_cut : (hash : List ℕ → List ℕ) (h : Head) (P : Cut) (x : Entry) → FitsCut h.version h.level P
+    → x ≡ entry (by h.version hash) h.level P
+    → root_preimage h.version h.batch h.count x ≡ proof_preimage hash h (Some P)
+root_of_cut hash h P x fits e = λ i. root_preimage h.version h.batch h.count (record {
+  level = (ap (λ (e : Entry). e.level) e ∙ entry_at_level (by h.version hash) h.level P fits) i;
+  rect = (ap (λ (e : Entry). e.rect) e ∙ entry-rect (by h.version hash) h.level P) i;
+  mask = (ap (λ (e : Entry). e.mask) e ∙ entry-mask (by h.version hash) h.level P) i;
   count = x.count;
   digest = ap (λ (e : Entry). e.digest) e i;
 })
 
 -- that of no cut
 pub root_of_none : (hash : List ℕ → List ℕ) (h : Head) (e : Entry) → h.count ≡ 0
-    → root_preimage (version_of h) h.batch h.count e ≡ proof_preimage hash h None
-root_of_none hash h e none = λ i. root_preimage (version_of h) h.batch (none i) e
+    → root_preimage h.version h.batch h.count e ≡ proof_preimage hash h None
+root_of_none hash h e none = λ i. root_preimage h.version h.batch (none i) e
 
 -- that of the map, where its tree is told
 pub root_told : (hash : List ℕ → List ℕ) (s : MapModel) (top : Top) (t : Tree) → IsTop hash s top → s.tree ≡ Some t
@@ -83,20 +83,20 @@ root_told hash s top t is told =
 
 -- ---- roots that are one
 
--- the map is of the version of proofs, and the cut one of the root node's level with its digest
+-- the map is of the head's version, and the cut one of the root node's level with its digest
 pub record RootCut (hash : List ℕ → List ℕ) (top : Top) (c : Child) (h : Head) (P : Cut) : Type 0 where
-  pub one : top.version ≡ version
+  pub one : top.version ≡ h.version
   pub level : h.level ≡ c.level
-  pub same : c.digest ≡ digest (scheme hash) c.level P
+  pub same : c.digest ≡ digest (by h.version hash) c.level P
 
 -- what a root preimage says of the root node of a cut
 abbrev said_of : (List ℕ → List ℕ) → Head → Cut → Entry
 said_of hash h P = record {
   level = h.level;
   rect = rect P;
-  mask = 0;
+  mask = mask h.version P;
   count = 0;
-  digest = digest (scheme hash) h.level P;
+  digest = digest (by h.version hash) h.level P;
 }
 
 -- a map with records and a proof of one
@@ -106,17 +106,17 @@ pub root_cut : (hash : List ℕ → List ℕ) → ((m : List ℕ) → length (ha
     → RootCut hash top c h P
 root_cut hash sized top c h P bytes root batch count some there spelled e =
     let own : root_entry top.root ≡ child_entry c = ap root_entry root in
-    let place : (entry (scheme hash) h.level P).rect ≡ rect P = entry-rect (scheme hash) h.level P in
-    let same = same_root top.version (version_of h) top.batch top.count h.batch h.count (child_entry c)
+    let place : (entry (by h.version hash) h.level P).rect ≡ rect P = entry-rect (by h.version hash) h.level P in
+    let same = same_root top.version h.version top.batch top.count h.batch h.count (child_entry c)
     (said_of hash h P)
     batch count spelled.head.batch (omega (arith, spelled.head.count)) some (omega (arith, spelled.part.0)) there
-    (subst IsThere place (named_cut (scheme hash) sized h.level P spelled.part.1).there)
+    (subst IsThere place (named_cut (by h.version hash) sized h.level P spelled.part.1).there)
     (ap (root_preimage top.version top.batch top.count) (sym own) ∙ e) in
     let level : h.level ≡ c.level = sym same.level in
     record {
       one = same.version;
       level = level;
-      same = same.same.digest ∙ ap (λ v. digest (scheme hash) v P) level;
+      same = same.same.digest ∙ ap (λ v. digest (by h.version hash) v P) level;
     }
 
 -- ---- no root node
@@ -125,7 +125,7 @@ root_cut hash sized top c h P bytes root batch count some there spelled e =
 pub no_root_cut : (hash : List ℕ → List ℕ) (top : Top) (h : Head) (P : Cut) → top.count ≡ 0 → 1 ≤ h.count
     → root_at top ≡ proof_preimage hash h (Some P) → ⊥
 no_root_cut hash top h P none some e =
-    empty_filled top.version (version_of h) top.batch h.batch h.count (root_entry top.root)
+    empty_filled top.version h.version top.batch h.batch h.count (root_entry top.root)
     (said_of hash h P) some
     ((λ i. root_preimage top.version top.batch (sym none i) (root_entry top.root)) ∙ e)
 
@@ -145,14 +145,15 @@ some_records hash s top c is root = by_count top.count refl
 clash_spelled : (h : Scheme) (t : Tree) (batch : ℕ) (head : Head) (P : Option Cut) (bytes : List ℕ)
     → IsSpelled head P bytes → clash_of head.kind h t batch bytes
     ≡ or_else (differ (digests.root_preimage_of h t batch) (Some (proof_preimage h.of head P)))
-    (part_clash h head.level t P)
+    (part_clash h (by head.version h.of) head.level t P)
 clash_spelled h t batch head P bytes spelled =
     ap (λ o. if_said o (pair_clash h t batch)) (pair_found_of head.kind head P bytes refl spelled)
 
 told_of : (hash : List ℕ → List ℕ) (s : MapModel) (top : Top) (h : Head) (P : Option Cut) (bytes : List ℕ)
     (pair : Option Pair) → IsTop hash s top → IsSpelled h P bytes
     → ((t : Tree) → s.tree ≡ Some t
-    → pair ≡ or_else (differ (root_at top) (Some (proof_preimage hash h P))) (part_clash (scheme hash) h.level t P))
+    → pair ≡ or_else (differ (root_at top) (Some (proof_preimage hash h P)))
+    (part_clash (by h.version hash) (by h.version hash) h.level t P))
     → IfSome s.tree (λ t. pair ≡ clash_of h.kind (by s.version hash) t s.batch bytes)
 told_of hash s top h P bytes pair is spelled so = by_tree s.tree refl
   where
@@ -161,26 +162,27 @@ told_of hash s top h P bytes pair is spelled so = by_tree s.tree refl
     by_tree None told = tt
     by_tree (Some t) told =
         so t told
-        ∙ ap (λ x. or_else (differ x (Some (proof_preimage hash h P))) (part_clash (scheme hash) h.level t P))
+        ∙ ap (λ x. or_else (differ x (Some (proof_preimage hash h P)))
+        (part_clash (by h.version hash) (by h.version hash) h.level t P))
         (root_told hash s top t is told)
         ∙ by_pair (differ (digests.root_preimage_of (by s.version hash) t s.batch)
         (Some (proof_preimage hash h P))) refl
         ∙ sym (clash_spelled (by s.version hash) t s.batch h P bytes spelled)
       where
-        -- where the strings of the roots are one, the map is of the version of proofs
+        -- where the strings of the roots are one, the map is of the head's version
         by_pair : (o : Option Pair)
             → differ (digests.root_preimage_of (by s.version hash) t s.batch) (Some (proof_preimage hash h P)) ≡ o
             → or_else (differ (digests.root_preimage_of (by s.version hash) t s.batch) (Some (proof_preimage hash h P)))
-            (part_clash (scheme hash) h.level t P)
+            (part_clash (by h.version hash) (by h.version hash) h.level t P)
             ≡ or_else (differ (digests.root_preimage_of (by s.version hash) t s.batch) (Some (proof_preimage hash h P)))
-            (part_clash (by s.version hash) h.level t P)
+            (part_clash (by s.version hash) (by h.version hash) h.level t P)
         by_pair (Some p) d =
-            ap (λ o. or_else o (part_clash (scheme hash) h.level t P)) d
-            ∙ sym (ap (λ o. or_else o (part_clash (by s.version hash) h.level t P)) d)
+            ap (λ o. or_else o (part_clash (by h.version hash) (by h.version hash) h.level t P)) d
+            ∙ sym (ap (λ o. or_else o (part_clash (by s.version hash) (by h.version hash) h.level t P)) d)
         by_pair None d =
             ap (λ v. or_else (differ (digests.root_preimage_of (by s.version hash) t s.batch)
             (Some (proof_preimage hash h P)))
-            (part_clash (by v hash) h.level t P))
+            (part_clash (by v hash) (by h.version hash) h.level t P))
             (sym (version_said (by s.version hash) t s.batch h P (same_strings _ _ (sym d))))
 
 -- the strings of the roots differ
@@ -190,25 +192,25 @@ pub roots_differ : (hash : List ℕ → List ℕ) (s : MapModel) (top : Top) (h 
 roots_differ hash s top h P bytes p is spelled held d = record {
   collides = node_collides hash (root_at top) (proof_preimage hash h P) (hash (root_at top)) (Some p) refl (sym held) d;
   told = told_of hash s top h P bytes (Some p) is spelled
-      (λ t told. ap (λ o. or_else o (part_clash (scheme hash) h.level t P)) d);
+      (λ t told. ap (λ o. or_else o (part_clash (by h.version hash) (by h.version hash) h.level t P)) d);
 }
 
 -- they are one, and the root node was compared with the cut
 pub nodes_compared : (hash : List ℕ → List ℕ) (s : MapModel) (top : Top) (c : Child) (h : Head) (P : Cut)
     (bytes : List ℕ) (pair : Option Pair) → IsTop hash s top → top.root ≡ Some c → IsSpelled h (Some P) bytes
     → None ≡ differ (root_at top) (Some (proof_preimage hash h (Some P))) → h.level ≡ c.level
-    → Compared hash s c.id c.level P pair → ComparedMap hash s h.kind bytes pair
+    → Compared (by h.version hash) s c.id c.level P pair → ComparedMap hash s h.kind bytes pair
 nodes_compared hash s top c h P bytes pair is root spelled d level so = record {
   collides = so.collides;
   told = told_of hash s top h (Some P) bytes pair is spelled (λ t told.
       let under : tree_under s top.root ≡ Some t =
       subst (λ (o : Option Tree). IfSome o (λ t. tree_under s top.root ≡ Some t)) told is.tree in
       let at : s.node c.id ≡ Some t = sym (ap (tree_under s) root) ∙ under in
-      let own : pair ≡ node_clash (scheme hash) c.level t P =
-      some_node (s.node c.id) t (λ t. pair ≡ node_clash (scheme hash) c.level t P) at
+      let own : pair ≡ node_clash (by h.version hash) (by h.version hash) c.level t P =
+      some_node (s.node c.id) t (λ t. pair ≡ node_clash (by h.version hash) (by h.version hash) c.level t P) at
       (so.told (subst IsSome (sym told) refl)) in
-      own ∙ ap (λ v. node_clash (scheme hash) v t P) (sym level)
-      ∙ ap (λ o. or_else o (node_clash (scheme hash) h.level t P)) d);
+      own ∙ ap (λ v. node_clash (by h.version hash) (by h.version hash) v t P) (sym level)
+      ∙ ap (λ o. or_else o (node_clash (by h.version hash) (by h.version hash) h.level t P)) d);
 }
 
 -- ---- the root item
@@ -230,17 +232,18 @@ none_walked hash s top h (Some P) bytes x is spelled none =
 -- its node has none of the map at its place
 alone : {E : Type 0} (hash : List ℕ → List ℕ) (s : MapModel) (top : Top) (h : Head) (P : Option Cut) (bytes : List ℕ)
     (v : ℕ) (before : List ℕ) (r : Result Walked E) → IsSpelled h P bytes → (h.count ≡ 0 → ⊥) → v ≡ h.level
-    → before ≡ part_bytes P
+    → before ≡ part_bytes h.version P
     → ((P : Cut) → IsSpelled h (Some P) bytes → None ≡ differ (root_at top) (Some (proof_preimage hash h (Some P))) → ⊥)
-    → PassesRoot hash v before r → IfOk r (WalkedRoot hash s top h P bytes)
+    → PassesRoot (by h.version hash) v before r → IfOk r (WalkedRoot hash s top h P bytes)
 alone hash s top h None bytes v before r spelled some level is apart passes = absurd (some spelled.part)
 alone hash s top h (Some P) bytes v before r spelled some level is apart passes =
-    passed r (passes P (subst (λ k. FitsCut k P) (sym level) spelled.part.1) is)
+    passed r (passes P (subst (λ k. k ≤ level_limit) (sym level) spelled.head.level)
+    (subst (λ k. FitsCut h.version k P) (sym level) spelled.part.1) is)
   where
-    passed : {E : Type 0} (r : Result Walked E) → IfOk r (λ w. w.entry ≡ entry (scheme hash) v P)
+    passed : {E : Type 0} (r : Result Walked E) → IfOk r (λ w. w.entry ≡ entry (by h.version hash) v P)
         → IfOk r (WalkedRoot hash s top h (Some P) bytes)
     passed (Ok w) says = record {
-      root = root_of_cut hash h P w.entry spelled.part.1 (says ∙ ap (λ k. entry (scheme hash) k P) level);
+      root = root_of_cut hash h P w.entry spelled.part.1 (says ∙ ap (λ k. entry (by h.version hash) k P) level);
       compared = λ d. absurd (apart P spelled d);
     }
     passed (Err f) says = tt
@@ -248,7 +251,8 @@ alone hash s top h (Some P) bytes v before r spelled some level is apart passes 
 -- the map has no root node
 pub root_alone : {E : Type 0} (hash : List ℕ → List ℕ) (s : MapModel) (top : Top) (h : Head) (P : Option Cut)
     (bytes : List ℕ) (v : ℕ) (before : List ℕ) (r : Result Walked E) → IsTop hash s top → top.root ≡ None
-    → IsSpelled h P bytes → (h.count ≡ 0 → ⊥) → v ≡ h.level → before ≡ part_bytes P → PassesRoot hash v before r
+    → IsSpelled h P bytes → (h.count ≡ 0 → ⊥) → v ≡ h.level → before ≡ part_bytes h.version P
+    → PassesRoot (by h.version hash) v before r
     → IfOk r (WalkedRoot hash s top h P bytes)
 root_alone hash s top h P bytes v before r is root spelled some level here passes =
     alone hash s top h P bytes v before r spelled some level here
@@ -260,9 +264,10 @@ root_alone hash s top h P bytes v before r is root spelled some level here passe
 pub other_level : {E : Type 0} (hash : List ℕ → List ℕ) → ((m : List ℕ) → length (hash m) ≡ 32) → (s : MapModel)
     (top : Top) (c : Child) (h : Head) (P : Option Cut) (bytes : List ℕ) (v : ℕ) (before : List ℕ)
     (r : Result Walked E) → IsTop hash s top → top.root ≡ Some c → top.batch < 2 ^ 64 → top.count < 2 ^ 64
-    → IsThere (Some c.rect) → (top.version ≡ version → c.level ≡ v → ⊥) → IsSpelled h P bytes
+    → IsThere (Some c.rect) → (top.version ≡ h.version → c.level ≡ v → ⊥) → IsSpelled h P bytes
     → (h.count ≡ 0 → ⊥) → v ≡ h.level
-    → before ≡ part_bytes P → PassesRoot hash v before r → IfOk r (WalkedRoot hash s top h P bytes)
+    → before ≡ part_bytes h.version P → PassesRoot (by h.version hash) v before r
+    → IfOk r (WalkedRoot hash s top h P bytes)
 other_level hash sized s top c h P bytes v before r is root batch count there other spelled some level here passes =
     alone hash s top h P bytes v before r spelled some level here
     (λ Q spelled d. let x = root_cut hash sized top c h Q bytes root batch count (some_records hash s top c is root)
@@ -275,21 +280,23 @@ pub root_walked : {E : Type 0} (hash : List ℕ → List ℕ) → ((m : List ℕ
     (top : Top) (c : Child) (h : Head) (P : Option Cut) (bytes : List ℕ) (v : ℕ) (before after : List ℕ)
     (r : Result Walked E) → IsTop hash s top → top.root ≡ Some c → top.batch < 2 ^ 64 → top.count < 2 ^ 64
     → IsThere (Some c.rect) → c.level ≡ v → IsSpelled h P bytes → (h.count ≡ 0 → ⊥) → v ≡ h.level
-    → before ≡ part_bytes P → WalksCut hash s c before after r → IfOk r (WalkedRoot hash s top h P bytes)
+    → before ≡ part_bytes h.version P → WalksCut (by h.version hash) s c before after r
+    → IfOk r (WalkedRoot hash s top h P bytes)
 root_walked hash sized s top c h None bytes v before after r is root batch count there one spelled some level here
     walked = absurd (some spelled.part)
 root_walked hash sized s top c h (Some P) bytes v before after r is root batch count there one spelled some level here
     walked =
-    walked_on r (walked P [] (subst (λ k. FitsCut k P) (sym own) spelled.part.1)
-    (here ∙ sym (append-nil (cut_bytes P))))
+    walked_on r (walked P [] (subst (λ k. FitsCut h.version k P) (sym own) spelled.part.1)
+    (here ∙ sym (append-nil (cut_bytes h.version P))))
   where
     own : c.level ≡ h.level
     own = one ∙ level
 
-    walked_on : {E : Type 0} (r : Result Walked E) → IfOk r (λ w. WalkedOne hash s c c.level P [] w after)
+    walked_on : {E : Type 0} (r : Result Walked E)
+        → IfOk r (λ w. WalkedOne (by h.version hash) s c c.level P [] w after)
         → IfOk r (WalkedRoot hash s top h (Some P) bytes)
     walked_on (Ok w) so = record {
-      root = root_of_cut hash h P w.entry spelled.part.1 (so.says ∙ ap (λ k. entry (scheme hash) k P) own);
+      root = root_of_cut hash h P w.entry spelled.part.1 (so.says ∙ ap (λ k. entry (by h.version hash) k P) own);
       compared = λ d.
           let x = root_cut hash sized top c h P bytes root batch count (some_records hash s top c is root) there spelled
           (same_strings _ _ d) in

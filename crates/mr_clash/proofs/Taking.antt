@@ -1,22 +1,28 @@
 -- Bytes, records and cuts taken from the front of what is left.
-use Rattle.std.proofs.Common.{◌≡◌, ℕ, zero, suc, ◌+◌, ◌≤◌, ◌<◌, List, [], ◌∷◌, ◌++◌, length, map, take, drop, refl, sym, ap, subst, ◌∙◌, append_assoc, append-nil, arith}
-use Rattle.std.specs.Prelude.{All, Option, Some, None}
+use Rattle.std.proofs.Common.{◌≡◌, ℕ, zero, suc, ◌+◌, ◌≤◌, ◌<◌, List, [], ◌∷◌, ◌++◌, length, map, take, drop, refl, sym, ap, subst, ◌∙◌, append_assoc, arith}
+use Rattle.std.specs.Prelude.{All, Option, Some, None, bit_or}
 use Rattle.std.specs.Int.{w64, w128, to_be_bytes}
 use Rattle.std.specs.List.{flat_map, AllByRecursion}
 use Rattle.std.proofs.lemmas.List.Elements.{recursion_from_All}
+use Rattle.std.proofs.lemmas.Nat.{or_comm}
 use Rattle.std.proofs.Math.Seq.{take-append_seam}
 use Rattle.mr_geom.specs.Rectangle.{Rectangle, join}
 use Rattle.mr_geom.proofs.Rectangles.{join_assoc, join_none, fold_join}
-use Rattle.mr_record.specs.Record.{IsRecord, record_bytes, rectangle_bytes}
+use Rattle.mr_record.specs.Record.{IsRecord, HasLayer, record_bytes, rectangle_bytes, layer_bytes}
+use Rattle.mr_record.specs.Version.{told}
+use Rattle.mr_record.specs.declared.version.Version.{Version}
 use Rattle.mr_record.specs.declared.record.Record.{Record}
-use Rattle.mr_tree.specs.Tree.{rect_step}
+use Rattle.mr_tree.specs.Tree.{rect_step, mask_step, layer_bit}
+use Rattle.mr_tree.specs.Digest.{Scheme, word_bytes}
+use Rattle.mr_tree.proofs.Masks.{or_assoc, mask_of-cons}
 use Rattle.mr_tree.specs.declared.tree.Tree.TheOpen as node
 use Rattle.mr_tree.specs.declared.entry.Entry.{Entry}
 use Rattle.mr_proof.specs.declared.head.Kind.TheVariants as kind
-use Rattle.mr_proof.specs.Fields.{version}
 use Rattle.mr_proof.specs.Cut.{Cut, Cuts, no_more, first, number_of_cuts, entry, entries}
-use Rattle.mr_proof.specs.Spelling.{cut_bytes, cuts_bytes, radius_bytes, FitsCut, FitCuts}
-use Rattle.mr_clash.specs.private.Steps.{scheme, Passed, PassedAll}
+use Rattle.mr_proof.specs.declared.pruned_entry.PrunedEntry.{PrunedEntry}
+use Rattle.mr_proof.specs.Spelling.{shown_bytes, cut_bytes, cuts_bytes, radius_bytes, FitsCut, FitCuts}
+use Rattle.mr_clash.specs.private.Steps.{record_summary, leaf_summary, Passed, PassedAll}
+use Rattle.mr_clash.specs.declared.summary.Summary.{Summary}
 
 pub take_front : (n : ℕ) (x rest : List ℕ) → length x ≡ n → take n (x ++ rest) ≡ x
 take_front n x rest e = subst (λ k. take k (x ++ rest) ≡ x) e (take-append_seam x rest)
@@ -36,83 +42,120 @@ drop-all (suc i) (x ∷ xs) le = drop-all i xs (omega arith)
 -- ---- records
 
 -- the bytes of a record, field by field
-fields : (number rect payload rest : List ℕ) (size : ℕ)
-    → (number ++ rect ++ size ∷ payload) ++ rest ≡ number ++ (rect ++ (size ∷ (payload ++ rest)))
-fields number rect payload rest size =
-    append_assoc (number ++ rect) (size ∷ payload) rest ∙ append_assoc number rect (size ∷ (payload ++ rest))
+fields : (number rect layer payload rest : List ℕ) (size : ℕ)
+    → (number ++ rect ++ layer ++ size ∷ payload) ++ rest
+    ≡ number ++ (rect ++ (layer ++ (size ∷ (payload ++ rest))))
+fields number rect layer payload rest size =
+    append_assoc (number ++ rect ++ layer) (size ∷ payload) rest
+    ∙ append_assoc (number ++ rect) layer (size ∷ (payload ++ rest))
+    ∙ append_assoc number rect (layer ++ (size ∷ (payload ++ rest)))
 
-pub record_fields : (r : Record) (rest : List ℕ) → record_bytes version r ++ rest
-    ≡ to_be_bytes w64 r.number ++ (rectangle_bytes r.rect ++ (length r.payload ∷ (r.payload ++ rest)))
+pub record_fields : (v : Version) (r : Record) (rest : List ℕ) → record_bytes v r ++ rest
+    ≡ to_be_bytes w64 r.number
+    ++ (rectangle_bytes r.rect ++ (layer_bytes v r.layer ++ (length r.payload ∷ (r.payload ++ rest))))
 unfolding record_bytes
-record_fields r rest =
-    let number = to_be_bytes w64 r.number in
-    let size = length r.payload in
-    ap (λ (x : List ℕ). (x ++ size ∷ r.payload) ++ rest) (append-nil (number ++ rectangle_bytes r.rect))
-    ∙ fields number (rectangle_bytes r.rect) r.payload rest size
+record_fields v r rest =
+    fields (to_be_bytes w64 r.number) (rectangle_bytes r.rect) (layer_bytes v r.layer) r.payload rest (length r.payload)
 
--- so many of them were passed over, and this is the rectangle round them
-pub record PassedRecords (rs : List Record) (rest : List ℕ) (i : ℕ) (all : Option Rectangle) (bytes : List ℕ)
-    : Type 0 where
-  pub round : rect_step (node.Leaf rs) ≡ join all (rect_step (node.Leaf (drop i rs)))
-  pub left_is : bytes ≡ flat_map (record_bytes version) (drop i rs) ++ rest
+-- so many of them were passed over, with this rectangle round them and this mask of their layers
+pub record PassedRecords (v : Version) (rs : List Record) (rest : List ℕ) (i : ℕ) (rect : Option Rectangle) (mask : ℕ)
+    (bytes : List ℕ) : Type 0 where
+  pub round : rect_step (node.Leaf rs) ≡ join rect (rect_step (node.Leaf (drop i rs)))
+  pub layers : mask_step v (node.Leaf rs) ≡ bit_or mask (mask_step v (node.Leaf (drop i rs)))
+  pub left_is : bytes ≡ flat_map (record_bytes v) (drop i rs) ++ rest
 
 -- the record at this place
-pub record NextRecord (rs : List Record) (rest : List ℕ) (i : ℕ) (bytes : List ℕ) : Type 0 where
+pub record NextRecord (v : Version) (rs : List Record) (rest : List ℕ) (i : ℕ) (bytes : List ℕ) : Type 0 where
   pub one : Record
   pub is : IsRecord one
+  pub layer : HasLayer v one
   pub more : drop i rs ≡ one ∷ drop (i + 1) rs
-  pub here : bytes ≡ record_bytes version one ++ (flat_map (record_bytes version) (drop (i + 1) rs) ++ rest)
+  pub here : bytes ≡ record_bytes v one ++ (flat_map (record_bytes v) (drop (i + 1) rs) ++ rest)
 
-record Next (rs : List Record) (i : ℕ) : Type 0 where
+record Next (v : Version) (rs : List Record) (i : ℕ) : Type 0 where
   one : Record
   is : IsRecord one
+  layer : HasLayer v one
   more : drop i rs ≡ one ∷ drop (suc i) rs
 
-next : (rs : List Record) (i : ℕ) → i < length rs → AllByRecursion IsRecord rs → Next rs i
-next [] i lt all = absurd (omega arith)
-next (r ∷ rs) zero lt all = record { one = r; is = all.0; more = refl }
-next (r ∷ rs) (suc i) lt all =
-    let n = next rs i (omega arith) all.1 in
-    record { one = n.one; is = n.is; more = n.more }
+next : (v : Version) (rs : List Record) (i : ℕ) → i < length rs → AllByRecursion IsRecord rs
+    → AllByRecursion (HasLayer v) rs → Next v rs i
+next v [] i lt all low = absurd (omega arith)
+next v (r ∷ rs) zero lt all low = record { one = r; is = all.0; layer = low.0; more = refl }
+next v (r ∷ rs) (suc i) lt all low =
+    let n = next v rs i (omega arith) all.1 low.1 in
+    record { one = n.one; is = n.is; layer = n.layer; more = n.more }
 
-pub next_record : (rs : List Record) (rest : List ℕ) (i : ℕ) (bytes : List ℕ) → i < length rs → All IsRecord rs
-    → bytes ≡ flat_map (record_bytes version) (drop i rs) ++ rest → NextRecord rs rest i bytes
-next_record rs rest i bytes lt all e =
-    let n = next rs i lt (recursion_from_All IsRecord rs all) in
+pub next_record : (v : Version) (rs : List Record) (rest : List ℕ) (i : ℕ) (bytes : List ℕ) → i < length rs
+    → All IsRecord rs → All (HasLayer v) rs → bytes ≡ flat_map (record_bytes v) (drop i rs) ++ rest
+    → NextRecord v rs rest i bytes
+next_record v rs rest i bytes lt all low e =
+    let n = next v rs i lt (recursion_from_All IsRecord rs all) (recursion_from_All (HasLayer v) rs low) in
     let plus : suc i ≡ i + 1 = omega arith in
     let more : drop i rs ≡ n.one ∷ drop (i + 1) rs = n.more ∙ ap (λ k. n.one ∷ drop k rs) plus in
     record {
       one = n.one;
       is = n.is;
+      layer = n.layer;
       more = more;
-      here = e ∙ ap (λ xs. flat_map (record_bytes version) xs ++ rest) more
-          ∙ append_assoc (record_bytes version n.one) (flat_map (record_bytes version) (drop (i + 1) rs)) rest;
+      here = e ∙ ap (λ xs. flat_map (record_bytes v) xs ++ rest) more
+          ∙ append_assoc (record_bytes v n.one) (flat_map (record_bytes v) (drop (i + 1) rs)) rest;
     }
 
 round_first : (r : Record) (rs : List Record)
     → rect_step (node.Leaf (r ∷ rs)) ≡ join (Some r.rect) (rect_step (node.Leaf rs))
 round_first r rs = fold_join (Some r.rect) (map (λ (r : Record). Some r.rect) rs)
 
+layers_first : (v : Version) (r : Record) (rs : List Record)
+    → mask_step v (node.Leaf (r ∷ rs)) ≡ bit_or (layer_bit v r) (mask_step v (node.Leaf rs))
+layers_first v r rs = mask_of-cons (layer_bit v r) (map (layer_bit v) rs)
+
 -- one more was passed over
-pub record_more : (rs : List Record) (rest : List ℕ) (i : ℕ) (all more one : Option Rectangle) (bytes after : List ℕ)
-    → PassedRecords rs rest i all bytes → (n : NextRecord rs rest i bytes) → one ≡ Some n.one.rect → more ≡ join all one
-    → after ≡ flat_map (record_bytes version) (drop (i + 1) rs) ++ rest → PassedRecords rs rest (i + 1) more after
-record_more rs rest i all more one bytes after so n is joined behind =
+pub record_more : (v : Version) (rs : List Record) (rest : List ℕ) (i : ℕ) (rect more : Option Rectangle)
+    (mask bits : ℕ) (one : Summary) (bytes after : List ℕ) → PassedRecords v rs rest i rect mask bytes
+    → (n : NextRecord v rs rest i bytes) → one ≡ record_summary v n.one → more ≡ join rect one.rect
+    → bits ≡ bit_or mask one.mask → after ≡ flat_map (record_bytes v) (drop (i + 1) rs) ++ rest
+    → PassedRecords v rs rest (i + 1) more bits after
+record_more v rs rest i rect more mask bits one bytes after so n is joined united behind =
     let others = rect_step (node.Leaf (drop (i + 1) rs)) in
+    let below = mask_step v (node.Leaf (drop (i + 1) rs)) in
     record {
-      round = so.round ∙ ap (λ xs. join all (rect_step (node.Leaf xs))) n.more
-          ∙ ap (join all) (round_first n.one (drop (i + 1) rs)) ∙ sym (join_assoc all (Some n.one.rect) others)
-          ∙ ap (λ o. join o others) (sym (joined ∙ ap (join all) is));
+      round = so.round ∙ ap (λ xs. join rect (rect_step (node.Leaf xs))) n.more
+          ∙ ap (join rect) (round_first n.one (drop (i + 1) rs)) ∙ sym (join_assoc rect (Some n.one.rect) others)
+          ∙ ap (λ o. join o others) (sym (joined ∙ ap (λ (x : Summary). join rect x.rect) is));
+      layers = so.layers ∙ ap (λ xs. bit_or mask (mask_step v (node.Leaf xs))) n.more
+          ∙ ap (bit_or mask) (layers_first v n.one (drop (i + 1) rs))
+          ∙ sym (or_assoc mask (layer_bit v n.one) below)
+          ∙ ap (λ m. bit_or m below) (sym (united ∙ ap (λ (x : Summary). bit_or mask x.mask) is));
       left_is = behind;
     }
 
 -- all of them were passed over
-pub all_records : (rs : List Record) (rest : List ℕ) (i : ℕ) (all : Option Rectangle) (bytes : List ℕ)
-    → length rs ≤ i → PassedRecords rs rest i all bytes → (all ≡ rect_step (node.Leaf rs)) × (bytes ≡ rest)
-all_records rs rest i all bytes le so = (
-  sym (so.round ∙ ap (λ xs. join all (rect_step (node.Leaf xs))) (drop-all i rs le) ∙ join_none all),
-  so.left_is ∙ ap (λ xs. flat_map (record_bytes version) xs ++ rest) (drop-all i rs le),
-)
+pub all_records : (v : Version) (rs : List Record) (rest : List ℕ) (i : ℕ) (rect : Option Rectangle) (mask count : ℕ)
+    (bytes : List ℕ) → length rs ≤ i → PassedRecords v rs rest i rect mask bytes → count ≡ told v (length rs)
+    → (record { rect = rect; mask = mask; count = count } ≡ leaf_summary v rs) × (bytes ≡ rest)
+all_records v rs rest i rect mask count bytes le so counted =
+    let none = drop-all i rs le in
+    let round : rect ≡ rect_step (node.Leaf rs) =
+    sym (so.round ∙ ap (λ xs. join rect (rect_step (node.Leaf xs))) none ∙ join_none rect) in
+    let layers : mask ≡ mask_step v (node.Leaf rs) =
+    sym (so.layers ∙ ap (λ xs. bit_or mask (mask_step v (node.Leaf xs))) none ∙ or_comm mask 0) in (
+      λ j. record { rect = round j; mask = layers j; count = counted j },
+      so.left_is ∙ ap (λ xs. flat_map (record_bytes v) xs ++ rest) none,
+    )
+
+-- ---- a pruned part
+
+-- its bytes, field by field
+pub shown_fields : (v : Version) (part : PrunedEntry) (rest : List ℕ) → shown_bytes v part ++ rest
+    ≡ rectangle_bytes part.rect
+    ++ (word_bytes v part.mask ++ (word_bytes v part.count ++ (part.digest ++ rest)))
+shown_fields v part rest =
+    let mask = word_bytes v part.mask in
+    let count = word_bytes v part.count in
+    append_assoc (rectangle_bytes part.rect) (mask ++ (count ++ part.digest)) rest
+    ∙ ap (λ xs. rectangle_bytes part.rect ++ xs) (append_assoc mask (count ++ part.digest) rest
+    ∙ ap (λ xs. mask ++ xs) (append_assoc count part.digest rest))
 
 -- ---- a radius
 
@@ -142,62 +185,62 @@ drop_cuts zero Ps = Ps
 drop_cuts (suc i) no_more = no_more
 drop_cuts (suc i) (first P Ps) = drop_cuts i Ps
 
-pub record NextCut (hash : List ℕ → List ℕ) (w : ℕ) (Ps : Cuts) (i : ℕ) : Type 0 where
+pub record NextCut (scheme : Scheme) (w : ℕ) (Ps : Cuts) (i : ℕ) : Type 0 where
   pub cut : Cut
-  pub fits : FitsCut w cut
+  pub fits : FitsCut scheme.version w cut
   pub here : drop_cuts i Ps ≡ first cut (drop_cuts (suc i) Ps)
-  pub more : take (suc i) (entries (scheme hash) w Ps) ≡ take i (entries (scheme hash) w Ps)
-      ++ entry (scheme hash) w cut ∷ []
+  pub more : take (suc i) (entries scheme w Ps) ≡ take i (entries scheme w Ps)
+      ++ entry scheme w cut ∷ []
 
-pub next_cut : (hash : List ℕ → List ℕ) (w : ℕ) (Ps : Cuts) (i : ℕ) → i < number_of_cuts Ps → FitCuts w Ps
-    → NextCut hash w Ps i
-next_cut hash w no_more i lt fits = absurd (omega arith)
-next_cut hash w (first P Ps) zero lt fits = record { cut = P; fits = fits.0; here = refl; more = refl }
-next_cut hash w (first P Ps) (suc i) lt fits =
-    let n = next_cut hash w Ps i (omega arith) fits.1 in
-    record { cut = n.cut; fits = n.fits; here = n.here; more = ap (λ xs. entry (scheme hash) w P ∷ xs) n.more }
+pub next_cut : (scheme : Scheme) (w : ℕ) (Ps : Cuts) (i : ℕ) → i < number_of_cuts Ps → FitCuts scheme.version w Ps
+    → NextCut scheme w Ps i
+next_cut scheme w no_more i lt fits = absurd (omega arith)
+next_cut scheme w (first P Ps) zero lt fits = record { cut = P; fits = fits.0; here = refl; more = refl }
+next_cut scheme w (first P Ps) (suc i) lt fits =
+    let n = next_cut scheme w Ps i (omega arith) fits.1 in
+    record { cut = n.cut; fits = n.fits; here = n.here; more = ap (λ xs. entry scheme w P ∷ xs) n.more }
 
-pub length-entries : (hash : List ℕ → List ℕ) (w : ℕ) (Ps : Cuts) → length (entries (scheme hash) w Ps) ≡
+pub length-entries : (scheme : Scheme) (w : ℕ) (Ps : Cuts) → length (entries scheme w Ps) ≡
     number_of_cuts Ps
-length-entries hash w no_more = refl
-length-entries hash w (first P Ps) = let rest = length-entries hash w Ps in omega arith
+length-entries scheme w no_more = refl
+length-entries scheme w (first P Ps) = let rest = length-entries scheme w Ps in omega arith
 
 -- so many of them were passed over
-pub record PassedSome (hash : List ℕ → List ℕ) (w : ℕ) (Ps : Cuts) (rest : List ℕ) (i : ℕ) (xs : List Entry)
+pub record PassedSome (scheme : Scheme) (w : ℕ) (Ps : Cuts) (rest : List ℕ) (i : ℕ) (xs : List Entry)
     (bytes : List ℕ) : Type 0 where
-  pub say : xs ≡ take i (entries (scheme hash) w Ps)
-  pub left_is : bytes ≡ cuts_bytes (drop_cuts i Ps) ++ rest
+  pub say : xs ≡ take i (entries scheme w Ps)
+  pub left_is : bytes ≡ cuts_bytes scheme.version (drop_cuts i Ps) ++ rest
 
-pub record NextItem (hash : List ℕ → List ℕ) (w : ℕ) (Ps : Cuts) (rest : List ℕ) (i : ℕ) (bytes : List ℕ)
+pub record NextItem (scheme : Scheme) (w : ℕ) (Ps : Cuts) (rest : List ℕ) (i : ℕ) (bytes : List ℕ)
     : Type 0 where
   pub cut : Cut
-  pub fits : FitsCut w cut
-  pub here : bytes ≡ cut_bytes cut ++ (cuts_bytes (drop_cuts (i + 1) Ps) ++ rest)
-  pub more : take (i + 1) (entries (scheme hash) w Ps) ≡ take i (entries (scheme hash) w Ps)
-      ++ entry (scheme hash) w cut ∷ []
+  pub fits : FitsCut scheme.version w cut
+  pub here : bytes ≡ cut_bytes scheme.version cut ++ (cuts_bytes scheme.version (drop_cuts (i + 1) Ps) ++ rest)
+  pub more : take (i + 1) (entries scheme w Ps) ≡ take i (entries scheme w Ps)
+      ++ entry scheme w cut ∷ []
 
-pub next_item : (hash : List ℕ → List ℕ) (w : ℕ) (Ps : Cuts) (rest : List ℕ) (i : ℕ) (bytes : List ℕ)
-    → i < number_of_cuts Ps → FitCuts w Ps → bytes ≡ cuts_bytes (drop_cuts i Ps) ++ rest
-    → NextItem hash w Ps rest i bytes
-next_item hash w Ps rest i bytes lt fits e =
-    let n = next_cut hash w Ps i lt fits in
+pub next_item : (scheme : Scheme) (w : ℕ) (Ps : Cuts) (rest : List ℕ) (i : ℕ) (bytes : List ℕ)
+    → i < number_of_cuts Ps → FitCuts scheme.version w Ps → bytes ≡ cuts_bytes scheme.version (drop_cuts i Ps) ++ rest
+    → NextItem scheme w Ps rest i bytes
+next_item scheme w Ps rest i bytes lt fits e =
+    let n = next_cut scheme w Ps i lt fits in
     let plus : suc i ≡ i + 1 = omega arith in
     record {
       cut = n.cut;
       fits = n.fits;
-      here = e ∙ ap (λ Qs. cuts_bytes Qs ++ rest) n.here
-          ∙ append_assoc (cut_bytes n.cut) (cuts_bytes (drop_cuts (suc i) Ps)) rest
-          ∙ ap (λ k. cut_bytes n.cut ++ (cuts_bytes (drop_cuts k Ps) ++ rest)) plus;
-      more = ap (λ k. take k (entries (scheme hash) w Ps)) (sym plus) ∙ n.more;
+      here = e ∙ ap (λ Qs. cuts_bytes scheme.version Qs ++ rest) n.here
+          ∙ append_assoc (cut_bytes scheme.version n.cut) (cuts_bytes scheme.version (drop_cuts (suc i) Ps)) rest
+          ∙ ap (λ k. cut_bytes scheme.version n.cut ++ (cuts_bytes scheme.version (drop_cuts k Ps) ++ rest)) plus;
+      more = ap (λ k. take k (entries scheme w Ps)) (sym plus) ∙ n.more;
     }
 
 -- one more was passed over
-pub passed_more : (hash : List ℕ → List ℕ) (w : ℕ) (Ps : Cuts) (rest : List ℕ) (i : ℕ) (xs more : List Entry)
-    (bytes after : List ℕ) (x : Entry) → PassedSome hash w Ps rest i xs bytes
-    → (n : NextItem hash w Ps rest i bytes)
-    → Passed hash w n.cut (cuts_bytes (drop_cuts (i + 1) Ps) ++ rest) x after → more ≡ xs ++ x ∷ []
-    → PassedSome hash w Ps rest (i + 1) more after
-passed_more hash w Ps rest i xs more bytes after x so n one pushed = record {
+pub passed_more : (scheme : Scheme) (w : ℕ) (Ps : Cuts) (rest : List ℕ) (i : ℕ) (xs more : List Entry)
+    (bytes after : List ℕ) (x : Entry) → PassedSome scheme w Ps rest i xs bytes
+    → (n : NextItem scheme w Ps rest i bytes)
+    → Passed scheme w n.cut (cuts_bytes scheme.version (drop_cuts (i + 1) Ps) ++ rest) x after → more ≡ xs ++ x ∷ []
+    → PassedSome scheme w Ps rest (i + 1) more after
+passed_more scheme w Ps rest i xs more bytes after x so n one pushed = record {
   say = pushed ∙ (λ j. so.say j ++ one.says j ∷ []) ∙ sym n.more;
   left_is = one.behind;
 }
@@ -209,9 +252,10 @@ drop_all (first P Ps) zero le = absurd (omega arith)
 drop_all (first P Ps) (suc i) le = drop_all Ps i (omega arith)
 
 -- all of them were passed over
-pub all_passed : (hash : List ℕ → List ℕ) (w : ℕ) (Ps : Cuts) (rest : List ℕ) (i : ℕ) (xs : List Entry)
-    (bytes : List ℕ) → number_of_cuts Ps ≤ i → PassedSome hash w Ps rest i xs bytes → PassedAll hash w Ps rest xs bytes
-all_passed hash w Ps rest i xs bytes le so = record {
-  say = so.say ∙ take-all i (entries (scheme hash) w Ps) (omega (arith, le, length-entries hash w Ps));
-  behind = so.left_is ∙ ap (λ Qs. cuts_bytes Qs ++ rest) (drop_all Ps i le);
+pub all_passed : (scheme : Scheme) (w : ℕ) (Ps : Cuts) (rest : List ℕ) (i : ℕ) (xs : List Entry)
+    (bytes : List ℕ) → number_of_cuts Ps ≤ i → PassedSome scheme w Ps rest i xs bytes
+    → PassedAll scheme w Ps rest xs bytes
+all_passed scheme w Ps rest i xs bytes le so = record {
+  say = so.say ∙ take-all i (entries scheme w Ps) (omega (arith, le, length-entries scheme w Ps));
+  behind = so.left_is ∙ ap (λ Qs. cuts_bytes scheme.version Qs ++ rest) (drop_all Ps i le);
 }

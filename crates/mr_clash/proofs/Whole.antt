@@ -13,13 +13,12 @@ use Rattle.std.proofs.Props.{props}
 use Rattle.std.specs.Coded.{Coded-set as set}
 use Rattle.mr_record.specs.contracts.record.Record.{the_row as row}
 use Rattle.mr_tree.specs.WellFormed.{WellFormed, HasLayers}
-use Rattle.mr_record.specs.declared.version.Version.TheVariants.{One}
 use Rattle.mr_query.specs.Scan.{scan}
 use Rattle.mr_query.specs.declared.query.Query.{Query}
 use Rattle.mr_proof.specs.declared.rule.Fault.{Fault}
 use Rattle.mr_proof.specs.Halves.{AcceptsHonest}
 use Rattle.mr_proof.specs.Headline.{IsHonest, AcceptedIsHonest, HonestIsQuiet}
-use Rattle.mr_proof.specs.Honest.{proof}
+use Rattle.mr_proof.specs.Honest.{IsProof}
 use Rattle.mr_proof.specs.Reading.{verdict}
 use Rattle.mr_check.proofs.Gathering.{answered}
 use Rattle.mr_check.proofs.Judging.{accepted, refused}
@@ -31,22 +30,27 @@ use Rattle.mr_clash.specs.declared.finding.Finding.{Finding}
 use Rattle.mr_clash.specs.declared.finding.Finding.TheVariants as findings
 use Rattle.mr_proof.specs.declared.head.Kind.{Kind}
 use Rattle.mr_proof.specs.Spelling.{Parsed, IsSpelled}
-use Rattle.mr_proof.specs.Tight.{kind_of, question}
+use Rattle.mr_proof.specs.Tight.{kind_of, kind_of_shape, question}
 use Rattle.mr_proof.specs.Reading.{checked}
 use Rattle.mr_proof.specs.Halves.{IsQueried}
 use Rattle.mr_proof.proofs.Pairs.{kind_spelled, pair_found}
-use Rattle.mr_query.specs.declared.query.Query.TheVariants.{Window, Nearest}
+use Rattle.mr_query.specs.declared.query.Shape.{Shape}
+use Rattle.mr_query.specs.declared.query.Shape.TheVariants.{Window, Nearest}
 use Rattle.mr_proof.specs.Clash.{Pair, clash_of, clash, NoneAnd}
 use Rattle.mr_record.proofs.Encodings.{IsBytes}
 use Rattle.mr_query.specs.Word.{IsQuery}
 use Rattle.mr_proof.proofs.Laws.{is_lawful}
 use Rattle.mr_proof.proofs.Soundness.{shows_from}
+use Rattle.mr_clash.proofs.HonestProofs.{proof_prop}
 
 -- ---- findings
 
+queried_shape : (x : Shape) → IsQueried (kind_of_shape x)
+queried_shape (Window w) = tt
+queried_shape (Nearest p k) = tt
+
 pub queried : (q : Query) → IsQueried (kind_of q)
-queried (Window w) = tt
-queried (Nearest p k) = tt
+queried q = queried_shape q.shape
 
 -- ---- of what bytes are worth
 
@@ -155,11 +159,12 @@ module _ (h : Scheme) (q : Query) (t : Tree) (b : ℕ) (bytes : List ℕ) (well 
       none_and None e k = k
       none_and (Some p) e k = absurd cc
 
-  honest_sound : (v : Finding) → v ≡ found h t b q bytes → bytes ≡ proof h t b q
+  honest_sound : (v : Finding) → v ≡ found h t b q bytes → IsProof h t b q bytes
       → v ≡ findings.Sound (scan (records t) q)
-  honest_sound v is own =
-      is ∙ ap (found h t b q) own
-      ∙ (λ i. finding_of (accepts t b well layers low i) (quiet t b well layers low i))
+  honest_sound v is honest =
+      is ∙ ap (found h t b q) honest.own
+      ∙ (λ i. finding_of (accepts t b honest.may_come well layers low i)
+      (quiet t b honest.may_come well layers low i))
 
   sound_is : (v : Finding) → IsSound v → (answer : List Record) × (v ≡ findings.Sound answer)
   sound_is (findings.Refused f) sound = absurd sound
@@ -171,7 +176,7 @@ module _ (h : Scheme) (q : Query) (t : Tree) (b : ℕ) (bytes : List ℕ) (well 
     (
       λ sound. let x = sound_is v sound in (sound_own (verdict h.of (digests.root h t b) q bytes)
           (clash h t b bytes) v refl refl is x.0 x.1).own,
-      λ own. subst IsSound (sym (honest_sound v is own)) tt,
+      λ honest. subst IsSound (sym (honest_sound v is honest)) tt,
     ),
     λ answer sound. (sound_own (verdict h.of (digests.root h t b) q bytes) (clash h t b bytes) v refl refl is
         answer sound).complete,
@@ -179,24 +184,27 @@ module _ (h : Scheme) (q : Query) (t : Tree) (b : ℕ) (bytes : List ℕ) (well 
 
 finds_prop : (h : Scheme) (t : Tree) (b : ℕ) (q : Query) (bytes : List ℕ) (v : Finding)
     → IsProp (FindsHonest h t b q bytes v)
-finds_prop h t b q bytes (findings.Refused f) = hlevel (props, set row.coded)
-finds_prop h t b q bytes (findings.Sound answer) = hlevel (props, set row.coded)
-finds_prop h t b q bytes (findings.Collision owned shown) = hlevel (props, set row.coded)
+finds_prop h t b q bytes (findings.Refused f) =
+    hlevel (props, set row.coded, proof_prop h (question q) t b bytes)
+finds_prop h t b q bytes (findings.Sound answer) =
+    hlevel (props, set row.coded, proof_prop h (question q) t b bytes)
+finds_prop h t b q bytes (findings.Collision owned shown) =
+    hlevel (props, set row.coded, proof_prop h (question q) t b bytes)
 
--- so of a finding by a told tree, which is well formed and has the layers of version 1
+-- so of a finding by a told tree, which is well formed and has the layers of its version
 pub honest_told : (hash : List ℕ → List ℕ) (q : Query) (bytes : List ℕ) (s : MapModel) (top : Top)
-    (v : Finding) → IsTop hash s top → top.batch < 2 ^ 64 → AcceptsHonest (by One hash) q
-    → AcceptedIsHonest (by One hash) q bytes → HonestIsQuiet (by One hash) q → s.version ≡ One
-    → IfSome s.tree (λ t. ∥ WellFormed t ∥₁)
+    (v : Finding) → IsTop hash s top → top.batch < 2 ^ 64 → AcceptsHonest (by s.version hash) q
+    → AcceptedIsHonest (by s.version hash) q bytes → HonestIsQuiet (by s.version hash) q
+    → IfSome s.tree (λ t. ∥ WellFormed t ∥₁) → IfSome s.tree (HasLayers s.version)
     → IfSome s.tree (λ t. v ≡ found (by s.version hash) t s.batch q bytes)
-    → IfSome s.tree (λ t. HasLayers One t → FindsHonest (by One hash) t s.batch q bytes v)
-honest_told hash q bytes s top v is low accepts matches quiet one wells told = by_tree s.tree wells told
+    → IfSome s.tree (λ t. FindsHonest (by s.version hash) t s.batch q bytes v)
+honest_told hash q bytes s top v is low accepts matches quiet wells layers told = by_tree s.tree wells layers told
   where
-    by_tree : (o : Option Tree) → IfSome o (λ t. ∥ WellFormed t ∥₁)
+    by_tree : (o : Option Tree) → IfSome o (λ t. ∥ WellFormed t ∥₁) → IfSome o (HasLayers s.version)
         → IfSome o (λ t. v ≡ found (by s.version hash) t s.batch q bytes)
-        → IfSome o (λ t. HasLayers One t → FindsHonest (by One hash) t s.batch q bytes v)
-    by_tree None wells told = tt
-    by_tree (Some t) wells told = λ layers.
-        ∥∥₁_elim wells (finds_prop (by One hash) t s.batch q bytes v) (λ well.
-        finds_honest (by One hash) q t s.batch bytes well layers (subst (λ n. n < 2 ^ 64) is.batch low) accepts
-        matches quiet v (told ∙ ap (λ w. found (by w hash) t s.batch q bytes) one))
+        → IfSome o (λ t. FindsHonest (by s.version hash) t s.batch q bytes v)
+    by_tree None wells layers told = tt
+    by_tree (Some t) wells layers told =
+        ∥∥₁_elim wells (finds_prop (by s.version hash) t s.batch q bytes v) (λ well.
+        finds_honest (by s.version hash) q t s.batch bytes well layers (subst (λ n. n < 2 ^ 64) is.batch low) accepts
+        matches quiet v told)

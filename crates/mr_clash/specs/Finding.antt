@@ -9,7 +9,7 @@ use Rattle.mr_tree.specs.declared.tree.Tree.{Tree}
 use Rattle.mr_query.specs.Scan.{scan}
 use Rattle.mr_query.specs.declared.query.Query.{Query}
 use Rattle.mr_proof.specs.declared.rule.Fault.{Fault}
-use Rattle.mr_proof.specs.Honest.{proof, opened_of}
+use Rattle.mr_proof.specs.Honest.{IsProof, opened_of}
 use Rattle.mr_proof.specs.Spelling.{Parsed}
 use Rattle.mr_proof.specs.Reading.{verdict, pair_in}
 use Rattle.mr_proof.specs.Clash.{Pair, clash, IsCollision}
@@ -39,7 +39,7 @@ IsSound _ = ⊥
 -- just the honest proof is found to be sound, and its answer is the scan of the map's records
 abbrev pub FindsHonest : Scheme → Tree → (batch : ℕ) → Query → List ℕ → Finding → Type 0
 FindsHonest s t batch q bytes finding =
-    (IsSound finding ↔ (bytes ≡ proof s t batch q))
+    (IsSound finding ↔ IsProof s t batch q bytes)
     × ((answer : List Record) → finding ≡ findings.Sound answer → answer ≡ scan (records t) q)
 
 -- two strings that are shown differ and have one hash

@@ -6,7 +6,7 @@ use Rattle.mr_tree.specs.declared.nodes.Top.{Top}
 use Rattle.mr_tree.specs.declared.tree.Tree.{Tree}
 use Rattle.mr_proof.specs.declared.rule.Fault.{Fault}
 use Rattle.mr_proof.specs.Tight.{Question}
-use Rattle.mr_proof.specs.Honest.{opened_of, proof_for}
+use Rattle.mr_proof.specs.Honest.{opened_of, IsProofFor}
 use Rattle.mr_proof.specs.Spelling.{Parsed}
 use Rattle.mr_proof.specs.Reading.{checked}
 use Rattle.mr_proof.specs.Clash.{Pair, clash_of, IsCollision}
@@ -50,7 +50,7 @@ IsSoundProof _ = ⊥
 abbrev pub FindsHonestProof : Scheme → Tree → (batch : ℕ) → Question → List ℕ → QuestionFinding
     → Type 0
 FindsHonestProof s t batch a bytes finding =
-    IsSoundProof finding ↔ (bytes ≡ proof_for s a t batch)
+    IsSoundProof finding ↔ IsProofFor s a t batch bytes
 
 -- told or not: by the verdict against the root digest of what a map that stands so says of itself
 abbrev pub QuestionFindingFor : (List ℕ → List ℕ) → MapModel → Question → List ℕ → QuestionFinding

@@ -1,15 +1,12 @@
 //! The audit of a whole proof.
 
 ghost use Rattle.std.specs.Prelude.{◌≡◌, ◌+◌, ◌≤◌, ◌<◌, ◌^◌, ℕ, List, Option, None, Some, true, false, IfOk, IfErr, IfSome, option_map};
-ghost use Rattle.mr_record.specs.declared.version.Version.TheVariants.{One};
 ghost use Rattle.mr_geom.specs.Rectangle.{IsOrdered, FitsMap};
 ghost use Rattle.mr_tree.specs.Digest.{by};
-ghost use Rattle.mr_tree.specs.WellFormed.{HasLayers};
 ghost use Rattle.mr_tree.specs.Nodes.{IsTop, TellsRefusal};
 ghost use Rattle.mr_tree.specs.declared.nodes.Top as tops;
 ghost use Rattle.mr_tree.specs.declared.tree.Tree as trees;
 ghost use Rattle.mr_query.specs.Word.{IsAskable};
-ghost use Rattle.mr_proof.specs.Fields.{version};
 ghost use Rattle.mr_clash.specs.Causes.{AuditCauses, IsHandedOn, of_nodes};
 ghost use Rattle.mr_clash.specs.Finding.{found, opened_accepted, root_at, ShowsCollision, FindsFor, FindsHonest, FetchesFew};
 ghost use Rattle.mr_clash.specs.QuestionFindings.{FindsOf};
@@ -68,21 +65,36 @@ fn is_rect(one: &Rect)
 }
 
 // The root item behind the head, beside no node of the map.
-fn pass_root<H: Hashes>(alloc: Global, level: u8, from: &mut Rest<'_>) -> Result<Walked, AllocError>
-    ensures { PassesRoot H.of level (left from.old) result }
+fn pass_root<H: Hashes>(
+    alloc: Global,
+    version: Version,
+    level: u8,
+    from: &mut Rest<'_>,
+) -> Result<Walked, AllocError>
+    ensures { PassesRoot (by version H.of) level (left from.old) result }
 {
-    let entry = pass_item::<H>(alloc, level, from)?;
+    let entry = pass_item::<H>(alloc, version, level, from)?;
     Ok(Walked { entry, clash: None })
 }
 
-// Whether the map is of the version of proofs, and its root node of this level.
-fn is_alike(top: &Top, root: &Child, level: u8) -> bool
-    ensures alike { result ≡ true → (top.now.version ≡ version) × (root.now.level ≡ level) }
-    ensures other { result ≡ false → top.now.version ≡ version → root.now.level ≡ level → ⊥ }
+fn is_same(one: Version, other: Version) -> bool
+    ensures alike { result ≡ true → one ≡ other }
+    ensures other { result ≡ false → one ≡ other → ⊥ }
 {
-    match top.version {
-        Version::One => root.level == level,
-        Version::Two => false,
+    one == other
+}
+
+// Whether the map, with this root node, and the head are of one version and one level.
+fn is_alike(top: &Top, root: &Child, said: &HeadSays) -> bool
+    ensures alike { result ≡ true
+        → (top.now.version ≡ said.now.version) × (root.now.level ≡ said.now.level) }
+    ensures other { result ≡ false
+        → top.now.version ≡ said.now.version → root.now.level ≡ said.now.level → ⊥ }
+{
+    if is_same(top.version, said.version) {
+        root.level == said.level
+    } else {
+        false
     }
 }
 
@@ -113,18 +125,18 @@ fn walk_root<N: Nodes>(
     }
     match top.root {
         None => {
-            let alone = pass_root::<N::Hash>(alloc, said.level, from)?;
+            let alone = pass_root::<N::Hash>(alloc, said.version, said.level, from)?;
             Ok(alone)
         }
         Some(root) => {
             are_words(top.batch, top.count);
             digests_are_sized::<N::Hash>();
             is_rect(&root.rect);
-            if is_alike(top, &root, said.level) {
+            if is_alike(top, &root, said) {
                 let mut view = NodeView::new();
-                return walk(alloc, nodes, &root, &mut view, from);
+                return walk(alloc, nodes, top.version, &root, &mut view, from);
             }
-            let alone = pass_root::<N::Hash>(alloc, said.level, from)?;
+            let alone = pass_root::<N::Hash>(alloc, said.version, said.level, from)?;
             Ok(alone)
         }
     }
@@ -174,6 +186,8 @@ fn finding_of(question_finding: QuestionFinding, q: &Query) -> Result<Finding, A
 /// The proof is checked as a client checks it, against the root digest of the map. Bytes that are
 /// accepted are then compared with the map: of the strings that stand at one place and differ, a
 /// node's before its children's and children's from left to right, the first two have one hash.
+/// Those of the map are in its version and those of the proof in the proof's, so that a map and a
+/// proof of two versions differ at their roots.
 ///
 /// The walk goes over the map and the bytes once, side by side. It fetches what the proof opens,
 /// and hashes only strings that differ from the map's or have none beside them. It keeps the nodes
@@ -193,10 +207,11 @@ pub fn audit<N: Nodes>(
     ensures told { IfSome (N.stands nodes.old).tree (λ t. IfOk result (λ v. v
         ≡ found (by (N.stands nodes.old).version N.Hash.of) t (N.stands nodes.old).batch
         q.now proof.now)) }
-    // Of a map of version 1 just the honest proof is found to be sound.
-    ensures honest { (N.stands nodes.old).version ≡ One → IfSome (N.stands nodes.old).tree (λ t.
-        HasLayers One t → IfOk result (λ v.
-        FindsHonest (by One N.Hash.of) t (N.stands nodes.old).batch q.now proof.now v)) }
+    // Just the honest proof is found to be sound, and of a map of version 1 none where a mask is
+    // named.
+    ensures honest { IfSome (N.stands nodes.old).tree (λ t. IfOk result (λ v.
+        FindsHonest (by (N.stands nodes.old).version N.Hash.of) t (N.stands nodes.old).batch
+        q.now proof.now v)) }
     // Told or not, what is found goes by the verdict against the root digest of what `top` says.
     ensures judged { IfOk result (λ v.
         FindsFor N.Hash.of (N.stands nodes.old) q.now proof.now v) }

@@ -12,6 +12,7 @@ mod question_finding;
 mod rest;
 mod root;
 mod strings;
+mod summary;
 mod walked;
 mod walking;
 

@@ -5,7 +5,6 @@ ghost use Rattle.std.specs.List.{flat_map};
 ghost use Rattle.mr_record.specs.Record.{HasLayer, record_bytes};
 ghost use Rattle.mr_record.specs.declared.version.Version.TheVariants.{Two};
 ghost use Rattle.mr_tree.specs.View.{child_entry};
-ghost use Rattle.mr_proof.specs.Fields.{version};
 ghost use Rattle.mr_proof.specs.Cut.{Leaf};
 ghost use Rattle.mr_proof.specs.Spelling.{cut_bytes};
 ghost use Rattle.mr_clash.specs.private.Steps.{left};
@@ -14,8 +13,7 @@ ghost use Rattle.mr_tree.specs.Limits.{leaf_limit};
 use crate::finding::are_same;
 use crate::rest::Rest;
 use mr_geom::Rect;
-use mr_proof::VERSION;
-use mr_record::{Record, encoded};
+use mr_record::{Record, Version, encoded};
 use mr_tree::{Child, Entry};
 
 // Passes over these bytes, and tells whether they stood there.
@@ -31,21 +29,21 @@ fn pass_bytes(bytes: &[u8], from: &mut Rest<'_>) -> bool
 }
 
 // Passes over this record, and tells whether it stood there.
-fn pass_own_record(one: &Record, from: &mut Rest<'_>) -> bool
+fn pass_own_record(version: Version, one: &Record, from: &mut Rest<'_>) -> bool
     requires { HasLayer Two one.now }
     ensures { result ≡ true → left from.old ≡ record_bytes version one.now ++ left from.new }
 {
-    pass_bytes(encoded(VERSION, one).as_slice(), from)
+    pass_bytes(encoded(version, one).as_slice(), from)
 }
 
 // Passes over these records, and tells whether they stood there.
-fn pass_own_records(records: &[Record], from: &mut Rest<'_>) -> bool
+fn pass_own_records(version: Version, records: &[Record], from: &mut Rest<'_>) -> bool
     requires { All (HasLayer Two) records.now }
     ensures { result ≡ true
         → left from.old ≡ flat_map (record_bytes version) records.now ++ left from.new }
 {
     for one in records {
-        if !pass_own_record(one, from) {
+        if !pass_own_record(version, one, from) {
             return false;
         }
     }
@@ -53,17 +51,18 @@ fn pass_own_records(records: &[Record], from: &mut Rest<'_>) -> bool
 }
 
 // Passes over the leaf with these records where it stands next, and else over nothing.
-pub(crate) fn pass_own_leaf(records: &[Record], from: &mut Rest<'_>) -> bool
+pub(crate) fn pass_own_leaf(version: Version, records: &[Record], from: &mut Rest<'_>) -> bool
     requires few { length records.now ≤ leaf_limit }
     requires layers { All (HasLayer Two) records.now }
-    ensures own { result ≡ true → left from.old ≡ cut_bytes (Leaf records.now) ++ left from.new }
+    ensures own { result ≡ true
+        → left from.old ≡ cut_bytes version (Leaf records.now) ++ left from.new }
     ensures other { result ≡ false → left from.new ≡ left from.old }
 {
     let mut ahead = *from;
     if !pass_bytes(&[b'L', records.len() as u8], &mut ahead) {
         return false;
     }
-    if !pass_own_records(records, &mut ahead) {
+    if !pass_own_records(version, records, &mut ahead) {
         return false;
     }
     *from = ahead;

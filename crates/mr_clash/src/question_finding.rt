@@ -1,9 +1,7 @@
 //! The audit of a proof, whatever it has to show.
 
 ghost use Rattle.std.specs.Prelude.{◌≡◌, ◌+◌, ◌≤◌, IfOk, IfErr, IfSome, option_map};
-ghost use Rattle.mr_record.specs.declared.version.Version.TheVariants.{One};
 ghost use Rattle.mr_tree.specs.Digest.{by};
-ghost use Rattle.mr_tree.specs.WellFormed.{HasLayers};
 ghost use Rattle.mr_tree.specs.Nodes.{TellsRefusal};
 ghost use Rattle.mr_proof.specs.Tight.{IsLawful};
 ghost use Rattle.mr_clash.specs.Causes.{AuditCauses, IsHandedOn, of_nodes};
@@ -106,10 +104,11 @@ pub fn audit_question<N: Nodes, A: AsQuestion>(
     ensures told { IfSome (N.stands nodes.old).tree (λ t. IfOk result
         (IsQuestionFinding (by (N.stands nodes.old).version N.Hash.of) t (N.stands nodes.old).batch
         (A.question q.now) proof.now)) }
-    // Of a map of version 1 just the honest proof is found to be sound.
-    ensures honest { (N.stands nodes.old).version ≡ One → IfSome (N.stands nodes.old).tree (λ t.
-        HasLayers One t → IfOk result (FindsHonestProof (by One N.Hash.of) t
-        (N.stands nodes.old).batch (A.question q.now) proof.now)) }
+    // Just the honest proof is found to be sound, and of a map of version 1 none where only proofs
+    // of version 2 may come.
+    ensures honest { IfSome (N.stands nodes.old).tree (λ t. IfOk result
+        (FindsHonestProof (by (N.stands nodes.old).version N.Hash.of) t (N.stands nodes.old).batch
+        (A.question q.now) proof.now)) }
     ensures judged { IfOk result
         (QuestionFindingFor N.Hash.of (N.stands nodes.old) (A.question q.now) proof.now) }
     ensures collides { IfOk result (QuestionFindingCollides N.Hash.of) }

@@ -4,12 +4,15 @@ ghost use Rattle.std.specs.Prelude.{◌≡◌, ◌<◌, ◌^◌, ◌∷◌, ◌+
 ghost use Rattle.std.specs.Int.{w64, to_be_bytes};
 ghost use Rattle.mr_geom.specs.Rectangle.{Rectangle, IsOrdered, FitsMap};
 ghost use Rattle.mr_record.specs.Record.{rectangle_bytes};
+ghost use Rattle.mr_record.specs.Version.{told};
+ghost use Rattle.mr_record.specs.declared.version.Version as versions;
+ghost use Rattle.mr_tree.specs.Digest.{word_bytes};
 ghost use Rattle.mr_proof.specs.Cut.{Cut};
 ghost use Rattle.mr_proof.specs.Spelling.{cut_bytes};
 ghost use Rattle.mr_clash.specs.private.Steps.{left, is_pruned as pruned};
 
 use mr_geom::Rect;
-use mr_record::{rect_of_bytes, u64_of_bytes};
+use mr_record::{Version, rect_of_bytes, u64_of_bytes};
 
 // What is left of the bytes of a proof.
 #[derive(Clone, Copy)]
@@ -54,6 +57,18 @@ pub(crate) fn number(from: &mut Rest<'_>) -> u64
     u64_of_bytes(bytes)
 }
 
+// Takes a mask or a count of a pruned part, of which version 1 spells none.
+pub(crate) fn word(version: Version, from: &mut Rest<'_>) -> u64
+    ensures { (x : ℕ) (rest : List ℕ) → x < 2 ^ told version 64
+        → left from.old ≡ word_bytes version x ++ rest
+        → (result ≡ x) × (left from.new ≡ rest) }
+{
+    match version {
+        Version::One => 0,
+        Version::Two => number(from),
+    }
+}
+
 // Takes a rectangle; none where no rectangle's bytes are left.
 pub(crate) fn rect(from: &mut Rest<'_>) -> Option<Rect>
     ensures { (r : Rectangle) (rest : List ℕ) → IsOrdered r → FitsMap r
@@ -92,8 +107,8 @@ pub(crate) fn passed<'a>(whole: &'a [u8], from: &Rest<'_>) -> &'a [u8]
 
 // Whether the item that stands next is pruned.
 pub(crate) fn is_pruned(from: &Rest<'_>) -> bool
-    ensures { (P : Cut) (rest : List ℕ) → left from.now ≡ cut_bytes P ++ rest
-        → result ≡ pruned P }
+    ensures { (v : versions.Version) (P : Cut) (rest : List ℕ)
+        → left from.now ≡ cut_bytes v P ++ rest → result ≡ pruned P }
 {
     from.bytes.first() == Some(&b'P')
 }

@@ -1,14 +1,16 @@
 //! What a head says, and the string that a root digest is of.
 
-ghost use Rattle.std.specs.Prelude.{◌≡◌, ◌++◌, ℕ, List, Option, IfOk};
+ghost use Rattle.std.specs.Prelude.{◌≡◌, ◌∷◌, ◌++◌, ℕ, List, Option, IfOk};
 ghost use Rattle.std.specs.Int.{w64, to_be_bytes};
+ghost use Rattle.mr_record.specs.Version.{version_byte};
+ghost use Rattle.mr_record.specs.declared.version.Version as versions;
 ghost use Rattle.mr_tree.specs.Digest.{root_preimage};
 ghost use Rattle.mr_proof.specs.Spelling.{head_bytes, radius_bytes, level_bytes, FitsProofHead};
 ghost use Rattle.mr_proof.specs.declared.head.Head as heads;
 ghost use Rattle.mr_clash.specs.private.Steps.{left, SaysOf};
 
 use crate::rest::{Rest, byte, number, take};
-use mr_proof::{Kind, VERSION};
+use mr_proof::Kind;
 use mr_record::Version;
 use mr_tree::{Entry, root_encoded};
 use std::alloc::{AllocError, Global};
@@ -20,6 +22,18 @@ pub(crate) struct HeadSays {
     pub(crate) batch: u64,
     pub(crate) count: u64,
     pub(crate) level: u8,
+}
+
+// Takes the byte of a version; the first one where it is none.
+fn read_version(from: &mut Rest<'_>) -> Version
+    ensures { (v : versions.Version) (rest : List ℕ) → left from.old ≡ version_byte v ∷ rest
+        → (result ≡ v) × (left from.new ≡ rest) }
+{
+    if byte(from) == 2 {
+        Version::Two
+    } else {
+        Version::One
+    }
 }
 
 // Passes over the flag and the squared radius of a proof of this kind.
@@ -53,14 +67,15 @@ pub(crate) fn read_head(kind: Kind, from: &mut Rest<'_>) -> HeadSays
     ensures { (h : heads.Head) (rest : List ℕ) → h.kind ≡ kind → FitsProofHead h
         → left from.old ≡ head_bytes h ++ rest → SaysOf h rest result (left from.new) }
 {
-    // four bytes of magic, and those of the version, so far the only one, and of the kind
-    let _magic = take(from, 6);
+    let _magic = take(from, 4);
+    let version = read_version(from);
+    let _kind = byte(from);
     let batch = number(from);
     let count = number(from);
     pass_radius(kind, from);
     let level = read_level(count, from);
     HeadSays {
-        version: VERSION,
+        version,
         batch,
         count,
         level,

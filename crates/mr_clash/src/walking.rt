@@ -1,18 +1,19 @@
-//! The nodes of a map of the version of proofs and the items of a proof, side by side.
+//! The nodes of a map and the items of a proof of its version, side by side.
 
 ghost use Rattle.std.specs.Prelude.{◌≡◌, ◌+◌, ◌^◌, ◌<◌, ◌≤◌, ℕ, List, length, All, OnOk, IfOk, IfErr};
 ghost use Rattle.mr_tree.specs.Nodes.{MayFetch, ShowsNode, TellsRefusal};
 ghost use Rattle.mr_tree.specs.declared.child.Child as types;
-ghost use Rattle.mr_proof.specs.Fields.{version};
+ghost use Rattle.mr_tree.specs.Digest.{by};
 ghost use Rattle.mr_clash.specs.Causes.{AuditCauses, IsHandedOn, of_nodes};
 ghost use Rattle.mr_clash.specs.private.Steps.{left, FetchesChildren, FetchesItem, FetchesItems, WalksCut, WalksAll, WalksChildren};
-ghost use Rattle.mr_tree.specs.Limits.{inner_limit};
+ghost use Rattle.mr_tree.specs.Limits.{inner_limit, level_limit};
 
 use crate::AuditErr;
 use crate::finding::first_of;
 use crate::items::{pass_items, pass_pruned};
 use crate::rest::{Rest, byte, is_pruned};
 use crate::walked::{Row, Walked, close_inner, walk_leaf};
+use mr_record::Version;
 use mr_tree::{Child, Hashes, NodeView, Nodes, is_view};
 use std::alloc::{AllocError, Global};
 
@@ -43,11 +44,13 @@ fn fetch<N: Nodes>(nodes: &mut N, child: &Child, view: &mut NodeView) -> Result<
 fn walk_children<N: Nodes>(
     alloc: Global,
     nodes: &mut N,
+    version: Version,
     level: u8,
     children: &[Child],
     from: &mut Rest<'_>,
 ) -> Result<Row, AuditErr>
     requires above { 0 < level }
+    requires low { level ≤ level_limit }
     requires few { length children.now ≤ inner_limit }
     requires may { All (MayFetch N.Hash.of (N.stands nodes.old)) children.now }
     requires version { (N.stands nodes.old).version ≡ version }
@@ -57,18 +60,18 @@ fn walk_children<N: Nodes>(
         result }
     ensures refused { IfErr result (IsHandedOn (N.refusal nodes.new)) }
     ensures answered { TellsRefusal of_nodes (N.refusal nodes.old) (N.refusal nodes.new) result }
-    ensures walked { WalksChildren N.Hash.of (N.stands nodes.old) level children.now
-        (left from.old) (left from.new) result }
-    ensures fetched { FetchesChildren level (left from.old) (N.fetches nodes.old)
+    ensures walked { WalksChildren (by version N.Hash.of) (N.stands nodes.old) level
+        children.now (left from.old) (left from.new) result }
+    ensures fetched { FetchesChildren version level (left from.old) (N.fetches nodes.old)
         (N.fetches nodes.new) }
     ensures length_at_most { IfOk result (λ row. length row.entries.items < 2 ^ 8) }
 {
     let _tag = byte(from);
     let count = byte(from);
     if usize::from(count) == children.len() {
-        return walk_all(alloc, nodes, level - 1, children, from);
+        return walk_all(alloc, nodes, version, level - 1, children, from);
     }
-    let entries = pass_items::<N::Hash>(alloc, level - 1, count, from)?;
+    let entries = pass_items::<N::Hash>(alloc, version, level - 1, count, from)?;
     Ok(Row {
         entries,
         clash: None,
@@ -80,6 +83,7 @@ fn walk_children<N: Nodes>(
 fn walk_all<N: Nodes>(
     alloc: Global,
     nodes: &mut N,
+    version: Version,
     level: u8,
     children: &[Child],
     from: &mut Rest<'_>,
@@ -93,9 +97,9 @@ fn walk_all<N: Nodes>(
         result }
     ensures refused { IfErr result (IsHandedOn (N.refusal nodes.new)) }
     ensures answered { TellsRefusal of_nodes (N.refusal nodes.old) (N.refusal nodes.new) result }
-    ensures walked { WalksAll N.Hash.of (N.stands nodes.old) level children.now
-        (left from.old) (left from.new) result }
-    ensures fetched { FetchesItems level (length children.now) (left from.old)
+    ensures walked { WalksAll (by version N.Hash.of) (N.stands nodes.old) level
+        children.now (left from.old) (left from.new) result }
+    ensures fetched { FetchesItems version level (length children.now) (left from.old)
         (N.fetches nodes.old) (N.fetches nodes.new) }
     ensures length_at_most { IfOk result (λ row. length row.entries.items ≡ length children.now) }
 {
@@ -103,7 +107,7 @@ fn walk_all<N: Nodes>(
     let mut entries = Vec::new(alloc);
     let mut clash = None;
     for child in children {
-        let one = walk(alloc, nodes, child, &mut view, from)?;
+        let one = walk(alloc, nodes, version, child, &mut view, from)?;
         match entries.push(one.entry) {
             Ok(()) => {}
             Err(error) => return Err(AllocError::from(error).into()),
@@ -119,6 +123,7 @@ fn walk_all<N: Nodes>(
 pub(crate) fn walk<N: Nodes>(
     alloc: Global,
     nodes: &mut N,
+    version: Version,
     child: &Child,
     view: &mut NodeView,
     from: &mut Rest<'_>,
@@ -130,23 +135,23 @@ pub(crate) fn walk<N: Nodes>(
         result }
     ensures refused { IfErr result (IsHandedOn (N.refusal nodes.new)) }
     ensures answered { TellsRefusal of_nodes (N.refusal nodes.old) (N.refusal nodes.new) result }
-    ensures walked { WalksCut N.Hash.of (N.stands nodes.old) child.now (left from.old)
-        (left from.new) result }
-    ensures fetched { FetchesItem child.now.level (left from.old) (N.fetches nodes.old)
-        (N.fetches nodes.new) }
+    ensures walked { WalksCut (by version N.Hash.of) (N.stands nodes.old) child.now
+        (left from.old) (left from.new) result }
+    ensures fetched { FetchesItem version child.now.level (left from.old)
+        (N.fetches nodes.old) (N.fetches nodes.new) }
 {
     if is_pruned(from) {
-        let entry = pass_pruned(child.level, from);
+        let entry = pass_pruned(version, child.level, from);
         return Ok(Walked { entry, clash: None });
     }
     fetch(nodes, child, view)?;
     if child.level == 0 {
-        let leaf = walk_leaf::<N::Hash>(alloc, child, view, from)?;
+        let leaf = walk_leaf::<N::Hash>(alloc, version, child, view, from)?;
         return Ok(leaf);
     }
     is_view(view);
     digests_are_sized::<N::Hash>();
-    let row = walk_children(alloc, nodes, child.level, view.children(), from)?;
-    let inner = close_inner::<N::Hash>(alloc, child, view, row)?;
+    let row = walk_children(alloc, nodes, version, child.level, view.children(), from)?;
+    let inner = close_inner::<N::Hash>(alloc, version, child, view, row)?;
     Ok(inner)
 }

@@ -53,7 +53,7 @@ use Rattle.mr_plan.specs.Lines.{bad_batch_line, bad_text_line}
 use Rattle.mr_plan.specs.Outcome.{Outcome}
 use Rattle.mr_plan.specs.Plan.{Plan, Input, comes, opens, IsInput, LacksInput}
 use Rattle.mr_plan.specs.Untold.{MaySayApply}
-use Rattle.mr_plan.specs.Say.{ends, given, given_map, needs, needs_any_map, needs_sized_map, says_missing, say_admitted, say_apply_of, say_batch, say_change, say_changed}
+use Rattle.mr_plan.specs.Say.{ends, given, given_map, needs, needs_map, needs_sized_map, says_missing, say_admitted, say_apply_of, say_batch, say_change, say_changed}
 use Rattle.mr_command.specs.declared.ending.Ending.{Ending}
 use Rattle.mr_command.specs.declared.ending.Halt.{Halt}
 use Rattle.mr_command.specs.declared.ending.Halt.TheVariants as halts
@@ -64,7 +64,7 @@ use Rattle.mr_command.proofs.Counting.{OnceFrom, few_stopped, taken_none}
 use Rattle.mr_command.proofs.Drafts.{batch_in, by_some, at_some, halts_but, behind_given, behind_halted}
 use Rattle.mr_command.proofs.Going.{judged_needs}
 use Rattle.mr_command.proofs.Inputs.{goes_needed, says_bytes}
-use Rattle.mr_command.proofs.Pages.{HasMap, at_input, few_refused, few_there, file_has, files_told, has_map, refused_blamed, refused_told, told_on, was_opened, with_same}
+use Rattle.mr_command.proofs.Pages.{HasMap, at_input, few_refused, few_there, file_has, files_told, has_map, pages_all, refused_blamed, refused_told, told_on, was_opened, with_same}
 use Rattle.mr_command.proofs.Plans.{stays}
 use Rattle.mr_command.proofs.Rereading.{comes_told, comes_untold, fetch_blamed, fetch_stopped, says_refused}
 use Rattle.mr_command.proofs.Served.{few_walked}
@@ -498,23 +498,13 @@ module _ (hash : List ℕ → List ℕ) (name : List ℕ) (next : ℕ → Opened
   agree (Some bytes) is = ap (λ x. opens (version_of bytes) hash bytes (given_map (next (pages_found x)))) is
 
   pub comes_sized : (result : Result Ending Halt)
-      → ComesBut (needs_any_map hash name (next (pages_found (file files name)))) before after result
+      → ComesBut (needs_map hash name (next (pages_found (file files name)))) before after result
       → ComesBut (needs_sized_map hash name next) before after result
   comes_sized =
       comes_alike name
       (λ bytes. opens (version_of bytes) hash bytes (given_map (next (pages_found (file files name)))))
       (λ bytes. opens (version_of bytes) hash bytes (given_map (next (pages_by (version_of bytes) bytes)))) before after
       files told agree
-
--- each page of a file that stands for a map is there to be read
-pages_all : (v : Version) (hash : List ℕ → List ℕ) (bytes : List ℕ) (t : Tree) (batch : ℕ)
-    → IsMapFile hash bytes (map_in v t batch) → version_of bytes ≡ v → page_total bytes ≡ pages_in bytes
-pages_all One hash bytes t batch is own =
-    let size = ap (λ v. (form_by v).size) own in
-    let total = ap (λ n. length bytes / n) size in omega (arith, total)
-pages_all Two hash bytes t batch is own =
-    let size = ap (λ v. (form_by v).size) own in
-    let total = ap (λ n. length bytes / n) size in omega (arith, total, is.stands.size, is.stands.some)
 
 -- ---- the whole of it
 
@@ -633,7 +623,7 @@ module _ (hash : List ℕ → List ℕ) (sized : (xs : List ℕ) → length (has
               let same : p.head.pages ≡ pages_found (file files old) = pages_are ∙ sym (ap pages_found there) in
               comes_told plan applies allows before end files told result all.reads (few_applied files told has)
               (comes_sized hash old (say_change hash batch new) before end files told result
-              (subst (λ k. ComesBut (needs_any_map hash old (say_change hash batch new k)) before end result) same
+              (subst (λ k. ComesBut (needs_map hash old (say_change hash batch new k)) before end result) same
               (told_on hash sized old before standing_opened opened was (say_change hash batch new p.head.pages)
               (goes p.head.pages) has end result own)))
 

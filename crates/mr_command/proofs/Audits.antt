@@ -9,7 +9,6 @@ use Rattle.mr_outside.specs.State.{Shelved}
 use Rattle.mr_outside.specs.Told.{OfFile, OfFiles}
 use Rattle.mr_outside.specs.declared.shelf.Shelf as shelves
 use Rattle.mr_record.specs.private.Bytes.{AreBytes}
-use Rattle.mr_record.specs.declared.version.Version.TheVariants.{One}
 use Rattle.mr_tree.specs.Digest.{by}
 use Rattle.mr_tree.specs.Nodes.{MapModel, HasSomeCause}
 use Rattle.mr_tree.specs.declared.hash.Hashes as hashes
@@ -19,6 +18,7 @@ use Rattle.mr_pages.specs.Opening.{pages_in, of_nodes}
 use Rattle.mr_pages.specs.PageBytes.{form_of}
 use Rattle.mr_pages.specs.declared.opening.Opened.{Opened}
 use Rattle.mr_query.specs.declared.query.Query.{Query}
+use Rattle.mr_check.specs.Versions.{proof_version}
 use Rattle.mr_clash.specs.Finding.{found, opened_accepted, ShowsCollision, FindsFor}
 use Rattle.mr_clash.specs.declared.finding.Finding.{Finding}
 use Rattle.mr_store.specs.Kept.{room}
@@ -30,7 +30,6 @@ use Rattle.mr_command.specs.Counting.{opened_beside, AllowsAudit, IsFewBeside, R
 use Rattle.mr_command.specs.Ending.{RunsPlan, ComesAsSaid, IsEndingOrHalt, NoneFalls, StopsCommand}
 use Rattle.mr_command.specs.private.Steps.{ComesBut, with_reads, map_at, IsBeside, IsUnread, ReadsInput, ReadsBeside, ReadsOpened, SaysRefusal, SaysUntold}
 use Rattle.mr_plan.specs.Outcome.{Outcome, Nothing, LeavesWritten, MayLeave}
-use Rattle.mr_plan.specs.First.{first}
 use Rattle.mr_plan.specs.Plan.{Plan, comes, IsAbsent, IsInput}
 use Rattle.mr_plan.specs.Say.{needs, needs_map, say_audit_of, say_finding, says_missing}
 use Rattle.mr_plan.specs.Untold.{MaySayAudit}
@@ -40,7 +39,7 @@ use Rattle.mr_command.specs.declared.ending.Halt.TheVariants as halts
 use Rattle.mr_command.proofs.Counting.{OnceFrom, few_none, once_none}
 use Rattle.mr_command.proofs.Going.{comes_given, judged_needs}
 use Rattle.mr_command.proofs.Inputs.{goes_needed, says_bytes}
-use Rattle.mr_command.proofs.Pages.{HasMap, counted, few_beside, few_refused, few_there, first_on, has_map, was_opened, with_same}
+use Rattle.mr_command.proofs.Pages.{HasMap, counted, few_beside, few_refused, few_there, has_map, told_on, was_opened, with_same}
 use Rattle.mr_command.proofs.Rereading.{comes_but, comes_told, comes_untold, fetch_blamed, fetch_stopped, says_given, says_refused, stops_with}
 use Rattle.mr_command.proofs.Verdicts.{says_finding, audit_writes, finding_writes}
 
@@ -54,7 +53,7 @@ same_stands p p' same =
 -- ---- behind the bytes of a proof
 
 module _ (hash : List ℕ → List ℕ) (map : List ℕ) (q : Query) (proof bytes : List ℕ) (old new : Shelved) (s : MapModel)
-    (first_is : s.version ≡ One) (files : new.files ≡ old.files) (faults : old.faults ≤ new.faults) where
+    (files : new.files ≡ old.files) (faults : old.faults ≤ new.faults) where
   -- all but what was read
   at_end : (said : Outcome) (result : Result Ending Halt) → said.written ≡ Nothing → new.faults ≡ old.faults
       → IsEndingOrHalt said result → ComesBut (comes said) old new result
@@ -78,7 +77,7 @@ module _ (hash : List ℕ → List ℕ) (map : List ℕ) (q : Query) (proof byte
 
   pub found_told : (f : Finding) (result : Result Ending Halt)
       → IfSome s.tree (λ t. f ≡ found (by s.version hash) t s.batch q bytes) → new.faults ≡ old.faults
-      → IsEndingOrHalt (say_finding f) result
+      → IsEndingOrHalt (say_finding (proof_version bytes) f) result
       → IfSome s.tree (λ t. ComesBut (comes (say_audit_of hash q (map_at s t) bytes)) old new result)
   found_told f result is quiet gives = by_tree s.tree is
     where
@@ -87,21 +86,17 @@ module _ (hash : List ℕ → List ℕ) (map : List ℕ) (q : Query) (proof byte
       by_tree None is = tt
       by_tree (Some t) is =
           subst (λ said. ComesBut (comes said) old new result)
-          (says_finding hash q (map_at s t) bytes f
-          (subst (λ v. f ≡ found (by v hash) t s.batch q bytes) first_is is))
-          (at_end (say_finding f) result (finding_writes f) quiet gives)
+          (says_finding hash q (map_at s t) bytes f is)
+          (at_end (say_finding (proof_version bytes) f) result (finding_writes (proof_version bytes) f) quiet gives)
 
   pub found_untold : (f : Finding) (result : Result Ending Halt) → AreBytes bytes → FindsFor hash s q bytes f
       → ShowsCollision hash f → new.faults ≡ old.faults
-      → IsEndingOrHalt (say_finding f) result → SaysUntold (MaySayAudit hash map q proof) old new result
+      → IsEndingOrHalt (say_finding (proof_version bytes) f) result
+      → SaysUntold (MaySayAudit hash map q proof) old new result
   found_untold f result are judged collides quiet gives =
-      says_given (MaySayAudit hash map q proof) (say_finding f) old new
-      (inr (inr (inr (
-        f,
-        record { stands = s; bytes = bytes; are = are; judged = judged; collides = collides },
-        refl,
-      ))))
-      (finding_writes f) files quiet result gives
+      says_given (MaySayAudit hash map q proof) (say_finding (proof_version bytes) f) old new
+      (inr (inr (bytes, f, record { stands = s; are = are; judged = judged; collides = collides }, refl)))
+      (finding_writes (proof_version bytes) f) files quiet result gives
 
   pub unfetched_told : (e : NodesErr) (result : Result Ending Halt) → HasSomeCause s old.faults new.faults e
       → SaysRefusal map (of_nodes e) result
@@ -204,19 +199,20 @@ module _ (hash : List ℕ → List ℕ) (q : Query) (s : MapModel) (pages : ℕ)
       → ReadsOpened hash q s pages bytes.items mid new → ReadsBeside hash q s pages proof old new
   read_beside bytes is opened =
       if_some s.tree (λ t. (new.reads ≡ mid.reads) ⊎ ((room + 1 < pages)
-      × (new.reads ≤ mid.reads + opened_accepted (first hash) t s.batch q bytes.items)))
-      (λ t. OfFiles old.files (λ files. IsBeside hash t s.batch q pages (file files proof) old.reads new.reads))
+      × (new.reads ≤ mid.reads + opened_accepted (by s.version hash) t s.batch q bytes.items)))
+      (λ t. OfFiles old.files (λ files.
+      IsBeside (by s.version hash) t s.batch q pages (file files proof) old.reads new.reads))
       (λ t. by_files t old.files is.read.0 is.once) opened
     where
       by_files : (t : Tree) (o : Option Files) → IsInput o proof (Some bytes.items)
           → OnceFrom o proof old.reads mid.reads
           → (new.reads ≡ mid.reads) ⊎ ((room + 1 < pages)
-          × (new.reads ≤ mid.reads + opened_accepted (first hash) t s.batch q bytes.items))
-          → OfFiles o (λ files. IsBeside hash t s.batch q pages (file files proof) old.reads new.reads)
+          × (new.reads ≤ mid.reads + opened_accepted (by s.version hash) t s.batch q bytes.items))
+          → OfFiles o (λ files. IsBeside (by s.version hash) t s.batch q pages (file files proof) old.reads new.reads)
       by_files t None input once opened = tt
       by_files t (Some files) input once (inl same) = inl (omega (arith, once, same))
       by_files t (Some files) input once (inr large) =
-          let here = ap (opened_beside hash t s.batch q) input in
+          let here = ap (opened_beside (by s.version hash) t s.batch q) input in
           inr (large.0, omega (arith, once, large.1, here))
 
   -- nothing is read beside it
@@ -224,11 +220,11 @@ module _ (hash : List ℕ → List ℕ) (q : Query) (s : MapModel) (pages : ℕ)
       → ReadsBeside hash q s pages proof old new
   alone_beside result got =
       all_some s.tree (λ t. OfFiles old.files (λ files.
-      IsBeside hash t s.batch q pages (file files proof) old.reads new.reads))
+      IsBeside (by s.version hash) t s.batch q pages (file files proof) old.reads new.reads))
       (λ t. by_files t old.files got.once)
     where
       by_files : (t : Tree) (o : Option Files) → OnceFrom o proof old.reads new.reads
-          → OfFiles o (λ files. IsBeside hash t s.batch q pages (file files proof) old.reads new.reads)
+          → OfFiles o (λ files. IsBeside (by s.version hash) t s.batch q pages (file files proof) old.reads new.reads)
       by_files t None once = tt
       by_files t (Some files) once = inl once
 
@@ -265,7 +261,7 @@ module _ (hash : List ℕ → List ℕ) (map : List ℕ) (q : Query) (proof : Li
   pub unread_untold : (came : Result Ending Halt) → ReadsInput proof old new (Err came) → old.files ≡ None
       → SaysUntold (MaySayAudit hash map q proof) old new came
   unread_untold came got none =
-      says_unread (MaySayAudit hash map q proof) proof old new came (inr (inr (inl refl))) none got
+      says_unread (MaySayAudit hash map q proof) proof old new came (inr (inl refl)) none got
 
 -- ---- the whole of it
 
@@ -279,7 +275,7 @@ auditing_unopened hash map q proof before after few =
 module _ {S H : Type 0} {G : shelves.Ghosts S} {K : hashes.Ghosts H} (hash : List ℕ → List ℕ)
     (sized : (xs : List ℕ) → length (hash xs) ≡ 32) (map : List ℕ) (q : Query) (proof : List ℕ)
     (before end : Shelved) (p : Paged S H G K) (o : OpensMap hash map before p)
-    (first_is : (stands_for p).version ≡ One) (counts : NoneFalls (shelved p) end)
+    (counts : NoneFalls (shelved p) end)
     (beside : ReadsBeside hash q (stands_for p) p.head.pages proof (shelved p) end) where
   abbrev on_map : Opened → Plan
   on_map m = needs proof (λ bytes. comes (say_audit_of hash q m bytes))
@@ -302,16 +298,18 @@ module _ {S H : Type 0} {G : shelves.Ghosts S} {K : hashes.Ghosts H} (hash : Lis
   few_audited : (files : Files) → before.files ≡ Some files → HasMap hash sized map before s mid
       → ReadsWithinPlan allows before end
   few_audited files told has =
-      let is = counted hash sized map before p o first_is files told has in
+      let is = counted hash sized map before p o files told has in
       few_there before.files files map has.bytes before.reads end.reads
       (λ files bytes n. IsFewBeside hash q bytes (file files proof) n) told has.input
       (few_beside hash q p.head.pages has.bytes (file files proof) before.reads mid.reads end.reads has.tree s.batch
       is.stands is.pages is.few
-      (subst (λ o. OfFiles o (λ files. IsBeside hash has.tree s.batch q p.head.pages (file files proof) mid.reads
-      end.reads))
+      (subst (λ v. IsBeside (by v hash) has.tree s.batch q p.head.pages (file files proof) mid.reads end.reads)
+      (sym is.own)
+      (subst (λ o. OfFiles o (λ files. IsBeside (by s.version hash) has.tree s.batch q p.head.pages (file files proof)
+      mid.reads end.reads))
       (o.files ∙ told)
-      (subst (λ o. IfSome o (λ t. OfFiles mid.files (λ files.
-      IsBeside hash t s.batch q p.head.pages (file files proof) mid.reads end.reads))) has.told beside)))
+      (subst (λ o. IfSome o (λ t. OfFiles mid.files (λ files. IsBeside (by s.version hash) t s.batch q p.head.pages
+      (file files proof) mid.reads end.reads))) has.told beside))))
 
   pub audited : (result : Result Ending Halt) → IfSome s.tree (λ t. ComesBut (on_map (map_at s t)) mid end result)
       → (mid.files ≡ None → SaysUntold may mid end result)
@@ -331,6 +329,6 @@ module _ {S H : Type 0} {G : shelves.Ghosts S} {K : hashes.Ghosts H} (hash : Lis
           let has = has_map hash sized map before s mid w files told in
           comes_told plan may allows before end files told result all.reads
           (few_audited files told has)
-          (first_on hash sized map before s mid w on_map
-          (λ m. judged_needs proof (say_audit_of hash q m) before.files) first_is has end result
+          (told_on hash sized map before s mid w on_map
+          (λ m. judged_needs proof (say_audit_of hash q m) before.files) has end result
           (subst (λ o. IfSome o (λ t. ComesBut (on_map (map_at s t)) mid end result)) has.told told_so))

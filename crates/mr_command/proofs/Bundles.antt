@@ -1,19 +1,22 @@
 -- What `check-all` says of a bundle, and what it comes to behind each step.
-use Rattle.std.proofs.Common.{◌≡◌, ℕ, ◌+◌, ◌≤◌, Bool, true, false, cond, ◌&&◌, eqb, List, [], ◌∷◌, ◌++◌, length, map, refl, sym, ap, subst, ◌∙◌, arith}
+use Rattle.std.proofs.Common.{◌≡◌, ℕ, ◌+◌, ◌≤◌, Bool, true, false, cond, ◌&&◌, ◌||◌, eqb, List, [], ◌∷◌, ◌++◌, length, map, refl, sym, ap, subst, ◌∙◌, arith}
 use Rattle.std.specs.Prelude.{Option, None, Result, Ok, Err, All, is_none}
-use Rattle.std.specs.List.{AllByRecursion}
+use Rattle.std.specs.List.{AllByRecursion, list_any}
 use Rattle.std.proofs.lemmas.Bool.{eq-eqb}
 use Rattle.std.proofs.lemmas.List.{flat_map_more, length-map}
-use Rattle.std.proofs.lemmas.List.Elements.{recursion_from_All}
+use Rattle.std.proofs.lemmas.List.Elements.{recursion_from_All, All-from_recursion}
 use Rattle.std.proofs.lemmas.List.Sums.{sum_by-cons}
 use Rattle.std.proofs.lemmas.Slice.Zip.{length-zip}
 use Rattle.mr_outside.specs.Files.{Files}
 use Rattle.mr_outside.specs.State.{Shelved}
 use Rattle.mr_record.specs.declared.text_fault.TextFault.{TextFault}
+use Rattle.mr_record.specs.declared.version.Version.{Version}
+use Rattle.mr_record.specs.declared.version.Version.TheVariants.{One, Two}
 use Rattle.mr_query.specs.declared.query.Query.{Query}
 use Rattle.mr_tree.specs.Digest.{by}
+use Rattle.mr_proof.specs.Tight.{MayCome, question}
 use Rattle.mr_bundle.specs.Bundle.{parts, part_bytes, bundle_of, bytes_of}
-use Rattle.mr_bundle.specs.Proofs.{bundle, proofs}
+use Rattle.mr_bundle.specs.Proofs.{HasProofs, bundle, proofs}
 use Rattle.mr_bundle.specs.Verdicts.{asked, judged, verdicts as verdicts_of}
 use Rattle.mr_bundle.specs.declared.reading.Part.{Part}
 use Rattle.mr_bundle.specs.declared.verdict.Verdict.{Verdict}
@@ -22,16 +25,16 @@ use Rattle.mr_command.specs.Answer.{IsSettled}
 use Rattle.mr_command.specs.Ending.{AreJudged, RunsPlan, IsEndingOf, IsEndingOrHalt, printed_of}
 use Rattle.mr_command.specs.private.Inputs.{FollowsText}
 use Rattle.mr_plan.specs.Judged.{is_accepted, IsAccepted, accepted_count, bundle_text, bundle_status}
-use Rattle.mr_plan.specs.Lines.{bad_text_line}
+use Rattle.mr_plan.specs.Lines.{bad_text_line, needs_version_2_line}
 use Rattle.mr_plan.specs.Outcome.{Nothing}
 use Rattle.mr_plan.specs.Plan.{Plan, Input, comes}
 use Rattle.mr_command.specs.Counting.{pieces_of, reads_taken}
 use Rattle.mr_plan.specs.Say.{given_queries, say_parts}
-use Rattle.mr_plan.specs.Saying.{ends, say_bundle, say_parts_of, say_serve_of, say_verdicts}
+use Rattle.mr_plan.specs.Saying.{ends, lacks_proof, unless_lacking, say_bundle, say_parts_of, say_serve_of, say_verdicts}
 use Rattle.mr_command.specs.declared.ending.Ending.{Ending}
 use Rattle.mr_command.specs.declared.ending.Halt.{Halt}
 use Rattle.mr_command.specs.declared.ending.Halt.TheVariants as halts
-use Rattle.mr_plan.specs.declared.status.Status.TheVariants.{Done, Refused, BadText}
+use Rattle.mr_plan.specs.declared.status.Status.TheVariants.{Done, Refused, BadText, NeedsVersion2}
 use Rattle.mr_command.proofs.Counting.{text_taken, once_none}
 use Rattle.mr_command.proofs.Going.{comes_given, comes_halted, judged_needs}
 use Rattle.mr_command.proofs.Inputs.{says_text}
@@ -116,16 +119,64 @@ parts_done hash root queries bytes unbroken accepted =
 -- ---- the bundle of a server
 
 pub says_served : (hash : List ℕ → List ℕ) (name : List ℕ) (map : Opened) (queries : List Query) (list : List (List ℕ))
-    (bytes : List ℕ) → list ≡ proofs (by map.version hash) map.tree map.batch queries → bytes ≡ bundle_of list
+    (bytes : List ℕ) → list_any (lacks_proof map.version) queries ≡ false
+    → list ≡ proofs (by map.version hash) map.tree map.batch queries → bytes ≡ bundle_of list
     → say_bundle name (length queries) bytes ≡ say_serve_of hash name map (Ok queries)
 unfolding say_serve_of bundle
-says_served hash name map queries list bytes are is =
+says_served hash name map queries list bytes has are is =
     ap (say_bundle name (length queries)) (is ∙ ap bundle_of are)
+    ∙ ap (λ b. unless_lacking b (say_bundle name (length queries)
+    (bundle (by map.version hash) map.tree map.batch queries))) (sym has)
+
+-- a query has no proof, so none is made
+pub says_unserved : (hash : List ℕ → List ℕ) (name : List ℕ) (map : Opened) (queries : List Query)
+    → list_any (lacks_proof map.version) queries ≡ true
+    → ends NeedsVersion2 needs_version_2_line ≡ say_serve_of hash name map (Ok queries)
+unfolding say_serve_of
+says_unserved hash name map queries lacks =
+    ap (λ b. unless_lacking b (say_bundle name (length queries)
+    (bundle (by map.version hash) map.tree map.batch queries))) (sym lacks)
 
 pub served_done : (hash : List ℕ → List ℕ) (name : List ℕ) (map : Opened) (queries : List Query)
-    → (say_serve_of hash name map (Ok queries)).status ≡ Done
+    → list_any (lacks_proof map.version) queries ≡ false → (say_serve_of hash name map (Ok queries)).status ≡ Done
 unfolding say_serve_of
-served_done hash name map queries = refl
+served_done hash name map queries has =
+    ap (λ b. (unless_lacking b (say_bundle name (length queries)
+    (bundle (by map.version hash) map.tree map.batch queries))).status) has
+
+-- each of the queries has one
+pub has_by : (v : Version) (q : Query) → lacks_proof v q ≡ false → MayCome (question q) v
+has_by One q has = has
+has_by Two q has = tt
+
+pub lacks_by : (v : Version) (q : Query) → MayCome (question q) v → lacks_proof v q ≡ false
+lacks_by One q may = may
+lacks_by Two q may = refl
+
+has_with : (v : Version) (q : Query) (qs : List Query) (b : Bool) → lacks_proof v q ≡ b
+    → (b || list_any (lacks_proof v) qs) ≡ false
+    → (list_any (lacks_proof v) qs ≡ false → AllByRecursion (λ q. MayCome (question q) v) qs)
+    → AllByRecursion (λ q. MayCome (question q) v) (q ∷ qs)
+has_with v q qs true is e behind = absurd cc
+has_with v q qs false is e behind = (has_by v q is, behind e)
+
+each_has : (v : Version) (qs : List Query) → list_any (lacks_proof v) qs ≡ false
+    → AllByRecursion (λ q. MayCome (question q) v) qs
+each_has v [] has = tt
+each_has v (q ∷ qs) has = has_with v q qs (lacks_proof v q) refl has (each_has v qs)
+
+pub all_have : (v : Version) (qs : List Query) → list_any (lacks_proof v) qs ≡ false
+    → HasProofs v qs
+all_have v qs has = All-from_recursion (λ q. MayCome (question q) v) qs (each_has v qs has)
+
+none_lacks : (v : Version) (qs : List Query) → AllByRecursion (λ q. MayCome (question q) v) qs
+    → list_any (lacks_proof v) qs ≡ false
+none_lacks v [] may = refl
+none_lacks v (q ∷ qs) may = rw (lacks_by v q may.0) (none_lacks v qs may.1)
+
+pub lacks_none : (v : Version) (qs : List Query) → HasProofs v qs
+    → list_any (lacks_proof v) qs ≡ false
+lacks_none v qs may = none_lacks v qs (recursion_from_All (λ q. MayCome (question q) v) qs may)
 
 -- the script has a fault
 fault_says : (hash : List ℕ → List ℕ) (name : List ℕ) (map : Opened) (fault : TextFault)

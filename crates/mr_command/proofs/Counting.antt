@@ -5,6 +5,7 @@ use Rattle.mr_outside.specs.Files.{Files, file}
 use Rattle.mr_outside.specs.Reading.{piece_count}
 use Rattle.mr_outside.specs.Told.{OfFile, OfFiles}
 use Rattle.mr_record.specs.declared.version.Version.{Version}
+use Rattle.mr_pages.specs.File.{version_of}
 use Rattle.mr_pages.specs.Opening.{pages_in}
 use Rattle.mr_command.specs.Counting.{pieces_of, reads_taken, AllowsReads}
 use Rattle.mr_plan.specs.Found.{Found, ShowsMap}
@@ -37,15 +38,15 @@ text_taken (Some files) name said before after once = by_input (file files name)
     by_input (Some bytes) once = once
 
 -- page by page, where a map is opened
-pub map_taken : (told : Option Files) (name : List ℕ) (version : List ℕ → Version) (hash : List ℕ → List ℕ)
+pub map_taken : (told : Option Files) (name : List ℕ) (hash : List ℕ → List ℕ)
     (next : Found → Plan) (before after : ℕ)
     → OfFile told name (after ≡ before) (λ bytes. after ≤ before + pages_in bytes)
-    → TakenFrom told name (λ bytes. opens (version bytes) hash bytes next) before after
-map_taken None name version hash next before after once = tt
-map_taken (Some files) name version hash next before after once = by_input (file files name) once
+    → TakenFrom told name (λ bytes. opens (version_of bytes) hash bytes next) before after
+map_taken None name hash next before after once = tt
+map_taken (Some files) name hash next before after once = by_input (file files name) once
   where
     by_input : (input : Input) → MatchOption input (after ≡ before) (λ bytes. after ≤ before + pages_in bytes)
-        → after ≤ before + reads_taken (given name (λ bytes. opens (version bytes) hash bytes next) input) input
+        → after ≤ before + reads_taken (given name (λ bytes. opens (version_of bytes) hash bytes next) input) input
     by_input None same = omega (arith, same)
     by_input (Some bytes) once = once
 

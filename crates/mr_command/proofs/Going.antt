@@ -17,6 +17,7 @@ use Rattle.mr_record.specs.declared.version.Version.TheVariants.{One, Two}
 use Rattle.mr_tree.specs.WellFormed.{WellFormed, HasLayers}
 use Rattle.mr_tree.specs.declared.tree.Tree.{Tree}
 use Rattle.mr_pages.specs.Page.{Form}
+use Rattle.mr_pages.specs.File.{form_at, version_of}
 use Rattle.mr_pages.specs.PageBytes.{form_by}
 use Rattle.mr_pages.specs.Law.{AgreesWithFault, IsMapFile, map_in}
 use Rattle.mr_pages.specs.Saved.{saved, MayStand, LeavesFile, SaveCauses}
@@ -29,7 +30,7 @@ use Rattle.mr_command.specs.private.Steps.{SaysMissing, IsJudged, GoesOn, IsAsRe
 use Rattle.mr_plan.specs.Found.{Found, ShowsMap, bad_map_line}
 use Rattle.mr_plan.specs.Outcome.{Outcome, Content, Nothing, File, map_of, IsLaidOut, LeavesWritten, MayLeave}
 use Rattle.mr_plan.specs.Plan.{Plan, comes, opens, Input, IsInput, IsAbsent, LacksInput}
-use Rattle.mr_plan.specs.Say.{ends, needs, needs_map_in, given_map, says_missing}
+use Rattle.mr_plan.specs.Say.{ends, needs, needs_map, given_map, says_missing}
 use Rattle.mr_command.specs.declared.ending.Ending.{Ending}
 use Rattle.mr_command.specs.declared.ending.Halt.{Halt}
 use Rattle.mr_command.specs.declared.ending.Halt.TheVariants as halts
@@ -63,11 +64,11 @@ judged_given : (next : Opened → Plan) (told : Option Files) → GoesOn next to
 judged_given next told goes (Ok map) = goes map
 judged_given next told goes (Err fault) = tt
 
-judged_map : (version : List ℕ → Version) (hash : List ℕ → List ℕ) (name : List ℕ) (next : Opened → Plan)
+judged_map : (hash : List ℕ → List ℕ) (name : List ℕ) (next : Opened → Plan)
     (told : Option Files)
-    → IsJudged version hash told name → GoesOn next told → AreJudged (needs_map_in version hash name next) told
-judged_map version hash name next told judged goes None is = tt
-judged_map version hash name next told judged goes (Some bytes) is =
+    → IsJudged hash told name → GoesOn next told → AreJudged (needs_map hash name next) told
+judged_map hash name next told judged goes None is = tt
+judged_map hash name next told judged goes (Some bytes) is =
     (judged bytes is, λ found shown. judged_given next told goes found)
 
 -- ---- behind a file that was read
@@ -180,49 +181,49 @@ comes_found v hash bytes next found before after (Err halt) judged is well on = 
 }
 
 -- the bytes of a file that was opened, and what was found in them
-record Holds (version : List ℕ → Version) (hash : List ℕ → List ℕ) (told : Option Files) (name : List ℕ)
+record Holds (hash : List ℕ → List ℕ) (told : Option Files) (name : List ℕ)
     (found : Found) : Type 0 where
   pub bytes : List ℕ
   pub input : IsInput told name (Some bytes)
   pub are : AreBytes bytes
-  pub is : WasFound told (version bytes) hash bytes found
+  pub is : WasFound told (version_of bytes) hash bytes found
 
-comes_opened : (version : List ℕ → Version) (hash : List ℕ → List ℕ) (name : List ℕ) (next : Opened → Plan)
+comes_opened : (hash : List ℕ → List ℕ) (name : List ℕ) (next : Opened → Plan)
     (before between after : Shelved)
     (found : Found) (result : Result Ending Halt) → IsStep before between → ReadsPages name before between
-    → IsJudged version hash before.files name → GoesOn next before.files → Holds version hash before.files name found
+    → IsJudged hash before.files name → GoesOn next before.files → Holds hash before.files name found
     → IsWell found
     → RunsPlan (given_map next found) between after result →
-    RunsPlan (needs_map_in version hash name next) before after result
-comes_opened version hash name next before between after found result step once judged goes holds well on =
-    comes_on name (λ bytes. opens (version bytes) hash bytes (given_map next)) holds.bytes before between after step
-    (map_taken before.files name version hash (given_map next) before.reads between.reads once) holds.input holds.are
-    (judged_map version hash name next before.files judged goes) result
-    (comes_found (version holds.bytes) hash holds.bytes (given_map next) found between after result
-    (subst (AreJudged (opens (version holds.bytes) hash holds.bytes (given_map next))) (sym step.files)
-    (judged_map version hash name next before.files judged goes (Some holds.bytes) holds.input))
-    (subst (λ files. WasFound files (version holds.bytes) hash holds.bytes found) (sym step.files) holds.is) well on)
+    RunsPlan (needs_map hash name next) before after result
+comes_opened hash name next before between after found result step once judged goes holds well on =
+    comes_on name (λ bytes. opens (version_of bytes) hash bytes (given_map next)) holds.bytes before between after step
+    (map_taken before.files name hash (given_map next) before.reads between.reads once) holds.input holds.are
+    (judged_map hash name next before.files judged goes) result
+    (comes_found (version_of holds.bytes) hash holds.bytes (given_map next) found between after result
+    (subst (AreJudged (opens (version_of holds.bytes) hash holds.bytes (given_map next))) (sym step.files)
+    (judged_map hash name next before.files judged goes (Some holds.bytes) holds.input))
+    (subst (λ files. WasFound files (version_of holds.bytes) hash holds.bytes found) (sym step.files) holds.is) well on)
 
-pub comes_map : (version : List ℕ → Version) (hash : List ℕ → List ℕ) (name : List ℕ) (next : Opened → Plan)
+pub comes_map : (hash : List ℕ → List ℕ) (name : List ℕ) (next : Opened → Plan)
     (before between after : Shelved)
-    (map : Opened) (result : Result Ending Halt) → HasReadMap version hash name before between map →
+    (map : Opened) (result : Result Ending Halt) → HasReadMap hash name before between map →
     GoesOn next before.files
-    → RunsPlan (next map) between after result → RunsPlan (needs_map_in version hash name next) before after result
-comes_map version hash name next before between after map result holds goes on =
-    comes_opened version hash name next before between after (Ok map) result
+    → RunsPlan (next map) between after result → RunsPlan (needs_map hash name next) before after result
+comes_map hash name next before between after map result holds goes on =
+    comes_opened hash name next before between after (Ok map) result
     (record { counts = holds.counts; files = holds.files; faults = holds.quiet }) holds.once holds.judged goes
     (record { bytes = holds.bytes; input = holds.input; are = holds.are; is = holds.found }) (holds.well, holds.low) on
 
 -- the same where the file stands for no map
-comes_bad : (version : List ℕ → Version) (hash : List ℕ → List ℕ) (name : List ℕ) (next : Opened → Plan)
+comes_bad : (hash : List ℕ → List ℕ) (name : List ℕ) (next : Opened → Plan)
     (before after : Shelved)
     (fault : MapFault) (ending : Ending) → IsStep before after → ReadsPages name before after
-    → IsJudged version hash before.files name → GoesOn next before.files →
-    Holds version hash before.files name (Err fault)
+    → IsJudged hash before.files name → GoesOn next before.files →
+    Holds hash before.files name (Err fault)
     → IsEndingOf (ends BadMap (bad_map_line fault)) ending →
-    RunsPlan (needs_map_in version hash name next) before after (Ok ending)
-comes_bad version hash name next before after fault ending step once judged goes holds gives =
-    comes_opened version hash name next before after after (Err fault) (Ok ending) step once judged goes holds tt
+    RunsPlan (needs_map hash name next) before after (Ok ending)
+comes_bad hash name next before after fault ending step once judged goes holds gives =
+    comes_opened hash name next before after after (Err fault) (Ok ending) step once judged goes holds tt
     (comes_at_once (ends BadMap (bad_map_line fault)) after ending refl gives)
 
 -- where it is missing
@@ -310,17 +311,16 @@ comes_halted name next before after halt counts once files judged stops = record
 -- ---- what opening a file answers
 
 -- the bytes of a file that is told, read in their version, give this; of one that is not told some bytes do
-abbrev pub SomeIn : (List ℕ → Version) → (List ℕ → List ℕ) → Result Opened MapErr → Type 0
-SomeIn version hash result =
-    (bytes : List ℕ) × AreBytes bytes × AnswersMap (form_by (version bytes)) hash bytes result
+abbrev pub SomeIn : (List ℕ → List ℕ) → Result Opened MapErr → Type 0
+SomeIn hash result =
+    (bytes : List ℕ) × AreBytes bytes × AnswersMap (form_at bytes) hash bytes result
 
 -- a clause of the call that opens a file, at what it answered
-abbrev pub Answered : (List ℕ → Version) → (List ℕ → List ℕ) → List ℕ → Shelved → Shelved → Result Opened MapErr
-    → Type 0
-Answered version hash name before after result =
+abbrev pub Answered : (List ℕ → List ℕ) → List ℕ → Shelved → Shelved → Result Opened MapErr → Type 0
+Answered hash name before after result =
     OfFile before.files name (FailsWithoutFault result)
-    (λ bytes. TellsBytes (form_by (version bytes)) hash bytes result)
-    × SomeIn version hash result
+    (λ bytes. TellsBytes (form_at bytes) hash bytes result)
+    × SomeIn hash result
     × MapCauses name before after result
     × (after.files ≡ before.files)
     × (before.reads ≤ after.reads)
@@ -342,17 +342,17 @@ wanted v form map result is has =
     let same = is ∙ sym has in
     subst (λ w. OrFails result (Ok (record { tree = map.tree; version = w; batch = map.batch }))) same
 
-told_bytes : (version : List ℕ → Version) (hash : List ℕ → List ℕ) (files : Files) (name : List ℕ) (found : Found)
+told_bytes : (hash : List ℕ → List ℕ) (files : Files) (name : List ℕ) (found : Found)
     (result : Result Opened MapErr) → (FailsWithoutFault result → ⊥)
-    → ((bytes : List ℕ) → AnswersMap (form_by (version bytes)) hash bytes result → ShowsMap (version bytes) hash bytes
+    → ((bytes : List ℕ) → AnswersMap (form_at bytes) hash bytes result → ShowsMap (version_of bytes) hash bytes
     found)
     → ((map : Opened) → OrFails result (Ok map) → found ≡ Ok map) → (input : Input)
     → file files name ≡ input
-    → MatchOption input (FailsWithoutFault result) (λ bytes. TellsBytes (form_by (version bytes)) hash bytes result)
-    → Holds version hash (Some files) name found
-told_bytes version hash files name found result not shows only None e is = absurd (not is)
-told_bytes version hash files name found result not shows only (Some bytes) e is =
-    let v = version bytes in
+    → MatchOption input (FailsWithoutFault result) (λ bytes. TellsBytes (form_at bytes) hash bytes result)
+    → Holds hash (Some files) name found
+told_bytes hash files name found result not shows only None e is = absurd (not is)
+told_bytes hash files name found result not shows only (Some bytes) e is =
+    let v = version_of bytes in
     record {
       bytes = bytes;
       input = e;
@@ -364,17 +364,17 @@ told_bytes version hash files name found result not shows only (Some bytes) e is
       );
     }
 
-holds_found : (version : List ℕ → Version) (hash : List ℕ → List ℕ) (told : Option Files) (name : List ℕ)
+holds_found : (hash : List ℕ → List ℕ) (told : Option Files) (name : List ℕ)
     (found : Found) (result : Result Opened MapErr) → (FailsWithoutFault result → ⊥)
-    → ((bytes : List ℕ) → AnswersMap (form_by (version bytes)) hash bytes result → ShowsMap (version bytes) hash bytes
+    → ((bytes : List ℕ) → AnswersMap (form_at bytes) hash bytes result → ShowsMap (version_of bytes) hash bytes
     found)
     → ((map : Opened) → OrFails result (Ok map) → found ≡ Ok map)
-    → OfFile told name (FailsWithoutFault result) (λ bytes. TellsBytes (form_by (version bytes)) hash bytes result)
-    → SomeIn version hash result → Holds version hash told name found
-holds_found version hash None name found result not shows only exact some = record
+    → OfFile told name (FailsWithoutFault result) (λ bytes. TellsBytes (form_at bytes) hash bytes result)
+    → SomeIn hash result → Holds hash told name found
+holds_found hash None name found result not shows only exact some = record
     { bytes = some.0; input = some.1; are = some.1; is = (shows some.0 some.2, tt) }
-holds_found version hash (Some files) name found result not shows only exact some =
-    told_bytes version hash files name found result not shows only (file files name) refl exact
+holds_found hash (Some files) name found result not shows only exact some =
+    told_bytes hash files name found result not shows only (file files name) refl exact
 
 -- the one answer, as what is found
 pub found_only : (map other : Opened) → OrFails (Ok map) (Ok other) → ◌≡◌ {A = Found} (Ok map) (Ok other)
@@ -392,30 +392,30 @@ no_fault_rose before after name result not causes = elim causes.quiet
     [ inl same ↦ same | inr fails ↦ absurd (not fails) ]
 
 -- told or not
-pub is_judged : (version : List ℕ → Version) (hash : List ℕ → List ℕ) (told : Option Files) (name : List ℕ)
-    → OfFile told name ⊤ (λ bytes. AgreesWithFault (form_by (version bytes)) hash bytes)
-    → ((bytes : List ℕ) → AreBytes bytes → AgreesWithFault (form_by (version bytes)) hash bytes)
-    → IsJudged version hash told name
-is_judged version hash None name agrees law bytes is = law bytes is
-is_judged version hash (Some files) name agrees law bytes is =
-    subst (λ input. MatchOption input ⊤ (λ bytes. AgreesWithFault (form_by (version bytes)) hash bytes)) is agrees
+pub is_judged : (hash : List ℕ → List ℕ) (told : Option Files) (name : List ℕ)
+    → OfFile told name ⊤ (λ bytes. AgreesWithFault (form_at bytes) hash bytes)
+    → ((bytes : List ℕ) → AreBytes bytes → AgreesWithFault (form_at bytes) hash bytes)
+    → IsJudged hash told name
+is_judged hash None name agrees law bytes is = law bytes is
+is_judged hash (Some files) name agrees law bytes is =
+    subst (λ input. MatchOption input ⊤ (λ bytes. AgreesWithFault (form_at bytes) hash bytes)) is agrees
 
 halt_is : (halt other : Halt) → ◌≡◌ {A = Result Ending Halt} (Err halt) (Err other) → halt ≡ other
 halt_is halt other is = cc
 
-counts_of : (version : List ℕ → Version) (hash : List ℕ → List ℕ) (name : List ℕ) (before after : Shelved)
-    (result : Result Opened MapErr) → Answered version hash name before after result → NoneFalls before after
-counts_of version hash name before after result on = record { faults = on.2.faults; reads = on.4 }
+counts_of : (hash : List ℕ → List ℕ) (name : List ℕ) (before after : Shelved)
+    (result : Result Opened MapErr) → Answered hash name before after result → NoneFalls before after
+counts_of hash name before after result on = record { faults = on.2.faults; reads = on.4 }
 
-module _ (version : List ℕ → Version) (hash : List ℕ → List ℕ) (name : List ℕ) (before after : Shelved)
-    (judged : IsJudged version hash before.files name) where
-  pub opens_map : (map : Opened) → Answered version hash name before after (Ok map) → WellFormed map.tree
-      → HasLayers map.version map.tree → map.batch < 2 ^ 64 → HasReadMap version hash name before after map
+module _ (hash : List ℕ → List ℕ) (name : List ℕ) (before after : Shelved)
+    (judged : IsJudged hash before.files name) where
+  pub opens_map : (map : Opened) → Answered hash name before after (Ok map) → WellFormed map.tree
+      → HasLayers map.version map.tree → map.batch < 2 ^ 64 → HasReadMap hash name before after map
   opens_map map on well layers low =
-      let holds = holds_found version hash before.files name (Ok map) (Ok map) (λ f. f)
-      (λ bytes a. shown_by (version bytes) hash bytes map a) (found_only map) on.0 on.1 in
+      let holds = holds_found hash before.files name (Ok map) (Ok map) (λ f. f)
+      (λ bytes a. shown_by (version_of bytes) hash bytes map a) (found_only map) on.0 on.1 in
       record {
-        counts = counts_of version hash name before after (Ok map) on;
+        counts = counts_of hash name before after (Ok map) on;
         files = on.3;
         quiet = no_fault_rose before after name (Ok map) (λ f. f) on.2;
         once = on.5;
@@ -430,54 +430,54 @@ module _ (version : List ℕ → Version) (hash : List ℕ → List ℕ) (name :
       }
 
   pub opens_bad : (fault : MapFault) (ending : Ending) →
-      Answered version hash name before after (Err (errors.Map fault))
-      → IsEndingOf (ends BadMap (bad_map_line fault)) ending → OpensMapOrEnds version hash name before after
+      Answered hash name before after (Err (errors.Map fault))
+      → IsEndingOf (ends BadMap (bad_map_line fault)) ending → OpensMapOrEnds hash name before after
       (Err (Ok ending))
   opens_bad fault ending on gives next goes =
-      comes_bad version hash name next before after fault ending
+      comes_bad hash name next before after fault ending
       (record {
-        counts = counts_of version hash name before after (Err (errors.Map fault)) on;
+        counts = counts_of hash name before after (Err (errors.Map fault)) on;
         files = on.3;
         faults = no_fault_rose before after name (Err (errors.Map fault)) (λ f. f) on.2;
       }) on.5 judged goes
-      (holds_found version hash before.files name (Err fault) (Err (errors.Map fault)) (λ f. f) (λ bytes a. a)
+      (holds_found hash before.files name (Err fault) (Err (errors.Map fault)) (λ f. f) (λ bytes a. a)
       (fault_only fault) on.0 on.1) gives
 
-  pub opens_missing : (ending : Ending) → Answered version hash name before after (Err errors.Missing)
+  pub opens_missing : (ending : Ending) → Answered hash name before after (Err errors.Missing)
       → ending.status ≡ Outside → printed_of ending ≡ (says_missing name).printed
-      → OpensMapOrEnds version hash name before after (Err (Ok ending))
+      → OpensMapOrEnds hash name before after (Err (Ok ending))
   opens_missing ending on status printed next goes =
-      comes_missing name (λ bytes. opens (version bytes) hash bytes (given_map next)) before after ending
-      (counts_of version hash name before after (Err errors.Missing) on)
-      (map_taken before.files name version hash (given_map next) before.reads after.reads on.5) on.3
-      (judged_map version hash name next before.files judged goes)
+      comes_missing name (λ bytes. opens (version_of bytes) hash bytes (given_map next)) before after ending
+      (counts_of hash name before after (Err errors.Missing) on)
+      (map_taken before.files name hash (given_map next) before.reads after.reads on.5) on.3
+      (judged_map hash name next before.files judged goes)
       (misses before.files name before.faults after.faults (on.2.missing refl)) status printed
 
   pub opens_halted : (halt : Halt) → NoneFalls before after
       → ReadsPages name before after → after.files ≡ before.files → StopsCommand before after halt
-      → OpensMapOrEnds version hash name before after (Err (Err halt))
+      → OpensMapOrEnds hash name before after (Err (Err halt))
   opens_halted halt counts few files stops next goes =
-      comes_halted name (λ bytes. opens (version bytes) hash bytes (given_map next)) before after halt counts
-      (map_taken before.files name version hash (given_map next) before.reads after.reads few) files
-      (judged_map version hash name next before.files judged goes) stops
+      comes_halted name (λ bytes. opens (version_of bytes) hash bytes (given_map next)) before after halt counts
+      (map_taken before.files name hash (given_map next) before.reads after.reads few) files
+      (judged_map hash name next before.files judged goes) stops
 
   -- by its refusal
-  pub opens_refused : (error : MapErr) (ending : Ending) → Answered version hash name before after (Err error)
-      → SaysRefusal name error (Ok ending) → OpensMapOrEnds version hash name before after (Err (Ok ending))
+  pub opens_refused : (error : MapErr) (ending : Ending) → Answered hash name before after (Err error)
+      → SaysRefusal name error (Ok ending) → OpensMapOrEnds hash name before after (Err (Ok ending))
   opens_refused (errors.Map fault) ending on says = opens_bad fault ending on says
   opens_refused errors.Missing ending on says = opens_missing ending on says.0 says.1
   opens_refused errors.Fault ending on says = absurd (cc)
   opens_refused errors.NoMemory ending on says = absurd (cc)
 
   -- memory ran out, or the shelf failed
-  out : (error : MapErr) (halt : Halt) → Answered version hash name before after (Err error) → StopsCommand before
+  out : (error : MapErr) (halt : Halt) → Answered hash name before after (Err error) → StopsCommand before
       after halt
-      → OpensMapOrEnds version hash name before after (Err (Err halt))
+      → OpensMapOrEnds hash name before after (Err (Err halt))
   out error halt on stops =
-      opens_halted halt (counts_of version hash name before after (Err error) on) on.5 on.3 stops
+      opens_halted halt (counts_of hash name before after (Err error) on) on.5 on.3 stops
 
-  pub opens_given_up : (error : MapErr) (halt : Halt) → Answered version hash name before after (Err error)
-      → SaysRefusal name error (Err halt) → OpensMapOrEnds version hash name before after (Err (Err halt))
+  pub opens_given_up : (error : MapErr) (halt : Halt) → Answered hash name before after (Err error)
+      → SaysRefusal name error (Err halt) → OpensMapOrEnds hash name before after (Err (Err halt))
   opens_given_up (errors.Map fault) halt on says =
       out (errors.Map fault) halt on (subst (StopsCommand before after) (sym says) tt)
   opens_given_up errors.Missing halt on says = out errors.Missing halt on
@@ -490,8 +490,8 @@ module _ (version : List ℕ → Version) (hash : List ℕ → List ℕ) (name :
 
   -- what the command comes to without the map
   pub opens_unopened : (error : MapErr) (came : Result Ending Halt)
-      → Answered version hash name before after (Err error) → SaysRefusal name error came
-      → OpensMapOrEnds version hash name before after (Err came)
+      → Answered hash name before after (Err error) → SaysRefusal name error came
+      → OpensMapOrEnds hash name before after (Err came)
   opens_unopened error (Ok ending) on says = opens_refused error ending on says
   opens_unopened error (Err halt) on says = opens_given_up error halt on says
 

@@ -1,6 +1,6 @@
 -- `prove` and `audit` on a map that is opened page by page.
 use Rattle.std.proofs.Common.{◌≡◌, ℕ, ◌+◌, ◌*◌, ◌/◌, ◌<◌, ◌≤◌, List, length, refl, sym, ap, subst, ◌∙◌, inl, inr, arith}
-use Rattle.std.specs.Prelude.{⊤, ◌⊎◌, max, ltb, Option, Some, None, IfOk, IfErr, IfSome, IsSome, OnOk, MatchOption, Result, Ok, Err}
+use Rattle.std.specs.Prelude.{⊤, ◌⊎◌, true, false, max, ltb, Option, Some, None, is_some, IfOk, IfErr, IfSome, IsSome, OnOk, MatchOption, Result, Ok, Err}
 use Rattle.mr_outside.specs.Files.{Files, file}
 use Rattle.mr_outside.specs.Faults.{last_count}
 use Rattle.mr_outside.specs.State.{Shelved}
@@ -9,7 +9,7 @@ use Rattle.mr_record.specs.private.Bytes.{AreBytes}
 use Rattle.mr_outside.specs.declared.shelf.Shelf as shelves
 use Rattle.mr_record.specs.declared.version.Version.{Version}
 use Rattle.mr_record.specs.declared.version.Version.TheVariants.{One, Two}
-use Rattle.mr_tree.specs.Digest.{by}
+use Rattle.mr_tree.specs.Digest.{Scheme, by}
 use Rattle.mr_tree.specs.Nodes.{MapModel, HasSomeCause}
 use Rattle.mr_tree.specs.WellFormed.{HasLayers}
 use Rattle.mr_tree.specs.declared.hash.Hashes as hashes
@@ -40,13 +40,12 @@ use Rattle.mr_store.specs.declared.paged.Paged.{Paged}
 use Rattle.mr_command.specs.Counting.{pieces_of, opened_beside, AllowsProve, IsFewOf, IsFewBeside, ReadsWithinPlan}
 use Rattle.mr_command.specs.Ending.{RunsPlan, ComesAsSaid, AreJudged, IsEndingOrHalt, NoneFalls, StopsCommand}
 use Rattle.mr_command.specs.private.Steps.{ComesBut, with_reads, map_at, GoesOn, HasReadMap, IsBeside, IsJudged, KeepsProof, ReadsOpened, SaysRefusal}
-use Rattle.mr_command.specs.private.Inputs.{HasNoProofs, IsUnprovable, WasOpened}
-use Rattle.mr_plan.specs.First.{first, first_map}
+use Rattle.mr_command.specs.private.Inputs.{IsUnopened, WasOpened}
 use Rattle.mr_plan.specs.Lines.{needs_version_2_line}
 use Rattle.mr_plan.specs.Outcome.{Outcome}
 use Rattle.mr_plan.specs.Plan.{Plan, comes, Input, IsInput}
-use Rattle.mr_plan.specs.Say.{at_first, ends, needs_any_map, needs_map, say_prove_of, say_written, says_missing}
-use Rattle.mr_plan.specs.Untold.{IsRefused, LacksProofs, MaySayProve}
+use Rattle.mr_plan.specs.Say.{ends, lacks_proof, unless_lacking, needs_map, say_prove_of, say_written, says_missing}
+use Rattle.mr_plan.specs.Untold.{IsRefused, MaySayProve}
 use Rattle.mr_plan.specs.declared.status.Status.TheVariants.{NeedsVersion2}
 use Rattle.mr_command.specs.declared.ending.Ending.{Ending}
 use Rattle.mr_command.specs.declared.ending.Halt.{Halt}
@@ -136,15 +135,6 @@ err_is e f is = cc
 pub with_same : (n : ℕ) (a b : Shelved) → b.files ≡ a.files → b.faults ≡ a.faults → with_reads n b ≡ with_reads n a
 with_same n a b files faults = λ i. record { files = files i; faults = faults i; reads = n }
 
--- what follows on a map that has proofs opens no more
-goes_first : (next : Opened → Plan) (told : Option Files) → GoesOn next told
-    → GoesOn (λ map. at_first map.version (next map)) told
-goes_first next told goes map = at map.version
-  where
-    at : (v : Version) → AreJudged (at_first v (next map)) told
-    at One = goes map
-    at Two = tt
-
 -- an opened map, by what it stands for
 pub was_opened : {S H : Type 0} {G : shelves.Ghosts S} {K : hashes.Ghosts H} (hash : List ℕ → List ℕ)
     (name : List ℕ) (before : Shelved) (p : Paged S H G K) → OpensMap hash name before p
@@ -157,15 +147,15 @@ module _ (hash : List ℕ → List ℕ) (sized : (xs : List ℕ) → length (has
   agreed : (bytes : List ℕ) → AreBytes bytes → AgreesWithFault (form_at bytes) hash bytes
   agreed bytes all = agrees (form_at bytes) (form_by_is (version_of bytes)) hash sized bytes all
 
-  judged : OfFile before.files map ⊤ AreBytes → IsJudged version_of hash before.files map
+  judged : OfFile before.files map ⊤ AreBytes → IsJudged hash before.files map
   judged are =
-      is_judged version_of hash before.files map
+      is_judged hash before.files map
       (judged_of before.files map (λ bytes. AgreesWithFault (form_at bytes) hash bytes) agreed are) agreed
 
   -- ---- a map that is not opened
 
   module _ (after : Shelved) (e : MapErr) (r : RefusesMap hash map before after e) where
-    refused_answer : Answered version_of hash map (with_reads after.reads before) after (Err e)
+    refused_answer : Answered hash map (with_reads after.reads before) after (Err e)
     refused_answer = (
       r.answers,
       in_own hash (Err e) (λ v bytes t b. stands_version v hash bytes t b) r.some,
@@ -187,9 +177,9 @@ module _ (hash : List ℕ → List ℕ) (sized : (xs : List ℕ) → length (has
 
     -- over files that are told, what follows on a map is not reached
     pub refused_told : (next : Opened → Plan) → GoesOn next before.files → (result : Result Ending Halt)
-        → SaysRefusal map e result → ComesBut (needs_any_map hash map next) before after result
+        → SaysRefusal map e result → ComesBut (needs_map hash map next) before after result
     refused_told next goes result says =
-        opens_unopened version_of hash map (with_reads after.reads before) after (judged are_there) e result
+        opens_unopened hash map (with_reads after.reads before) after (judged are_there) e result
         refused_answer says next goes
 
     -- over others each cause is outside
@@ -209,18 +199,18 @@ module _ (hash : List ℕ → List ℕ) (sized : (xs : List ℕ) → length (has
     pub refused : (may_say : Outcome → Type 0) (allows : Files → ℕ → Type 0) (next : Opened → Plan)
         → GoesOn next before.files → ((said : Outcome) → IsRefused hash map said → may_say said)
         → ReadsWithinPlan allows before after → (result : Result Ending Halt) → SaysRefusal map e result
-        → ComesAsSaid (needs_any_map hash map next) may_say allows before after result
+        → ComesAsSaid (needs_map hash map next) may_say allows before after result
     refused may_say allows next goes may few result says = by_files before.files refl
       where
         by_files : (o : Option Files) → before.files ≡ o
-            → ComesAsSaid (needs_any_map hash map next) may_say allows before after result
+            → ComesAsSaid (needs_map hash map next) may_say allows before after result
         by_files None none =
-            comes_untold (needs_any_map hash map next) may_say allows before after none
+            comes_untold (needs_map hash map next) may_say allows before after none
             (says_missing map, may (says_missing map) (inl refl)) result
             (record { faults = r.later; reads = r.more })
             (says_refused hash may_say map may before after r.files e result (refused_blamed none) says)
         by_files (Some files) told =
-            comes_told (needs_any_map hash map next) may_say allows before after files told result r.more few
+            comes_told (needs_map hash map next) may_say allows before after files told result r.more few
             (refused_told next goes result says)
 
   -- ---- a map that is opened
@@ -234,7 +224,7 @@ module _ (hash : List ℕ → List ℕ) (sized : (xs : List ℕ) → length (has
     -- it is read in the version that its bytes tell
     pub own : version_of bytes ≡ s.version
     pub stands : IsMapFile hash bytes (map_at s tree)
-    pub holds : (n : ℕ) → HasReadMap version_of hash map (with_reads n before) (with_reads n after) (map_at s tree)
+    pub holds : (n : ℕ) → HasReadMap hash map (with_reads n before) (with_reads n after) (map_at s tree)
 
   module _ (s : MapModel) (after : Shelved) (w : WasOpened hash map before after s) where
     are_opened : OfFile before.files map ⊤ AreBytes
@@ -259,7 +249,7 @@ module _ (hash : List ℕ → List ℕ) (sized : (xs : List ℕ) → length (has
           own = own;
           stands = is;
           holds = λ n.
-              opens_map version_of hash map (with_reads n before) (with_reads n after) (judged are_opened) m (
+              opens_map hash map (with_reads n before) (with_reads n after) (judged are_opened) m (
                 of_input before.files files map there.bytes (FailsWithoutFault (Ok m))
                     (λ bytes. TellsBytes (form_at bytes) hash bytes (Ok m)) told there.input tells,
                 (there.bytes, tells.are, tells.answers),
@@ -279,82 +269,18 @@ module _ (hash : List ℕ → List ℕ) (sized : (xs : List ℕ) → length (has
       -- what follows on the map
       pub told_on : (has : HasMap s after) (later : Shelved) (result : Result Ending Halt)
           → RunsPlan (next (map_at s has.tree)) (with_reads later.reads after) later result
-          → ComesBut (needs_any_map hash map next) before later result
+          → ComesBut (needs_map hash map next) before later result
       told_on has later result on =
-          comes_map version_of hash map next (with_reads later.reads before) (with_reads later.reads after) later
+          comes_map hash map next (with_reads later.reads before) (with_reads later.reads after) later
           (map_at s has.tree) result (has.holds later.reads) goes on
 
       -- the store or memory failed
       pub told_halted : (later : Shelved) (halt : Halt) → later.files ≡ after.files → before.faults ≤ later.faults
-          → StopsCommand before later halt → ComesBut (needs_any_map hash map next) before later (Err halt)
+          → StopsCommand before later halt → ComesBut (needs_map hash map next) before later (Err halt)
       told_halted later halt kept faults stops =
-          opens_halted version_of hash map (with_reads later.reads before) later (judged are_opened) halt
+          opens_halted hash map (with_reads later.reads before) later (judged are_opened) halt
           (record { faults = faults; reads = omega arith }) (same_reads before.files map later.reads)
           (kept ∙ w.files) (stops_with later.reads before later halt stops) next goes
-
-    -- what follows on a map that has proofs
-    module _ (next : Opened → Plan) (goes : GoesOn next before.files) where
-      pub first_on : s.version ≡ One → (has : HasMap s after) (later : Shelved) (result : Result Ending Halt)
-          → RunsPlan (next (map_at s has.tree)) (with_reads later.reads after) later result
-          → ComesBut (needs_map hash map next) before later result
-      first_on first_is has later result on =
-          told_on (λ m. at_first m.version (next m)) (goes_first next before.files goes) has later result
-          (subst (λ v. RunsPlan (at_first v (next (map_at s has.tree))) (with_reads later.reads after) later result)
-          (sym first_is) on)
-
-      pub first_halted : (later : Shelved) (halt : Halt) → later.files ≡ after.files → before.faults ≤ later.faults
-          → StopsCommand before later halt → ComesBut (needs_map hash map next) before later (Err halt)
-      first_halted =
-          told_halted (λ m. at_first m.version (next m)) (goes_first next before.files goes)
-
-      -- of a map of the second version it is said that it has none
-      second_on : s.version ≡ Two → (has : HasMap s after) (result : Result Ending Halt)
-          → IsEndingOrHalt (ends NeedsVersion2 needs_version_2_line) result
-          → ComesBut (needs_map hash map next) before after result
-      second_on second has result gives =
-          let said = ends NeedsVersion2 needs_version_2_line in
-          told_on (λ m. at_first m.version (next m)) (goes_first next before.files goes) has after result
-          (subst (λ v. RunsPlan (at_first v (next (map_at s has.tree))) (with_reads after.reads after) after result)
-          (sym second)
-          (comes_but said after after result (comes_given said after result refl gives)))
-
-  -- no map is opened that has proofs
-  module _ (may_say : Outcome → Type 0) (allows : Files → ℕ → Type 0) (next : Opened → Plan)
-      (goes : GoesOn next before.files) (refused_may : (said : Outcome) → IsRefused hash map said → may_say said)
-      (lacks_may : (said : Outcome) → LacksProofs said → may_say said) (after : Shelved)
-      (result : Result Ending Halt) where
-    lacking : HasNoProofs hash map before after result → ReadsWithinPlan allows before after
-        → ComesAsSaid (needs_map hash map next) may_say allows before after result
-    lacking is few = by_files before.files refl
-      where
-        said : Outcome
-        said = ends NeedsVersion2 needs_version_2_line
-
-        counts : NoneFalls before after
-        counts = record { faults = omega (arith, is.opened.quiet); reads = is.opened.more }
-
-        by_files : (o : Option Files) → before.files ≡ o
-            → ComesAsSaid (needs_map hash map next) may_say allows before after result
-        by_files None none =
-            comes_untold (needs_map hash map next) may_say allows before after none (said, lacks_may said refl) result
-            counts
-            (says_given may_say said before after (lacks_may said refl) refl is.opened.files is.opened.quiet result
-            is.says)
-        by_files (Some files) told =
-            comes_told (needs_map hash map next) may_say allows before after files told result is.opened.more few
-            (second_on is.stands after is.opened next goes is.second
-            (has_map is.stands after is.opened files told) result is.says)
-
-    pub unprovable : IsUnprovable hash map before after result
-        → (OfFile before.files map (after.reads ≡ before.reads) (λ bytes. after.reads ≤ before.reads + pages_in bytes)
-        → ReadsWithinPlan allows before after)
-        → ComesAsSaid (needs_map hash map next) may_say allows before after result
-    unprovable (inl is) few =
-        refused after is.error is.refuses may_say allows (λ m. at_first m.version (next m))
-        (goes_first next before.files goes) refused_may (few is.refuses.reads) result is.says
-    unprovable (inr is) few =
-        lacking is (few (there_of before.files map (after.reads ≡ before.reads)
-        (λ bytes. after.reads ≤ before.reads + pages_in bytes) is.opened.reads))
 
 -- ---- how many reads
 
@@ -371,41 +297,45 @@ files_told p = at (page_form p.file) p.head (shelved p).files (name_of p.file)
     at form h None name told = absurd (not_some told)
     at form h (Some files) name told = refl
 
--- in version 1 the pages that are read are those that there are
-pub pages_there : (bytes : List ℕ) (pages : ℕ) → version_of bytes ≡ One → pages ≡ page_total bytes
-    → pages ≡ pages_in bytes
-pages_there bytes pages own all =
-    let size : (form_at bytes).size ≡ page_size = ap (λ v. (form_by v).size) own in
-    let total : pages ≡ length bytes / page_size = all ∙ ap (λ n. length bytes / n) size in
-    let same : length bytes / (form_at bytes).size ≡ length bytes / page_size = ap (λ n. length bytes / n) size in
-    omega (arith, total, same)
+-- each page of a file that stands for a map is there to be read
+pub pages_all : (v : Version) (hash : List ℕ → List ℕ) (bytes : List ℕ) (t : Tree) (batch : ℕ)
+    → IsMapFile hash bytes (map_in v t batch) → version_of bytes ≡ v → page_total bytes ≡ pages_in bytes
+pages_all One hash bytes t batch is own =
+    let size = ap (λ v. (form_by v).size) own in
+    let total = ap (λ n. length bytes / n) size in omega (arith, total)
+pages_all Two hash bytes t batch is own =
+    let size = ap (λ v. (form_by v).size) own in
+    let total = ap (λ n. length bytes / n) size in omega (arith, total, is.stands.size, is.stands.some)
 
 module _ {S H : Type 0} {G : shelves.Ghosts S} {K : hashes.Ghosts H} (hash : List ℕ → List ℕ)
     (sized : (xs : List ℕ) → length (hash xs) ≡ 32) (map : List ℕ) (before : Shelved) (p : Paged S H G K)
-    (o : OpensMap hash map before p) (first_is : (stands_for p).version ≡ One) where
-  -- what is known of the reads of a map of version 1 where its file is told
+    (o : OpensMap hash map before p) where
+  -- what is known of the reads of a map where its file is told
   pub record IsCounted (t : Tree) (bytes : List ℕ) : Type 0 where
-    pub stands : IsMapFile hash bytes (first_map t (stands_for p).batch)
+    -- it is read in the version that its bytes tell
+    pub own : version_of bytes ≡ (stands_for p).version
+    pub stands : IsMapFile hash bytes (map_in (version_of bytes) t (stands_for p).batch)
     pub pages : p.head.pages ≡ pages_in bytes
     pub few : (shelved p).reads ≤ before.reads + pages_in bytes
 
   pub counted : (files : Files) → before.files ≡ Some files
       → (has : HasMap hash sized map before (stands_for p) (shelved p)) → IsCounted has.tree has.bytes
   counted files told has = record {
-    stands = subst (λ v. IsMapFile hash has.bytes (map_in v has.tree (stands_for p).batch)) first_is has.stands;
-    pages = pages_there has.bytes p.head.pages (has.own ∙ first_is)
-        (at_input before.files files map has.bytes ⊥ (λ bytes. p.head.pages ≡ page_total bytes) told has.input o.pages);
+    own = has.own;
+    stands = subst (λ v. IsMapFile hash has.bytes (map_in v has.tree (stands_for p).batch)) (sym has.own) has.stands;
+    pages = at_input before.files files map has.bytes ⊥ (λ bytes. p.head.pages ≡ page_total bytes) told has.input
+        o.pages ∙ pages_all (stands_for p).version hash has.bytes has.tree (stands_for p).batch has.stands has.own;
     few = at_input before.files files map has.bytes ⊥ (λ bytes. (shelved p).reads ≤ before.reads + pages_in bytes) told
         has.input o.reads;
   }
 
 -- so few where a map is opened and its nodes are fetched for a proof
 few_pages : (hash : List ℕ → List ℕ) (q : Query) (pages : ℕ) (bytes : List ℕ) (r m e f : ℕ) (t : Tree) (batch : ℕ)
-    → IsMapFile hash bytes (first_map t batch) → pages ≡ pages_in bytes → m ≤ r + pages_in bytes
-    → (pages ≤ room + 1 → e ≡ m) → FewFetches m 0 e f → e ≤ max m last_count
-    → f ≤ 0 + rounds q * opened (first hash) t q → (n : ℕ) × (e ≤ r + n) × IsFewOf hash q bytes n
-few_pages hash q pages bytes r m e f t batch stands pages_are few still fetched most bound =
-    let all : ℕ = pages_in bytes + rounds q * opened (first hash) t q in
+    → IsMapFile hash bytes (map_in (version_of bytes) t batch) → lacks_proof (version_of bytes) q ≡ false
+    → pages ≡ pages_in bytes → m ≤ r + pages_in bytes → (pages ≤ room + 1 → e ≡ m) → FewFetches m 0 e f → e ≤ max m last_count
+    → f ≤ 0 + rounds q * opened (by (version_of bytes) hash) t q → (n : ℕ) × (e ≤ r + n) × IsFewOf hash q bytes n
+few_pages hash q pages bytes r m e f t batch stands has_proof pages_are few still fetched most bound =
+    let all : ℕ = pages_in bytes + rounds q * opened (by (version_of bytes) hash) t q in
     elim (cases_Bool (ltb (room + 1) pages)) [
       | inl large ↦ (
         all,
@@ -413,7 +343,11 @@ few_pages hash q pages bytes r m e f t batch stands pages_are few still fetched 
           | inl each ↦ omega (arith, few, each, bound)
           | inr last ↦ omega (arith, few, last, most, bound)
         ],
-        inr (subst (λ n. room + 1 < n) pages_are (ltb-true (room + 1) pages large), (t, batch, stands, omega arith)),
+        inr (
+          subst (λ n. room + 1 < n) pages_are (ltb-true (room + 1) pages large),
+          has_proof,
+          (t, batch, stands, omega arith),
+        ),
       )
       | inr small ↦
           (pages_in bytes, omega (arith, few, still (ltb-false (room + 1) pages small)), inl (omega arith))
@@ -421,8 +355,8 @@ few_pages hash q pages bytes r m e f t batch stands pages_are few still fetched 
 
 -- the same beside a proof, whose pieces come on top
 pub few_beside : (hash : List ℕ → List ℕ) (q : Query) (pages : ℕ) (bytes : List ℕ) (proof : Input) (r m e : ℕ)
-    (t : Tree) (batch : ℕ) → IsMapFile hash bytes (first_map t batch) → pages ≡ pages_in bytes
-    → m ≤ r + pages_in bytes → IsBeside hash t batch q pages proof m e
+    (t : Tree) (batch : ℕ) → IsMapFile hash bytes (map_in (version_of bytes) t batch) → pages ≡ pages_in bytes
+    → m ≤ r + pages_in bytes → IsBeside (by (version_of bytes) hash) t batch q pages proof m e
     → (n : ℕ) × (e ≤ r + n) × IsFewBeside hash q bytes proof n
 few_beside hash q pages bytes proof r m e t batch stands pages_are few (inl small) = (
   pages_in bytes + pieces_of proof,
@@ -430,7 +364,7 @@ few_beside hash q pages bytes proof r m e t batch stands pages_are few (inl smal
   inr (t, batch, stands, inl (omega arith)),
 )
 few_beside hash q pages bytes proof r m e t batch stands pages_are few (inr large) =
-    let all : ℕ = pages_in bytes + pieces_of proof + opened_beside hash t batch q proof in (
+    let all : ℕ = pages_in bytes + pieces_of proof + opened_beside (by (version_of bytes) hash) t batch q proof in (
       all,
       omega (arith, few, large.1),
       inr (t, batch, stands, inr (subst (λ n. room + 1 < n) pages_are large.0, omega arith)),
@@ -438,18 +372,21 @@ few_beside hash q pages bytes proof r m e t batch stands pages_are few (inr larg
 
 -- how many reads the fetches of an audit take
 pub reads_opened : {S H : Type 0} {G : shelves.Ghosts S} {K : hashes.Ghosts H} (hash : List ℕ → List ℕ) (q : Query)
-    (bytes : List ℕ) (p p' : Paged S H G K) → (stands_for p).version ≡ One → Keeps p p'
+    (bytes : List ℕ) (p p' : Paged S H G K) → Keeps p p'
     → IfSome (stands_for p).tree
     (λ t. p'.fetches ≤ p.fetches + opened_accepted (by (stands_for p).version hash) t (stands_for p).batch q bytes)
     → p.fetches ≡ 0 → ReadsOpened hash q (stands_for p) p.head.pages bytes (shelved p) (shelved p')
-reads_opened hash q bytes p p' first_is kept fetched none = by_tree (stands_for p).tree refl fetched
+reads_opened hash q bytes p p' kept fetched none = by_tree (stands_for p).tree refl fetched
   where
     batch : ℕ
     batch = (stands_for p).batch
 
-    few : (t : Tree) → IsSome (shelved p).files → p'.fetches ≤ p.fetches + opened_accepted (first hash) t batch q bytes
+    scheme : Scheme
+    scheme = by (stands_for p).version hash
+
+    few : (t : Tree) → IsSome (shelved p).files → p'.fetches ≤ p.fetches + opened_accepted scheme t batch q bytes
         → ((shelved p').reads ≡ (shelved p).reads) ⊎ ((room + 1 < p.head.pages)
-        × ((shelved p').reads ≤ (shelved p).reads + opened_accepted (first hash) t batch q bytes))
+        × ((shelved p').reads ≤ (shelved p).reads + opened_accepted scheme t batch q bytes))
     few t there bound = elim (cases_Bool (ltb (room + 1) p.head.pages)) [
       | inl large ↦ inr (
         ltb-true (room + 1) p.head.pages large,
@@ -462,13 +399,11 @@ reads_opened hash q bytes p p' first_is kept fetched none = by_tree (stands_for 
     ]
 
     by_tree : (o : Option Tree) → (stands_for p).tree ≡ o
-        → IfSome o (λ t. p'.fetches ≤ p.fetches + opened_accepted (by (stands_for p).version hash) t batch q bytes)
+        → IfSome o (λ t. p'.fetches ≤ p.fetches + opened_accepted scheme t batch q bytes)
         → IfSome o (λ t. ((shelved p').reads ≡ (shelved p).reads) ⊎ ((room + 1 < p.head.pages)
-        × ((shelved p').reads ≤ (shelved p).reads + opened_accepted (first hash) t batch q bytes)))
+        × ((shelved p').reads ≤ (shelved p).reads + opened_accepted scheme t batch q bytes)))
     by_tree None is bound = tt
-    by_tree (Some t) is bound =
-        few t (files_told p (subst IsSome (sym is) refl))
-        (subst (λ v. p'.fetches ≤ p.fetches + opened_accepted (by v hash) t batch q bytes) first_is bound)
+    by_tree (Some t) is bound = few t (files_told p (subst IsSome (sym is) refl)) bound
 
 -- where it is not opened
 pub few_refused : (told : Option Files) (name : List ℕ) (r e : ℕ) (P : Files → List ℕ → ℕ → Type 0)
@@ -500,6 +435,19 @@ unread_of : (told : Option Files) (files : Files) (said : Outcome) (r t : ℕ) �
 unread_of told files said r t is few more =
     let on = subst (λ o. AllowsFrom o (comes said) r t) is few in omega (arith, on.1, on.2, more)
 
+-- ---- a map that is not opened
+
+pub unopened_map : (hash : List ℕ → List ℕ) (sized : (xs : List ℕ) → length (hash xs) ≡ 32) (map : List ℕ)
+    (before : Shelved) (may_say : Outcome → Type 0) (allows : Files → ℕ → Type 0) (next : Opened → Plan)
+    → GoesOn next before.files → ((said : Outcome) → IsRefused hash map said → may_say said) → (after : Shelved)
+    (result : Result Ending Halt) → IsUnopened hash map before after result
+    → (OfFile before.files map (after.reads ≡ before.reads) (λ bytes. after.reads ≤ before.reads + pages_in bytes)
+    → ReadsWithinPlan allows before after)
+    → ComesAsSaid (needs_map hash map next) may_say allows before after result
+unopened_map hash sized map before may_say allows next goes may after result is few =
+    refused hash sized map before after is.error is.refuses may_say allows next goes may (few is.refuses.reads) result
+    is.says
+
 -- ---- a proof that is made
 
 pub proving_unopened : (hash : List ℕ → List ℕ) (map : List ℕ) (q : Query) (before after : Shelved)
@@ -509,10 +457,62 @@ proving_unopened hash map q before after few =
     few_refused before.files map before.reads after.reads (λ files bytes n. IsFewOf hash q bytes n)
     (λ files bytes. inl (omega arith)) few
 
+-- only a query that names a mask has no proof
+masked_of : (v : Version) (q : Query) → lacks_proof v q ≡ true → is_some q.mask ≡ true
+masked_of One q lacks = lacks
+masked_of Two q lacks = absurd cc
+
+says_lacking : (hash : List ℕ → List ℕ) (q : Query) (name : List ℕ) (map : Opened) → lacks_proof map.version q ≡ true
+    → ends NeedsVersion2 needs_version_2_line ≡ say_prove_of hash q name map
+unfolding say_prove_of
+says_lacking hash q name map lacks =
+    ap (λ b. unless_lacking b (say_written name (honest_proof (by map.version hash) map.tree map.batch q))) (sym lacks)
+
+-- the map has no proof for the query, so none is made
+pub unproved : {S H : Type 0} {G : shelves.Ghosts S} {K : hashes.Ghosts H} (hash : List ℕ → List ℕ)
+    (sized : (xs : List ℕ) → length (hash xs) ≡ 32) (map : List ℕ) (q : Query) (proof : List ℕ) (before : Shelved)
+    (p : Paged S H G K) → OpensMap hash map before p → lacks_proof (stands_for p).version q ≡ true
+    → (result : Result Ending Halt) → IsEndingOrHalt (ends NeedsVersion2 needs_version_2_line) result
+    → ComesAsSaid (needs_map hash map (λ m. comes (say_prove_of hash q proof m))) (MaySayProve hash map q proof)
+    (AllowsProve hash map q) before (shelved p) result
+unproved hash sized map q proof before p o lacks result gives = by_files before.files refl
+  where
+    mid : Shelved
+    mid = shelved p
+
+    said : Outcome
+    said = ends NeedsVersion2 needs_version_2_line
+
+    plan : Plan
+    plan = needs_map hash map (λ m. comes (say_prove_of hash q proof m))
+
+    may : MaySayProve hash map q proof said
+    may = inr (inl (masked_of (stands_for p).version q lacks, refl))
+
+    few : ReadsWithinPlan (AllowsProve hash map q) before mid
+    few = proving_unopened hash map q before mid (there_of before.files map (mid.reads ≡ before.reads)
+        (λ bytes. mid.reads ≤ before.reads + pages_in bytes) o.reads)
+
+    by_files : (f : Option Files) → before.files ≡ f
+        → ComesAsSaid plan (MaySayProve hash map q proof) (AllowsProve hash map q) before mid result
+    by_files None none =
+        comes_untold plan (MaySayProve hash map q proof) (AllowsProve hash map q) before mid none (said, may) result
+        (record { faults = omega (arith, o.quiet); reads = o.more })
+        (says_given (MaySayProve hash map q proof) said before mid may refl o.files o.quiet result gives)
+    by_files (Some files) told =
+        let w = was_opened hash map before p o in
+        let has = has_map hash sized map before (stands_for p) mid w files told in
+        comes_told plan (MaySayProve hash map q proof) (AllowsProve hash map q) before mid files told result o.more few
+        (told_on hash sized map before (stands_for p) mid w (λ m. comes (say_prove_of hash q proof m)) (λ m. tt) has mid
+        result
+        (subst (λ o. RunsPlan (comes o) mid mid result)
+        (says_lacking hash q proof (map_at (stands_for p) has.tree) lacks)
+        (comes_given said mid result refl gives)))
+
 module _ {S H : Type 0} {G : shelves.Ghosts S} {K : hashes.Ghosts H} (hash : List ℕ → List ℕ)
     (sized : (xs : List ℕ) → length (hash xs) ≡ 32) (map : List ℕ) (q : Query) (proof : List ℕ)
     (before after : Shelved) (p p' : Paged S H G K) (o : OpensMap hash map before p)
-    (first_is : (stands_for p).version ≡ One) (kept : Keeps p p')
+    (has_proof : lacks_proof (stands_for p).version q ≡ false) (kept : Keeps p p')
     (fetched : IfSome (stands_for p).tree
     (λ t. p'.fetches ≤ p.fetches + rounds q * opened (by (stands_for p).version hash) t q)) where
   abbrev on_map : Opened → Plan
@@ -522,7 +522,7 @@ module _ {S H : Type 0} {G : shelves.Ghosts S} {K : hashes.Ghosts H} (hash : Lis
   plan = needs_map hash map on_map
 
   abbrev may : Outcome → Type 0
-  may = MaySayProve hash map proof
+  may = MaySayProve hash map q proof
 
   abbrev allows : Files → ℕ → Type 0
   allows = AllowsProve hash map q
@@ -544,18 +544,18 @@ module _ {S H : Type 0} {G : shelves.Ghosts S} {K : hashes.Ghosts H} (hash : Lis
       → HasMap hash sized map before s mid
       → ReadsWithinPlan allows before after
   few_proved unread files told has =
-      let is = counted hash sized map before p o first_is files told has in
+      let is = counted hash sized map before p o files told has in
       let bound = subst (λ o. IfSome o (λ t. p'.fetches ≤ p.fetches + rounds q * opened (by s.version hash) t q))
       has.told fetched in
       few_there before.files files map has.bytes before.reads after.reads (λ files bytes n. IsFewOf hash q bytes n) told
       has.input
       (subst (λ e. (n : ℕ) × (e ≤ before.reads + n) × IsFewOf hash q has.bytes n) (sym unread)
       (few_pages hash q p.head.pages has.bytes before.reads mid.reads end.reads p'.fetches has.tree s.batch is.stands
-      is.pages is.few
+      (subst (λ v. lacks_proof v q ≡ false) (sym is.own) has_proof) is.pages is.few
       (λ small. kept.still (subst IsSome (sym (o.files ∙ told)) refl) small)
       (subst (λ x. FewFetches mid.reads x end.reads p'.fetches) o.none kept.few) kept.most
-      (subst (λ x. p'.fetches ≤ x + rounds q * opened (first hash) has.tree q) o.none
-      (subst (λ v. p'.fetches ≤ p.fetches + rounds q * opened (by v hash) has.tree q) first_is bound))))
+      (subst (λ x. p'.fetches ≤ x + rounds q * opened (by (version_of has.bytes) hash) has.tree q) o.none
+      (subst (λ v. p'.fetches ≤ p.fetches + rounds q * opened (by v hash) has.tree q) (sym is.own) bound))))
 
   pub proved : (made : Result Text NodesErr) (result : Result Ending Halt)
       → IfSome s.tree (λ t. IfOk made (λ text. text.bytes.items ≡ honest_proof (by s.version hash) t s.batch q))
@@ -581,16 +581,14 @@ module _ {S H : Type 0} {G : shelves.Ghosts S} {K : hashes.Ghosts H} (hash : Lis
           let m : Opened = map_at s has.tree in
           let own = subst (λ o. IfSome o (λ t. text.bytes.items ≡ honest_proof (by s.version hash) t s.batch q))
           has.told written in
-          let own_first : text.bytes.items ≡ honest_proof (first hash) has.tree s.batch q =
-          subst (λ v. text.bytes.items ≡ honest_proof (by v hash) has.tree s.batch q) first_is own in
           let said = say_written proof text.bytes.items in
           let unread = unread_of end.files files said end.reads after.reads (kept.files ∙ o.files ∙ told) keeps.few
           keeps.counts.reads in
           comes_told plan may allows before after files told result counts.reads
           (few_proved unread files told has)
-          (first_on hash sized map before s mid w on_map (λ m. tt) first_is has after result
+          (told_on hash sized map before s mid w on_map (λ m. tt) has after result
           (subst (λ o. RunsPlan (comes o) (with_reads after.reads mid) after result)
-          (says_proof hash q proof m text.bytes.items own_first)
+          (says_proof hash q proof m text.bytes.items has_proof own)
           (subst (λ w. RunsPlan (comes said) w after result) (with_same after.reads mid end kept.files calm)
           (comes_but said end after result keeps))))
   proved (Err e) result written cause calm keeps =
@@ -617,5 +615,5 @@ module _ {S H : Type 0} {G : shelves.Ghosts S} {K : hashes.Ghosts H} (hash : Lis
           counts.reads
           (subst (λ w. ReadsWithinPlan allows before w) keeps.0
           (few_proved (ap (λ (w : Shelved). w.reads) keeps.0) files told has))
-          (first_halted hash sized map before s mid w on_map (λ m. tt) end stop.halt kept.files
+          (told_halted hash sized map before s mid w on_map (λ m. tt) end stop.halt kept.files
           counts.faults stop.stops))

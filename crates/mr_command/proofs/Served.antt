@@ -7,9 +7,7 @@ use Rattle.mr_outside.specs.Faults.{Rose, last_count}
 use Rattle.mr_outside.specs.State.{Shelved}
 use Rattle.mr_outside.specs.Told.{OfFile}
 use Rattle.mr_record.specs.private.Bytes.{AreBytes}
-use Rattle.mr_record.specs.declared.version.Version.{Version}
-use Rattle.mr_record.specs.declared.version.Version.TheVariants.{One}
-use Rattle.mr_plan.specs.First.{first_map}
+use Rattle.mr_pages.specs.File.{version_of}
 use Rattle.mr_outside.specs.declared.shelf.Shelf as shelves
 use Rattle.mr_tree.specs.declared.hash.Hashes as hashes
 use Rattle.mr_tree.specs.Nodes.{MapModel, HasSomeCause, subtrees}
@@ -19,17 +17,14 @@ use Rattle.mr_tree.specs.declared.nodes.NodesErr.{NodesErr}
 use Rattle.mr_tree.specs.declared.nodes.Top.{Top}
 use Rattle.mr_tree.specs.declared.stored.Stored.{Stored}
 use Rattle.mr_tree.specs.declared.tree.Tree.{Tree}
-use Rattle.mr_pages.specs.Law.{IsMapFile}
+use Rattle.mr_pages.specs.Law.{IsMapFile, map_in}
 use Rattle.mr_pages.specs.Opening.{pages_in, of_nodes}
-use Rattle.mr_pages.specs.Page.{Form}
-use Rattle.mr_pages.specs.declared.head.MapHead.{MapHead}
 use Rattle.mr_pages.specs.declared.opening.Opened.{Opened}
 use Rattle.mr_query.specs.Script.{queries_of_text}
-use Rattle.mr_store.specs.CachedFile.{bytes_of, page_form}
 use Rattle.mr_store.specs.Kept.{room}
 use Rattle.mr_store.specs.Opening.{OpensMap}
 use Rattle.mr_store.specs.Paged.{Keeps, ReadsFew as FewFetches, shelved, stands_for}
-use Rattle.mr_store.specs.Stored.{IsSnapshotOf, read_map}
+use Rattle.mr_store.specs.Stored.{IsSnapshotOf}
 use Rattle.mr_store.specs.declared.paged.Paged.{Paged}
 use Rattle.mr_command.specs.Counting.{pieces_of, AllowsServe, IsFewServed, ReadsWithinPlan}
 use Rattle.mr_command.specs.Ending.{RunsPlan, ComesAsSaid, EndsPlan, GivesUpPlan, NoneFalls, printed_of}
@@ -44,7 +39,7 @@ use Rattle.mr_plan.specs.declared.status.Status.TheVariants.{Outside}
 use Rattle.mr_command.proofs.Audits.{untold_from}
 use Rattle.mr_command.proofs.Counting.{few_pieces}
 use Rattle.mr_command.proofs.Going.{judged_needs}
-use Rattle.mr_command.proofs.Pages.{HasMap, counted, few_refused, few_there, first_halted, first_on, has_map, was_opened, with_same}
+use Rattle.mr_command.proofs.Pages.{HasMap, counted, few_refused, few_there, has_map, told_halted, told_on, was_opened, with_same}
 use Rattle.mr_command.proofs.Plans.{last_leaves}
 use Rattle.mr_command.proofs.Rereading.{comes_told, comes_untold, fetch_blamed, fetch_stopped, needs_but, says_refused}
 
@@ -59,15 +54,6 @@ one_map s nodes top t e =
     let versions : top.version ≡ s.version = ap (λ (x : MapModel). x.version) e in
     let batches : top.batch ≡ s.batch = ap (λ (x : MapModel). x.batch) e in
     λ i. record { tree = trees i; version = versions i; batch = batches i }
-
--- its version is that of the layout
-pub laid_in : {S H : Type 0} {G : shelves.Ghosts S} {K : hashes.Ghosts H} (p : Paged S H G K) (v : Version)
-    → v ≡ p.file.layout.version → (stands_for p).version ≡ One → v ≡ One
-laid_in p v laid first_is = laid ∙ sym (at (page_form p.file) p.head (bytes_of p.file)) ∙ first_is
-  where
-    at : (form : Form) (h : MapHead) (o : Option (List ℕ)) → (read_map form h o).version ≡ form.version
-    at form h None = refl
-    at form h (Some bytes) = refl
 
 -- ---- over files that are not told
 
@@ -131,7 +117,8 @@ few_walked r r' f f' n none few most bound = elim few [
 
 -- the pages of the map, and the pieces of the script; and the nodes of a large one
 few_script : (hash : List ℕ → List ℕ) (pages : ℕ) (bytes : List ℕ) (script : Input) (r m e : ℕ) (t : Tree)
-    (batch : ℕ) → IsMapFile hash bytes (first_map t batch) → pages ≡ pages_in bytes → m ≤ r + pages_in bytes
+    (batch : ℕ) → IsMapFile hash bytes (map_in (version_of bytes) t batch) → pages ≡ pages_in bytes
+    → m ≤ r + pages_in bytes
     → (pages ≤ room + 1 → e ≤ m + pieces_of script) → e ≤ m + length (subtrees t) + pieces_of script
     → (n : ℕ) × (e ≤ r + n) × IsFewServed hash bytes script n
 few_script hash pages bytes script r m e t batch stands pages_are few still nodes =
@@ -157,8 +144,7 @@ few_script hash pages bytes script r m e t batch stands pages_are few still node
 
 module _ {S H : Type 0} {G : shelves.Ghosts S} {K : hashes.Ghosts H} (hash : List ℕ → List ℕ)
     (sized : (xs : List ℕ) → length (hash xs) ≡ 32) (map script bundle : List ℕ) (before : Shelved)
-    (p p' : Paged S H G K) (o : OpensMap hash map before p) (first_is : (stands_for p).version ≡ One)
-    (kept : Keeps p p')
+    (p p' : Paged S H G K) (o : OpensMap hash map before p) (kept : Keeps p p')
     (fetched : IfSome (stands_for p).tree (λ t. p'.fetches ≤ p.fetches + length (subtrees t))) where
   abbrev on_map : Opened → Plan
   on_map = say_script hash script bundle
@@ -192,7 +178,7 @@ module _ {S H : Type 0} {G : shelves.Ghosts S} {K : hashes.Ghosts H} (hash : Lis
       → after.reads ≤ end.reads + pieces_of (file files script)
       → ReadsWithinPlan allows before after
   few_served after files told has pieces =
-      let is = counted hash sized map before p o first_is files told has in
+      let is = counted hash sized map before p o files told has in
       let bound = subst (λ o. IfSome o (λ t. p'.fetches ≤ p.fetches + length (subtrees t))) has.told fetched in
       let walked = few_walked mid.reads end.reads p.fetches p'.fetches (length (subtrees has.tree)) o.none kept.few
       kept.most bound in
@@ -205,10 +191,10 @@ module _ {S H : Type 0} {G : shelves.Ghosts S} {K : hashes.Ghosts H} (hash : Lis
 
   -- the script was read
   pub served : (nodes : List Stored) (top : Top) (after : Shelved) (result : Result Ending Halt)
-      → IsSnapshotOf s nodes top → top.version ≡ One → ∥ WellFormed (tree_of nodes top) ∥₁ → end.faults ≡ mid.faults
+      → IsSnapshotOf s nodes top → ∥ WellFormed (tree_of nodes top) ∥₁ → end.faults ≡ mid.faults
       → RunsPlan (on_map (opened_in nodes top)) end after result
       → ComesAsSaid plan_served may_serve allows before after result
-  served nodes top after result stands top_is well calm on = by_files before.files refl
+  served nodes top after result stands well calm on = by_files before.files refl
     where
       counts : NoneFalls before after
       counts = record {
@@ -222,8 +208,8 @@ module _ {S H : Type 0} {G : shelves.Ghosts S} {K : hashes.Ghosts H} (hash : Lis
           let m = opened_in nodes top in
           comes_untold plan_served may_serve allows before after none (says_missing map, inl (inl refl)) result counts
           (untold_from may_serve before end after result (kept.files ∙ o.files) (calm ∙ o.quiet)
-          (says_needs may_serve script (said m) end after (kept.files ∙ o.files ∙ none) (inr (inr (inl refl)))
-          (λ bytes are. inr (inr (inr (m, top_is, well, bytes, are, refl)))) result on))
+          (says_needs may_serve script (said m) end after (kept.files ∙ o.files ∙ none) (inr (inl refl))
+          (λ bytes are. inr (inr (m, well, bytes, are, refl))) result on))
       by_files (Some files) told =
           let w = was_opened hash map before p o in
           let has = has_map hash sized map before s mid w files told in
@@ -233,7 +219,7 @@ module _ {S H : Type 0} {G : shelves.Ghosts S} {K : hashes.Ghosts H} (hash : Lis
           (kept.files ∙ o.files ∙ told) on.few in
           comes_told plan_served may_serve allows before after files told result counts.reads
           (few_served after files told has pieces)
-          (first_on hash sized map before s mid w on_map goes first_is has after result
+          (told_on hash sized map before s mid w on_map goes has after result
           (subst (λ w. RunsPlan (on_map m) w after result) (with_same after.reads mid end kept.files calm)
           (needs_but script (λ b. comes (said m b)) end after result
           (subst (λ m. RunsPlan (on_map m) end after result) own on))))
@@ -263,5 +249,5 @@ module _ {S H : Type 0} {G : shelves.Ghosts S} {K : hashes.Ghosts H} (hash : Lis
           subst (ComesAsSaid plan_served may_serve allows before end) (sym stop.is)
           (comes_told plan_served may_serve allows before end files told (Err stop.halt) counts.reads
           (few_served end files told has (omega arith))
-          (first_halted hash sized map before s mid w on_map goes end stop.halt kept.files
+          (told_halted hash sized map before s mid w on_map goes end stop.halt kept.files
           counts.faults stop.stops))

@@ -1,6 +1,6 @@
 -- A text that is written to a file by one call after another, and what a refused one leaves.
-use Rattle.std.proofs.Common.{◌≡◌, ℕ, List, [], refl, ap, subst, ◌∙◌, inl, inr, arith}
-use Rattle.std.specs.Prelude.{Option, Some, None, MatchOption, IsErrOf, ⊤, Ok, Err}
+use Rattle.std.proofs.Common.{◌≡◌, ℕ, List, [], refl, sym, ap, subst, ◌∙◌, inl, inr, arith}
+use Rattle.std.specs.Prelude.{false, Option, Some, None, MatchOption, IsErrOf, ⊤, Ok, Err}
 use Rattle.mr_outside.specs.Faults.{Rose}
 use Rattle.mr_outside.specs.Files.{Files, with_file, grown}
 use Rattle.mr_outside.specs.State.{Shelved}
@@ -12,13 +12,13 @@ use Rattle.mr_outside.specs.declared.shelf.ShelfErr.TheVariants as shelf
 use Rattle.mr_outside.proofs.Changes.{IsChanged-grown, OfFile-put}
 use Rattle.mr_command.specs.Ending.{StopsCommand, halt_of}
 use Rattle.mr_command.specs.private.Steps.{SavesFile}
-use Rattle.mr_plan.specs.First.{first}
 use Rattle.mr_plan.specs.Outcome.{text}
 use Rattle.mr_record.specs.RecordText.{text_of}
 use Rattle.mr_record.specs.declared.version.Version.TheVariants.{One}
+use Rattle.mr_tree.specs.Digest.{by}
 use Rattle.mr_batch.specs.Workload.{generated}
 use Rattle.mr_plan.specs.Lines.{made_line}
-use Rattle.mr_plan.specs.Say.{say_make_of, say_prove_of, say_text, say_written}
+use Rattle.mr_plan.specs.Say.{lacks_proof, unless_lacking, say_make_of, say_prove_of, say_text, say_written}
 use Rattle.mr_query.specs.declared.query.Query.{Query}
 use Rattle.mr_proof.specs.Honest.{proof}
 use Rattle.mr_pages.specs.declared.opening.Opened.{Opened}
@@ -116,11 +116,14 @@ module _ (name bytes : List ℕ) (before : Shelved) where
     saved = ((bytes, refl, put), quiet);
   }
 
--- the honest proof is what was written
+-- the honest proof is what was written, where there is one
 pub says_proof : (hash : List ℕ → List ℕ) (q : Query) (name : List ℕ) (map : Opened) (bytes : List ℕ)
-    → bytes ≡ proof (first hash) map.tree map.batch q → say_written name bytes ≡ say_prove_of hash q name map
+    → lacks_proof map.version q ≡ false → bytes ≡ proof (by map.version hash) map.tree map.batch q
+    → say_written name bytes ≡ say_prove_of hash q name map
 unfolding say_prove_of
-says_proof hash q name map bytes is = ap (say_written name) is
+says_proof hash q name map bytes has is =
+    ap (say_written name) is
+    ∙ ap (λ b. unless_lacking b (say_written name (proof (by map.version hash) map.tree map.batch q))) (sym has)
 
 -- the text of generated records is what was written
 pub says_made : (count seed : ℕ) (line name bytes : List ℕ) → line ≡ made_line count

@@ -9,12 +9,15 @@ use Rattle.mr_query.specs.declared.query.Query.{Query}
 use Rattle.mr_proof.specs.declared.rule.Fault.{Fault}
 use Rattle.mr_check.specs.declared.error.CheckErr.{CheckErr}
 use Rattle.mr_check.specs.Answers.{AnswersVerdict}
+use Rattle.mr_check.specs.Versions.{proof_version}
 use Rattle.mr_proof.specs.Halves.{AcceptsHonest}
 use Rattle.mr_proof.specs.Honest.{proof}
 use Rattle.mr_proof.specs.Reading.{verdict}
+use Rattle.mr_proof.specs.Tight.{MayCome, question}
 use Rattle.mr_query.specs.Scan.{scan}
 use Rattle.mr_tree.specs.Tree.{records}
 use Rattle.mr_record.specs.declared.version.Version.TheVariants.{One}
+use Rattle.mr_tree.specs.Digest.{by}
 use Rattle.mr_tree.specs.WellFormed.{WellFormed, HasLayers}
 use Rattle.mr_clash.specs.Finding.{found}
 use Rattle.mr_clash.specs.declared.finding.Finding.{Finding}
@@ -38,9 +41,9 @@ checks_as hash root q bytes a b e =
 
 pub says_verdict : (hash : List ℕ → List ℕ) (root : List ℕ) (q : Query) (bytes : List ℕ)
     (v : Result (List Record) Fault) → verdict hash root q bytes ≡ v
-    → say_check_of hash root q bytes ≡ say_verdict v
+    → say_check_of hash root q bytes ≡ say_verdict (proof_version bytes) v
 unfolding say_check_of
-says_verdict hash root q bytes v is = ap say_verdict is
+says_verdict hash root q bytes v is = ap (say_verdict (proof_version bytes)) is
 
 -- an ending of this status and text
 pub gives : (said : Outcome) (ending : Ending) → IsSettled said.status → ending.status ≡ said.status
@@ -48,20 +51,20 @@ pub gives : (said : Outcome) (ending : Ending) → IsSettled said.status → end
 gives said ending settled status printed = record
     { status = status; printed = printed; settled = subst IsSettled (sym status) settled }
 
-verdict_writes : (v : Result (List Record) Fault) → (say_verdict v).written ≡ Nothing
-verdict_writes (Ok answer) = refl
-verdict_writes (Err fault) = refl
+verdict_writes : (version : Version) (v : Result (List Record) Fault) → (say_verdict version v).written ≡ Nothing
+verdict_writes version (Ok answer) = refl
+verdict_writes version (Err fault) = refl
 
 -- the command `check` writes no file
 pub check_writes : (hash : List ℕ → List ℕ) (root : List ℕ) (q : Query) (bytes : List ℕ)
     → (say_check_of hash root q bytes).written ≡ Nothing
 unfolding say_check_of
-check_writes hash root q bytes = verdict_writes (verdict hash root q bytes)
+check_writes hash root q bytes = verdict_writes (proof_version bytes) (verdict hash root q bytes)
 
-pub finding_writes : (f : Finding) → (say_finding f).written ≡ Nothing
-finding_writes (findings.Refused fault) = refl
-finding_writes (findings.Sound answer) = refl
-finding_writes (findings.Collision owned shown) = refl
+pub finding_writes : (v : Version) (f : Finding) → (say_finding v f).written ≡ Nothing
+finding_writes v (findings.Refused fault) = refl
+finding_writes v (findings.Sound answer) = refl
+finding_writes v (findings.Collision owned shown) = refl
 
 -- nor does the command `root`
 pub root_writes : (v : Version) (hash : List ℕ → List ℕ) (found : Result (List Record) TextFault)
@@ -73,20 +76,22 @@ root_writes v hash (Err fault) = refl
 pub audit_writes : (hash : List ℕ → List ℕ) (q : Query) (map : Opened) (bytes : List ℕ)
     → (say_audit_of hash q map bytes).written ≡ Nothing
 unfolding say_audit_of
-audit_writes hash q map bytes = finding_writes (found (first hash) map.tree map.batch q bytes)
+audit_writes hash q map bytes =
+    finding_writes (proof_version bytes) (found (by map.version hash) map.tree map.batch q bytes)
 
 pub says_finding : (hash : List ℕ → List ℕ) (q : Query) (map : Opened) (bytes : List ℕ) (f : Finding)
-    → f ≡ found (first hash) map.tree map.batch q bytes → say_finding f ≡ say_audit_of hash q map bytes
+    → f ≡ found (by map.version hash) map.tree map.batch q bytes
+    → say_finding (proof_version bytes) f ≡ say_audit_of hash q map bytes
 unfolding say_audit_of
-says_finding hash q map bytes f is = ap say_finding is
+says_finding hash q map bytes f is = ap (say_finding (proof_version bytes)) is
 
 -- the honest proof is accepted with the answer of a scan
 pub accepted_scan : (hash : List ℕ → List ℕ) (q : Query) (t : Tree) (root bytes : List ℕ)
-    → AcceptsHonest (first hash) q → WellFormed t → HasLayers One t → root ≡ map_root hash (first_map t 0)
-    → bytes ≡ proof (first hash) t 0 q
+    → AcceptsHonest (first hash) q → MayCome (question q) One → WellFormed t → HasLayers One t
+    → root ≡ map_root hash (first_map t 0) → bytes ≡ proof (first hash) t 0 q
     → verdict hash root q bytes ≡ Ok (scan (records t) q)
-accepted_scan hash q t root bytes accepts well layers roots own =
-    (λ i. verdict hash (roots i) q (own i)) ∙ accepts t 0 well layers (omega arith)
+accepted_scan hash q t root bytes accepts may well layers roots own =
+    (λ i. verdict hash (roots i) q (own i)) ∙ accepts t 0 may well layers (omega arith)
 
 abbrev Verdict : Type 0
 Verdict = Result (List Record) Fault

@@ -1,11 +1,12 @@
 -- How many reads a command takes over files that are told: an input that is read whole takes its
 -- pieces once, a map its pages once, and the nodes that are fetched beside; and of `apply` the map
 -- its pages once more for the copy, and what the changes read.
-use Rattle.std.specs.Prelude.{◌≡◌, ◌⊎◌, ⊤, ℕ, ◌+◌, ◌-◌, ◌*◌, ◌≤◌, ◌<◌, nat_lt, if◌then◌else◌, List, length, take, Option, Some, None, MatchOption, Ok}
+use Rattle.std.specs.Prelude.{◌≡◌, ◌⊎◌, ⊤, false, ℕ, ◌+◌, ◌-◌, ◌*◌, ◌≤◌, ◌<◌, nat_lt, if◌then◌else◌, List, length, take, Option, Some, None, MatchOption, Ok}
 use Rattle.mr_outside.specs.Files.{Files, file}
 use Rattle.mr_outside.specs.Reading.{piece_count}
 use Rattle.mr_outside.specs.State.{Shelved}
 use Rattle.mr_outside.specs.Told.{OfFiles}
+use Rattle.mr_tree.specs.Digest.{Scheme, by}
 use Rattle.mr_tree.specs.Nodes.{subtrees}
 use Rattle.mr_tree.specs.Tree.{records}
 use Rattle.mr_tree.specs.declared.tree.Tree.{Tree}
@@ -24,10 +25,9 @@ use Rattle.mr_prove.specs.Causes.{rounds}
 use Rattle.mr_clash.specs.Finding.{opened_accepted}
 use Rattle.mr_edit.specs.Reads.{reads_along}
 use Rattle.mr_store.specs.Kept.{room}
-use Rattle.mr_plan.specs.First.{first, first_map}
 use Rattle.mr_plan.specs.Found.{Found, ShowsMap}
 use Rattle.mr_plan.specs.Plan.{Input, Plan, comes, reads, opens, seeks}
-use Rattle.mr_plan.specs.Say.{say, say_check}
+use Rattle.mr_plan.specs.Say.{say, say_check, lacks_proof}
 use Rattle.mr_plan.specs.declared.words.Command.{Command}
 use Rattle.mr_plan.specs.declared.words.Command.TheVariants as commands
 
@@ -45,31 +45,33 @@ reads_taken _ input = pieces_of input
 abbrev pub IsLarge : List ℕ → Type 0
 IsLarge bytes = room + 1 < pages_in bytes
 
--- the pages of a map of these bytes, or of a large one of version 1 besides the nodes that its
--- proof opens, once or twice
+-- the pages of a map of these bytes, or of a large one that has a proof besides the nodes that this
+-- opens, once or twice
 abbrev pub IsFewOf : (List ℕ → List ℕ) → Query → List ℕ → ℕ → Type 0
 IsFewOf hash q bytes n = (n ≤ pages_in bytes)
-    ⊎ (IsLarge bytes × ((t : Tree) × (batch : ℕ) × IsMapFile hash bytes (first_map t batch)
-    × (n ≤ pages_in bytes + rounds q * opened (first hash) t q)))
+    ⊎ (IsLarge bytes × (lacks_proof (version_of bytes) q ≡ false) × ((t : Tree) × (batch : ℕ)
+    × IsMapFile hash bytes (map_in (version_of bytes) t batch)
+    × (n ≤ pages_in bytes + rounds q * opened (by (version_of bytes) hash) t q)))
 
 -- the nodes that a proof opens, where it is there and is accepted against the map
-abbrev pub opened_beside : (List ℕ → List ℕ) → Tree → (batch : ℕ) → Query → Input → ℕ
-opened_beside hash t batch q None = 0
-opened_beside hash t batch q (Some bytes) = opened_accepted (first hash) t batch q bytes
+abbrev pub opened_beside : Scheme → Tree → (batch : ℕ) → Query → Input → ℕ
+opened_beside s t batch q None = 0
+opened_beside s t batch q (Some bytes) = opened_accepted s t batch q bytes
 
--- the pages of a file of these bytes; where it stands for a map of version 1 the pieces of a proof
--- besides, and where that is large the nodes that the proof opens
+-- the pages of a file of these bytes; where it stands for a map the pieces of a proof besides, and
+-- where that is large the nodes that the proof opens
 abbrev pub IsFewBeside : (List ℕ → List ℕ) → Query → List ℕ → Input → ℕ → Type 0
 IsFewBeside hash q bytes proof n = (n ≤ pages_in bytes)
-    ⊎ ((t : Tree) × (batch : ℕ) × IsMapFile hash bytes (first_map t batch)
+    ⊎ ((t : Tree) × (batch : ℕ) × IsMapFile hash bytes (map_in (version_of bytes) t batch)
     × ((n ≤ pages_in bytes + pieces_of proof) ⊎ (IsLarge bytes
-    × (n ≤ pages_in bytes + pieces_of proof + opened_beside hash t batch q proof))))
+    × (n ≤ pages_in bytes + pieces_of proof
+    + opened_beside (by (version_of bytes) hash) t batch q proof))))
 
--- the pages of a file of these bytes; where it stands for a map of version 1 the pieces of a script
--- besides, and where that is large each of its nodes once, of which there are fewer than pages
+-- the pages of a file of these bytes; where it stands for a map the pieces of a script besides, and
+-- where that is large each of its nodes once, of which there are fewer than pages
 abbrev pub IsFewServed : (List ℕ → List ℕ) → List ℕ → Input → ℕ → Type 0
 IsFewServed hash bytes script n = (n ≤ pages_in bytes)
-    ⊎ ((t : Tree) × (batch : ℕ) × IsMapFile hash bytes (first_map t batch)
+    ⊎ ((t : Tree) × (batch : ℕ) × IsMapFile hash bytes (map_in (version_of bytes) t batch)
     × ((n ≤ pages_in bytes + pieces_of script) ⊎ (IsLarge bytes
     × (n ≤ pages_in bytes + length (subtrees t) + pieces_of script))))
 

@@ -1,11 +1,10 @@
 //! The command `audit`.
 
 ghost use Rattle.std.specs.Prelude.{◌≡◌, None, IfSome};
-ghost use Rattle.mr_record.specs.declared.version.Version.TheVariants.{One};
 ghost use Rattle.mr_query.specs.Word.{IsAskable};
 ghost use Rattle.mr_store.specs.Paged.{IsSameMap, shelved, stands_for};
 ghost use Rattle.mr_command.specs.Ending.{IsEndingOrHalt, IsCarriedOut, NoneFalls};
-ghost use Rattle.mr_command.specs.private.Steps.{map_at, ComesBut, HasPlainAnswer, ReadsInput, ReadsBeside, ReadsOpened, SaysUntold};
+ghost use Rattle.mr_command.specs.private.Steps.{map_at, ComesBut, HasAnswerLines, ReadsInput, ReadsBeside, ReadsOpened, SaysUntold};
 ghost use Rattle.mr_plan.specs.Plan.{comes};
 ghost use Rattle.mr_plan.specs.Untold.{MaySayAudit};
 ghost use Rattle.mr_plan.specs.declared.words.Command.TheVariants as commands;
@@ -15,25 +14,28 @@ use crate::check_command::refused;
 use crate::ending::{Ending, Halt, Step};
 use crate::fetching::{finding_of_nodes, unfetched};
 use crate::input::{are_bytes, as_needed};
-use crate::opening::open_provable;
+use crate::opening::open_paged;
+use mr_check::proof_version;
 use mr_clash::Finding;
 use mr_outside::Shelf;
 use mr_plan::{Status, collision_lines, sound_line};
 use mr_query::Query;
+use mr_record::Version;
 use mr_store::Paged;
 use mr_tree::Hash32;
 use std::alloc::Global;
 
-// The ending over a finding.
-fn say_found(alloc: Global, finding: Finding) -> Result<Ending, Halt>
-    requires { HasPlainAnswer finding }
-    ensures { IsEndingOrHalt (say_finding finding) result }
+// The ending over what was found of a proof of this version.
+fn say_found(alloc: Global, version: Version, finding: Finding) -> Result<Ending, Halt>
+    requires { HasAnswerLines version finding }
+    ensures { IsEndingOrHalt (say_finding version finding) result }
 {
     match finding {
         Finding::Refused(fault) => refused(alloc, &fault),
         Finding::Sound(answer) => Ok(Ending::both(
             Status::Done,
             sound_line(alloc)?,
+            version,
             answer.into_vec(),
         )),
         Finding::Collision(owned, shown) => Ok(Ending::line(
@@ -53,8 +55,7 @@ fn audit_bytes<H: Hash32, S: Shelf>(
     bytes: &[u8],
     paged: &mut Paged<S, H>,
 ) -> Result<Ending, Halt>
-    requires askable { IsAskable query.now }
-    requires first { (stands_for paged.old).version ≡ One }
+    requires { IsAskable query.now }
     ensures told { let stands = stands_for paged.old in
         IfSome stands.tree (λ t. ComesBut (comes (say_audit_of H.of query.now
         (map_at stands t) bytes.now)) (shelved paged.old) (shelved paged.new) result) }
@@ -69,7 +70,7 @@ fn audit_bytes<H: Hash32, S: Shelf>(
 {
     are_bytes(bytes);
     match finding_of_nodes(alloc, paged, query, bytes) {
-        Ok(finding) => say_found(alloc, finding),
+        Ok(finding) => say_found(alloc, proof_version(bytes), finding),
         Err(error) => unfetched(alloc, map, &error),
     }
 }
@@ -95,8 +96,7 @@ fn audit_file<H: Hash32, S: Shelf>(
     proof: &str,
     paged: &mut Paged<S, H>,
 ) -> Result<Ending, Halt>
-    requires askable { IsAskable query.now }
-    requires first { (stands_for paged.old).version ≡ One }
+    requires { IsAskable query.now }
     ensures told { let stands = stands_for paged.old in
         IfSome stands.tree (λ t. ComesBut (needs proof.now (λ bytes. comes (say_audit_of H.of
         query.now (map_at stands t) bytes))) (shelved paged.old) (shelved paged.new) result) }
@@ -127,7 +127,7 @@ pub fn audit_query<H: Hash32, S: Shelf>(
     ensures { IsCarriedOut H.of (commands.Audit map.entry query.now proof.entry) (S.state shelf)
         (S.state result.1) result.0 }
 {
-    match open_provable::<H, S>(alloc, map, shelf) {
+    match open_paged::<H, S>(alloc, map, shelf) {
         Err(ended) => ended,
         Ok(paged) => {
             let mut paged = paged;

@@ -24,7 +24,8 @@ pub(crate) fn refused(alloc: Global, fault: &Fault) -> Result<Ending, Halt>
     Ok(Ending::line(alloc, Status::Refused, line))
 }
 
-/// The answer that the proof in a file proves, against a root digest and for a query.
+/// The answer that the proof in a file proves, against a root digest and for a query, in lines of
+/// the proof's version.
 pub fn check_proof<H: Hash32, S: Shelf>(
     alloc: Global,
     root: &[u8; 32],
@@ -37,7 +38,7 @@ pub fn check_proof<H: Hash32, S: Shelf>(
         (S.state shelf.new) result }
 {
     match judge_file::<H, S>(alloc, root, query, name, shelf) {
-        Ok(records) => Ok(Ending::records(alloc, Status::Done, records)),
+        Ok((version, records)) => Ok(Ending::records(alloc, Status::Done, version, records)),
         Err(Stop::Refused(fault)) => refused(alloc, &fault),
         Err(Stop::Missing) => missing(alloc, name),
         Err(Stop::Halted(halt)) => Err(halt),

@@ -10,6 +10,8 @@ ghost use Rattle.mr_tree.specs.WellFormed.{WellFormed, HasLayers};
 ghost use Rattle.mr_query.specs.Scan.{scan};
 ghost use Rattle.mr_query.specs.Word.{IsAskable};
 ghost use Rattle.mr_proof.specs.Honest.{proof};
+ghost use Rattle.mr_proof.specs.Tight.{MayCome, question};
+ghost use Rattle.mr_bundle.specs.Proofs.{HasProofs};
 ghost use Rattle.mr_plan.specs.Demo.{all_answers, all_bytes, tried_lines, demo_lines as lines_of};
 ghost use Rattle.mr_command.specs.Ending.{IsEndingOrHalt};
 ghost use Rattle.mr_plan.specs.First.{first};
@@ -50,6 +52,7 @@ fn answer_size<H: Hashes>(
     requires layers { HasLayers One tree.now }
     requires root { root.now ≡ root_digest (first H.of) tree.now 0 }
     requires askable { IsAskable query.now }
+    requires may_come { MayCome (question query.now) One }
     requires own { bytes.now ≡ proof (first H.of) tree.now 0 query.now }
     ensures { IfOk result (λ n. n ≡ length (scan (records tree.now) query.now)) }
 {
@@ -74,6 +77,7 @@ fn try_query<N: Nodes>(
     requires layers { HasLayers One tree.now }
     requires root { root.now ≡ root_digest (first N.Hash.of) tree.now 0 }
     requires askable { IsAskable query.now }
+    requires may_come { MayCome (question query.now) One }
     ensures stands { N.stands nodes.new ≡ tree_model One 0 tree.now }
     ensures answers { IfOk result
         (λ all. all.answers ≡ length (scan (records tree.now) query.now)) }
@@ -106,6 +110,7 @@ fn try_queries<N: Nodes>(
     requires layers { HasLayers One tree.now }
     requires root { root.now ≡ root_digest (first N.Hash.of) tree.now 0 }
     requires askable { All IsAskable queries.now }
+    requires may_come { HasProofs One queries.now }
     requires few { length queries.now ≤ 2 ^ 16 }
     ensures answers { IfOk result (λ all. all.answers ≡ all_answers tree.now queries.now) }
     ensures bytes { IfOk result (λ all. all.bytes ≡ all_bytes N.Hash.of tree.now queries.now) }
@@ -131,6 +136,7 @@ fn totals_of<H: Hash32>(
     requires layers { HasLayers One tree.now }
     requires root { root.now ≡ root_digest (first H.of) tree.now 0 }
     requires askable { All IsAskable queries.now }
+    requires may_come { HasProofs One queries.now }
     requires few { length queries.now ≤ 2 ^ 16 }
     ensures answers { IfOk result (λ all. all.answers ≡ all_answers tree.now queries.now) }
     ensures bytes { IfOk result (λ all. all.bytes ≡ all_bytes H.of tree.now queries.now) }
@@ -152,6 +158,7 @@ fn tried<H: Hash32>(
     requires layers { HasLayers One tree.now }
     requires root { root.now ≡ root_digest (first H.of) tree.now 0 }
     requires askable { All IsAskable queries.now }
+    requires may_come { HasProofs One queries.now }
     requires few { length queries.now ≤ 2 ^ 16 }
     ensures { IfOk result
         (λ lines. string_bytes lines ≡ tried_lines H.of count tree.now queries.now) }

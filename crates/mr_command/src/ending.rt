@@ -5,7 +5,6 @@ ghost use Rattle.std.specs.String.{string_bytes};
 ghost use Rattle.std.proofs.Props.{props};
 ghost use Rattle.mr_record.specs.Record.{HasLayer};
 ghost use Rattle.mr_record.specs.RecordText.{text_of};
-ghost use Rattle.mr_record.specs.declared.version.Version.TheVariants.{One};
 ghost use Rattle.mr_query.specs.Scan.{by_number};
 ghost use Rattle.mr_tree.specs.Tree.{records as records_of};
 ghost use Rattle.mr_tree.specs.WellFormed.{HasLayers};
@@ -64,30 +63,40 @@ impl Ending {
         Ending::text(alloc, status, line.into_bytes())
     }
 
-    // Prints this line, and then these records in lines of version 1.
-    pub(crate) fn both(status: Status, line: String, records: Vec<Record>) -> Ending
-        requires { All (HasLayer One) records.items }
+    // Prints this line, and then these records in lines of this version.
+    pub(crate) fn both(
+        status: Status,
+        line: String,
+        version: Version,
+        records: Vec<Record>,
+    ) -> Ending
+        requires { All (HasLayer version) records.items }
         ensures status { result.status ≡ status }
-        ensures printed { printed_of result ≡ string_bytes line ++ text_of One records.items }
+        ensures printed { printed_of result ≡ string_bytes line ++ text_of version records.items }
     {
         Ending {
             status,
             text: line.into_bytes(),
-            version: Version::One,
+            version,
             records: RecordsOut::Records(records),
         }
     }
 
-    // Prints these records alone, in lines of version 1.
-    pub(crate) fn records(alloc: Global, status: Status, records: Vec<Record>) -> Ending
-        requires { All (HasLayer One) records.items }
+    // Prints these records alone, in lines of this version.
+    pub(crate) fn records(
+        alloc: Global,
+        status: Status,
+        version: Version,
+        records: Vec<Record>,
+    ) -> Ending
+        requires { All (HasLayer version) records.items }
         ensures status { result.status ≡ status }
-        ensures printed { printed_of result ≡ text_of One records.items }
+        ensures printed { printed_of result ≡ text_of version records.items }
     {
         Ending {
             status,
             text: Vec::new(alloc),
-            version: Version::One,
+            version,
             records: RecordsOut::Records(records),
         }
     }

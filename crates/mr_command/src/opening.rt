@@ -1,15 +1,12 @@
 //! A map file as an input.
 
-ghost use Rattle.std.specs.Prelude.{◌≡◌, ◌<◌, ◌^◌, IfOk, MatchResult};
-ghost use Rattle.mr_record.specs.declared.version.Version.TheVariants.{One};
-ghost use Rattle.mr_pages.specs.File.{version_of};
+ghost use Rattle.std.specs.Prelude.{◌≡◌, ◌<◌, ◌^◌, MatchResult};
 ghost use Rattle.mr_store.specs.Opening.{OpensMap};
-ghost use Rattle.mr_store.specs.Paged.{stands_for};
 ghost use Rattle.mr_command.specs.Ending.{IsEndingOrHalt};
 ghost use Rattle.mr_command.specs.private.Steps.{OpensMapOrEnds, SaysRefusal};
-ghost use Rattle.mr_command.specs.private.Inputs.{IsUnopened, IsUnprovable};
+ghost use Rattle.mr_command.specs.private.Inputs.{IsUnopened};
 ghost use Rattle.mr_plan.specs.Lines.{needs_version_2_line as line_of_need};
-ghost use Rattle.mr_plan.specs.Saying.{ends};
+ghost use Rattle.mr_plan.specs.Saying.{ends, lacks_proof as proof_is_lacking};
 ghost use Rattle.mr_plan.specs.declared.status.Status.TheVariants.{NeedsVersion2};
 
 use crate::ending::{Ending, Halt, Step};
@@ -17,6 +14,7 @@ use crate::input::missing;
 use mr_outside::Shelf;
 use mr_pages::{MapErr, Opened, open_plain};
 use mr_plan::{Status, bad_map_line, needs_version_2_line};
+use mr_query::Query;
 use mr_record::Version;
 use mr_store::Paged;
 use mr_tree::Hash32;
@@ -48,8 +46,7 @@ pub(crate) fn open_map<H: Hash32, S: Shelf>(
     name: &str,
     shelf: &mut S,
 ) -> Step<Opened>
-    ensures { OpensMapOrEnds version_of H.of name.now (S.state shelf.old) (S.state shelf.new)
-        result }
+    ensures { OpensMapOrEnds H.of name.now (S.state shelf.old) (S.state shelf.new) result }
 {
     match open_plain::<H, S>(alloc, shelf, name) {
         Ok(map) => {
@@ -76,29 +73,21 @@ pub(crate) fn open_paged<H: Hash32, S: Shelf>(
     }
 }
 
-// What a command comes to on a map of version 2, of which there are no proofs yet.
-fn without_proofs(alloc: Global) -> Result<Ending, Halt>
+// Whether a map of this version has no proof for the query: one of version 1 for a query that names
+// a mask.
+pub(crate) fn lacks_proof(version: Version, query: &Query) -> bool
+    ensures { result ≡ proof_is_lacking version query.now }
+{
+    match version {
+        Version::One => query.mask.is_some(),
+        Version::Two => false,
+    }
+}
+
+// What a command comes to that asks a map of version 1 for a proof which it lacks.
+pub(crate) fn without_proof(alloc: Global) -> Result<Ending, Halt>
     ensures { IsEndingOrHalt (ends NeedsVersion2 line_of_need) result }
 {
     let line = needs_version_2_line(alloc)?;
     Ok(Ending::line(alloc, Status::NeedsVersion2, line))
-}
-
-// The same of a map that has proofs, which one of version 2 has not.
-pub(crate) fn open_provable<H: Hash32, S: Shelf>(
-    alloc: Global,
-    name: &str,
-    shelf: S,
-) -> Result<Paged<S, H>, (Result<Ending, Halt>, S)>
-    ensures opened { MatchResult result (OpensMap H.of name.now (S.state shelf))
-        (λ r. IsUnprovable H.of name.now (S.state shelf) (S.state r.1) r.0) }
-    ensures first { IfOk result (λ p. (stands_for p).version ≡ One) }
-{
-    match open_paged::<H, S>(alloc, name, shelf) {
-        Err(ended) => Err(ended),
-        Ok(paged) => match paged.version() {
-            Version::One => Ok(paged),
-            Version::Two => Err((without_proofs(alloc), paged.close())),
-        },
-    }
 }

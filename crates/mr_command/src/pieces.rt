@@ -14,7 +14,7 @@ use mr_check::{CheckErr, PieceCheck};
 use mr_outside::{PIECE, Shelf, ShelfErr};
 use mr_proof::Fault;
 use mr_query::Query;
-use mr_record::Record;
+use mr_record::{Record, Version};
 use mr_tree::Hash32;
 use std::alloc::{AllocError, Global};
 
@@ -132,14 +132,14 @@ fn zeros(alloc: Global, size: usize) -> Result<Vec<u8>, AllocError>
     vec![in alloc; 0u8; size]
 }
 
-// What the proof in a file proves, against a root digest and for a query.
+// What the proof in a file proves, against a root digest and for a query, and its version.
 pub(crate) fn judge_file<H: Hash32, S: Shelf>(
     alloc: Global,
     root: &[u8; 32],
     query: &Query,
     name: &str,
     shelf: &mut S,
-) -> Result<Vec<Record>, Stop>
+) -> Result<(Version, Vec<Record>), Stop>
     requires { IsAskable query.now }
     ensures stops { ReadsToFault H.of root.now query.now (S.state shelf.old).files name.now
         (S.state shelf.old).reads (S.state shelf.new).reads }

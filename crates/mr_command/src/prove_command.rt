@@ -9,7 +9,7 @@ ghost use Rattle.mr_plan.specs.declared.words.Command.TheVariants as commands;
 
 use crate::ending::{Ending, Halt};
 use crate::fetching::unfetched;
-use crate::opening::open_provable;
+use crate::opening::{lacks_proof, open_paged, without_proof};
 use crate::saving::save_text;
 use mr_bundle::{Text, proof_of_nodes};
 use mr_outside::Shelf;
@@ -49,7 +49,8 @@ fn keep_proof<S: Shelf>(
     }
 }
 
-/// The proof for a query on the map in a file, written to another one. The shelf is handed back.
+/// The proof for a query on the map in a file, written to another one, where the map has one. The
+/// shelf is handed back.
 pub fn prove_query<H: Hash32, S: Shelf>(
     alloc: Global,
     map: &str,
@@ -61,9 +62,12 @@ pub fn prove_query<H: Hash32, S: Shelf>(
     ensures { IsCarriedOut H.of (commands.Prove map.entry query.now proof.entry) (S.state shelf)
         (S.state result.1) result.0 }
 {
-    match open_provable::<H, S>(alloc, map, shelf) {
+    match open_paged::<H, S>(alloc, map, shelf) {
         Err(ended) => ended,
         Ok(paged) => {
+            if lacks_proof(paged.version(), query) {
+                return (without_proof(alloc), paged.close());
+            }
             let mut paged = paged;
             let made = proof_of_nodes(alloc, &mut paged, query);
             let mut shelf = paged.close();

@@ -1,27 +1,44 @@
 //! The command `serve`.
 
-ghost use Rattle.std.specs.Prelude.{◌≤◌, length, All, Ok};
+ghost use Rattle.std.specs.Prelude.{◌≡◌, ◌≤◌, length, All, Ok};
+ghost use Rattle.std.specs.List.{list_any};
 ghost use Rattle.mr_query.specs.Script.{script_limit};
 ghost use Rattle.mr_query.specs.Word.{IsAskable};
 ghost use Rattle.mr_command.specs.Ending.{RunsPlan, IsCarriedOut};
 ghost use Rattle.mr_plan.specs.Plan.{comes};
-ghost use Rattle.mr_plan.specs.Say.{opened_in, say_script, say_serve_of};
+ghost use Rattle.mr_plan.specs.Say.{lacks_proof as lacks, opened_in, say_script, say_serve_of};
 ghost use Rattle.mr_plan.specs.declared.words.Command.TheVariants as commands;
 
 use crate::bundling::{bundle_size, save_proofs};
 use crate::ending::{Ending, Halt};
 use crate::fetching::unfetched;
 use crate::input::queries_from;
-use crate::opening::open_provable;
+use crate::opening::{lacks_proof, open_paged, without_proof};
 use mr_bundle::prove_all;
 use mr_outside::{Gate, Shelf};
 use mr_plan::served_line;
 use mr_query::Query;
-use mr_tree::{Hash32, Snapshot};
+use mr_record::Version;
+use mr_tree::{Hash32, Nodes, Snapshot};
 use std::alloc::Global;
 use std::thread::Threads;
 
-// The bundle for some queries on a map in memory, in a file, and the line on it.
+// The version of a map in memory.
+fn map_version<H: Hash32>(nodes: &Snapshot<H>) -> Version
+    ensures { result ≡ nodes.now.top.version }
+{
+    nodes.reader().top().version
+}
+
+// Whether a map of this version has no proof for one of the queries.
+fn lacks_one(version: Version, queries: &[Query]) -> bool
+    ensures { result ≡ list_any (lacks version) queries.now }
+{
+    queries.iter().any(|query| lacks_proof(version, query))
+}
+
+// The bundle for some queries on a map in memory, in a file, and the line on it; or what the
+// command comes to where the map has no proof for one of them.
 fn serve_queries<H: Hash32, S: Shelf, G: Gate, R: Threads + Sync>(
     rt: &R,
     alloc: Global,
@@ -37,6 +54,9 @@ fn serve_queries<H: Hash32, S: Shelf, G: Gate, R: Threads + Sync>(
         RunsPlan (comes (say_serve_of H.of bundle.now map (Ok queries.now))) (S.state shelf.old)
         (S.state shelf.new) result }
 {
+    if lacks_one(map_version(nodes), queries) {
+        return without_proof(alloc);
+    }
     let list = prove_all::<H, G, R>(rt, alloc, nodes, queries, gate)?;
     let line = served_line(alloc, queries.len(), bundle_size(&list))?;
     save_proofs(alloc, line, bundle, &list, shelf)
@@ -64,8 +84,9 @@ fn serve_script<H: Hash32, S: Shelf, G: Gate, R: Threads + Sync>(
     }
 }
 
-/// The proofs for the queries of a script on the map in a file, written to another one. The map is
-/// taken into memory, once, and the script is read behind it. The shelf is handed back.
+/// The proofs for the queries of a script on the map in a file, written to another one, where the map
+/// has one for each. The map is taken into memory, once, and the script is read behind it. The shelf
+/// is handed back.
 pub fn serve<H: Hash32, S: Shelf, G: Gate, R: Threads + Sync>(
     rt: &R,
     alloc: Global,
@@ -78,7 +99,7 @@ pub fn serve<H: Hash32, S: Shelf, G: Gate, R: Threads + Sync>(
     ensures { IsCarriedOut H.of (commands.Serve map.entry script.entry bundle.entry) (S.state shelf)
         (S.state result.1) result.0 }
 {
-    match open_provable::<H, S>(alloc, map, shelf) {
+    match open_paged::<H, S>(alloc, map, shelf) {
         Err(ended) => ended,
         Ok(paged) => {
             let mut paged = paged;

@@ -8,19 +8,19 @@ use mr_check::{CheckErr, PieceCheck};
 use mr_outside::{MemShelf, MemSink};
 use mr_proof::{Fault, Rule};
 use mr_query::{Query, read_query};
-use mr_record::{Record, write_line};
+use mr_record::{Record, Version, write_line, write_line2};
 use mr_tool::Status::{self, Done, Refused};
 use mr_tree::Hash32;
 use std::alloc::{AllocError, Global};
 
-// What a proof proves that comes in pieces of this size.
+// What a proof proves that comes in pieces of this size, and its version.
 fn judged<H: Hash32>(
     alloc: Global,
     root: &[u8; 32],
     q: &Query,
     proof: &[u8],
     size: usize,
-) -> Result<Vec<Record>, CheckErr>
+) -> Result<(Version, Vec<Record>), CheckErr>
     requires { IsAskable q.now }
 {
     let mut intake = PieceCheck::<H>::new(alloc, root, q)?;
@@ -30,12 +30,15 @@ fn judged<H: Hash32>(
     intake.end()
 }
 
-fn answer(alloc: Global, records: &[Record]) -> Result<Vec<u8>, AllocError> {
+// A line of this version for each record; one with a layer is left out of those of version 1.
+fn answer(alloc: Global, version: Version, records: &[Record]) -> Result<Vec<u8>, AllocError> {
     let mut out = MemSink::new(alloc, Vec::new(alloc));
     for record in records {
-        if record.layer == 0 {
-            let _ = write_line(&mut out, record);
-        }
+        let _ = match version {
+            Version::One if record.layer == 0 => write_line(&mut out, record),
+            Version::Two if record.layer < 64 => write_line2(&mut out, record),
+            _ => Ok(()),
+        };
     }
     out.bytes().to_vec(alloc)
 }
@@ -52,9 +55,12 @@ fn refusal(alloc: Global, fault: &Fault) -> Result<String, AllocError> {
 }
 
 // What is to be printed of it.
-fn printed(alloc: Global, found: Result<Vec<Record>, CheckErr>) -> Result<Vec<u8>, AllocError> {
+fn printed(
+    alloc: Global,
+    found: Result<(Version, Vec<Record>), CheckErr>,
+) -> Result<Vec<u8>, AllocError> {
     match found {
-        Ok(records) => answer(alloc, &records),
+        Ok((version, records)) => answer(alloc, version, &records),
         Err(CheckErr::Fault(fault)) => refusal(alloc, &fault)?.as_bytes().to_vec(alloc),
         Err(CheckErr::NoMemory) => Err(AllocError),
     }

@@ -21,7 +21,8 @@
 //!   `inner` begins an inner node's page (level, count), `child` is a child on it (page, rectangle,
 //!   digest); `seal` fills the first page with zeros up to its seal, `fill` any page to its end.
 //! - `map2` is that head in version 2 (with a mask in front of the digest), `child2` such a child
-//!   (with a mask and a count there), and `record2`, `seal2` and `fill2` are those of version 2.
+//!   (with a mask and a count there), `pruned2` such a pruned node (with both there too), and
+//!   `window2`, `nearest2`, `record2`, `seal2` and `fill2` are those of version 2.
 //!
 //! Numbers are decimal, or hexadecimal behind `0x`; words between them are for the reader. A digest
 //! is given by its value as a number: zeros come before it.
@@ -324,8 +325,7 @@ fn put_many(
 }
 
 // The head of a proof for nearest records, with a radius or without one.
-fn put_nearest(bytes: &mut Vec<u8>, numbers: &[i128]) -> Result<bool, AllocError> {
-    let front: &[u8] = b"MRVO\x01K";
+fn put_nearest(bytes: &mut Vec<u8>, front: &[u8], numbers: &[i128]) -> Result<bool, AllocError> {
     match numbers {
         [_, _, 1, _, _] => put_fields(bytes, front, &[8, 8, 1, 16, 1], numbers),
         _ => put_fields(bytes, front, &[8, 8, 1, 1], numbers),
@@ -336,10 +336,13 @@ fn put_nearest(bytes: &mut Vec<u8>, numbers: &[i128]) -> Result<bool, AllocError
 fn put_shown(bytes: &mut Vec<u8>, kind: &str, numbers: &[i128]) -> Result<bool, AllocError> {
     match kind {
         "window" => put_fields(bytes, b"MRVO\x01W", &[8, 8, 1], numbers),
-        "nearest" => put_nearest(bytes, numbers),
+        "window2" => put_fields(bytes, b"MRVO\x02W", &[8, 8, 1], numbers),
+        "nearest" => put_nearest(bytes, b"MRVO\x01K", numbers),
+        "nearest2" => put_nearest(bytes, b"MRVO\x02K", numbers),
         "leaf" => put_fields(bytes, b"L", &[1], numbers),
         "node" => put_fields(bytes, b"N", &[1], numbers),
         "pruned" => put_fields(bytes, b"P", &[4, 4, 4, 4, 32], numbers),
+        "pruned2" => put_fields(bytes, b"P", &[4, 4, 4, 4, 8, 8, 32], numbers),
         _ => put_on_page(bytes, kind, numbers),
     }
 }

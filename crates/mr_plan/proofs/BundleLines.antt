@@ -4,7 +4,7 @@ use Rattle.std.specs.Prelude.{Result, Ok, Err, OnOk, codes, decimal}
 use Rattle.std.proofs.lemmas.List.{length-take-le, take_more}
 use Rattle.mr_record.specs.RecordText.{text_of}
 use Rattle.mr_record.specs.declared.record.Record.{Record}
-use Rattle.mr_record.specs.declared.version.Version.TheVariants.{One}
+use Rattle.mr_record.specs.declared.version.Version.{Version}
 use Rattle.mr_bundle.specs.declared.verdict.Verdict.{Verdict}
 use Rattle.mr_bundle.specs.declared.verdict.Verdict.TheVariants as verdicts
 use Rattle.mr_proof.specs.declared.rule.Fault.{Fault}
@@ -15,23 +15,25 @@ before_text : (a b c d t : List ℕ) → (a ++ b ++ c ++ d ++ 10 ∷ []) ++ t �
 before_text a b c d t = simp append_assoc
 
 -- a line, and then the records
-accepted_text : (query : ℕ) (answer : List Record) (old between new : List ℕ)
+accepted_text : (query : ℕ) (v : Version) (answer : List Record) (old between new : List ℕ)
     → between ≡ old ++ (codes "query " ++ decimal query ++ codes " ok " ++ decimal (length answer) ++ 10 ∷ [])
-    → new ≡ between ++ text_of One answer → new ≡ old ++ verdict_text query (verdicts.Accepted answer)
+    → new ≡ between ++ text_of v answer → new ≡ old ++ verdict_text query (verdicts.Accepted v answer)
 unfolding verdict_text
-accepted_text query answer old between new line rest =
-    rest ∙ ap (λ t. t ++ text_of One answer) line
+accepted_text query v answer old between new line rest =
+    rest ∙ ap (λ t. t ++ text_of v answer) line
     ∙ append_assoc old (codes "query " ++ decimal query ++ codes " ok " ++ decimal (length answer) ++ 10 ∷ [])
-    (text_of One answer)
+    (text_of v answer)
     ∙ ap (λ t. old ++ t) (before_text (codes "query ") (decimal query) (codes " ok ") (decimal (length answer))
-    (text_of One answer))
+    (text_of v answer))
 
-pub accepted_after : {E : Type 0} (query : ℕ) (answer : List Record) (old between new : List ℕ) (result : Result Unit E)
+pub accepted_after : {E : Type 0} (query : ℕ) (v : Version) (answer : List Record) (old between new : List ℕ)
+    (result : Result Unit E)
     → between ≡ old ++ (codes "query " ++ decimal query ++ codes " ok " ++ decimal (length answer) ++ 10 ∷ [])
-    → OnOk result (new ≡ between ++ text_of One answer)
-    → OnOk result (new ≡ old ++ verdict_text query (verdicts.Accepted answer))
-accepted_after query answer old between new (Ok done) line rest = accepted_text query answer old between new line rest
-accepted_after query answer old between new (Err e) line rest = tt
+    → OnOk result (new ≡ between ++ text_of v answer)
+    → OnOk result (new ≡ old ++ verdict_text query (verdicts.Accepted v answer))
+accepted_after query v answer old between new (Ok done) line rest =
+    accepted_text query v answer old between new line rest
+accepted_after query v answer old between new (Err e) line rest = tt
 
 before_line : (a b c t : List ℕ) → (a ++ b ++ c) ++ t ≡ a ++ b ++ c ++ t
 before_line a b c t = simp append_assoc

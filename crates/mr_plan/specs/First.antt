@@ -1,4 +1,4 @@
--- The version of proofs, and of the maps that proofs are for; and the pages of a file.
+-- The first version, and maps of it; and the pages of a file.
 use Rattle.std.specs.Prelude.{ℕ, ◌/◌, List, length}
 use Rattle.mr_record.specs.declared.version.Version.{Version}
 use Rattle.mr_record.specs.declared.version.Version.TheVariants.{One}

@@ -3,18 +3,17 @@
 use Rattle.std.specs.Prelude.{◌≡◌, ℕ, zero, suc, ◌+◌, ◌-◌, ◌==◌, ◌&&◌, ⊤, if◌then◌else◌, All, Bool, true, false, is_none, List, [], ◌∷◌, ◌++◌, length, count_by, Option, Some, None, codes, decimal}
 use Rattle.mr_record.specs.Record.{HasLayer}
 use Rattle.mr_record.specs.RecordText.{text_of}
-use Rattle.mr_record.specs.declared.version.Version.TheVariants.{One}
 use Rattle.mr_bundle.specs.declared.verdict.Verdict.{Verdict}
 use Rattle.mr_bundle.specs.declared.verdict.Verdict.TheVariants as verdicts
 use Rattle.mr_plan.specs.Refusal.{refused_line}
 use Rattle.mr_plan.specs.declared.status.Status.{Status}
 use Rattle.mr_plan.specs.declared.status.Status.TheVariants.{Done, Refused}
 
--- `query QUERY ok NUMBER`, and a line for each of so many records; or `query QUERY ` and the line
--- on a proof that is refused
+-- `query QUERY ok NUMBER`, and a line of the proof's version for each of so many records; or `query
+-- QUERY ` and the line on a proof that is refused
 unfoldable pub verdict_text : (query : ℕ) → Verdict → List ℕ
-verdict_text query (verdicts.Accepted answer) = codes "query " ++ decimal query ++ codes " ok "
-    ++ decimal (length answer) ++ 10 ∷ text_of One answer
+verdict_text query (verdicts.Accepted v answer) = codes "query " ++ decimal query ++ codes " ok "
+    ++ decimal (length answer) ++ 10 ∷ text_of v answer
 verdict_text query (verdicts.Refused fault) =
     codes "query " ++ decimal query ++ codes " " ++ refused_line fault
 
@@ -48,17 +47,17 @@ broken_text None = []
 broken_text (Some place) = broken_line place
 
 abbrev pub is_accepted : Verdict → Bool
-is_accepted (verdicts.Accepted answer) = true
+is_accepted (verdicts.Accepted v answer) = true
 is_accepted (verdicts.Refused fault) = false
 
 -- the verdict is an answer
 abbrev pub IsAccepted : Verdict → Type 0
 IsAccepted v = is_accepted v ≡ true
 
--- the records of its answer have the layer of the first version, whose lines do not spell it
-abbrev pub IsPlain : Verdict → Type 0
-IsPlain (verdicts.Accepted answer) = All (HasLayer One) answer
-IsPlain (verdicts.Refused fault) = ⊤
+-- the layers of its answer are those of the version in whose lines it is printed
+abbrev pub HasLines : Verdict → Type 0
+HasLines (verdicts.Accepted v answer) = All (HasLayer v) answer
+HasLines (verdicts.Refused fault) = ⊤
 
 -- how many verdicts are so
 abbrev pub accepted_count : List Verdict → ℕ

@@ -15,7 +15,7 @@ digest_line digest = encode_lower digest ++ 10 ∷ []
 abbrev pub bad_words_line : List ℕ
 bad_words_line = codes "bad words" ++ 10 ∷ []
 
--- there are no proofs of the map's version yet
+-- the map is of the first version, and a query names a mask, of which that has no proofs
 abbrev pub needs_version_2_line : List ℕ
 needs_version_2_line = codes "needs version 2" ++ 10 ∷ []
 

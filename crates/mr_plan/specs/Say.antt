@@ -5,6 +5,7 @@ use Rattle.mr_record.specs.declared.text_fault.TextFault.{TextFault}
 use Rattle.mr_record.specs.RecordText.{records_of_text, text_of}
 use Rattle.mr_record.specs.declared.version.Version.{Version}
 use Rattle.mr_record.specs.declared.version.Version.TheVariants.{One, Two}
+use Rattle.mr_tree.specs.Digest.{by}
 use Rattle.mr_tree.specs.Tree.{records}
 use Rattle.mr_tree.specs.declared.tree.Tree.{Tree}
 use Rattle.mr_journal.specs.Format.{is_open, restored}
@@ -23,14 +24,16 @@ use Rattle.mr_query.specs.declared.query.Query.{Query}
 use Rattle.mr_proof.specs.declared.rule.Fault.{Fault}
 use Rattle.mr_proof.specs.Honest as honest
 use Rattle.mr_proof.specs.Reading.{verdict}
+use Rattle.mr_check.specs.Versions.{proof_version}
 use Rattle.mr_clash.specs.Finding.{found}
 use Rattle.mr_plan.specs.Demo.{demo_lines}
-use Rattle.mr_plan.specs.First.{first, pages_by}
+use Rattle.mr_plan.specs.First.{pages_by}
 use Rattle.mr_plan.specs.Found.{Found, bad_map_line}
-use Rattle.mr_plan.specs.Lines.{digest_line, needs_version_2_line, bad_words_line, bad_text_line, bad_batch_line, made_line, recovered_line}
+use Rattle.mr_plan.specs.Lines.{digest_line, bad_words_line, bad_text_line, bad_batch_line, made_line, recovered_line}
 use Rattle.mr_plan.specs.Outcome.{Outcome, File, map_of, changed}
 use Rattle.mr_plan.specs.Plan.{Input, Plan, comes, reads, opens, seeks}
 pub use Rattle.mr_plan.specs.Saying.{ends, prints, says_missing, say_text, say_written}
+pub use Rattle.mr_plan.specs.Saying.{lacks_proof, unless_lacking}
 pub use Rattle.mr_plan.specs.Saying.{journal_of, say_in_place}
 pub use Rattle.mr_plan.specs.Saying.{say_finding, say_bundle, opened_in}
 pub use Rattle.mr_plan.specs.Saying.{say_serve_of, say_verdicts, say_parts_of}
@@ -38,7 +41,7 @@ use Rattle.mr_plan.specs.Refusal.{refused_line}
 use Rattle.mr_pages.specs.File.{version_of}
 use Rattle.mr_pages.specs.declared.opening.Opened.{Opened}
 use Rattle.mr_pages.specs.Law.{map_root, map_in}
-use Rattle.mr_plan.specs.declared.status.Status.TheVariants.{Done, BadWords, Refused, BadText, BadMap, BadBatch, NeedsVersion2}
+use Rattle.mr_plan.specs.declared.status.Status.TheVariants.{Done, BadWords, Refused, BadText, BadMap, BadBatch}
 use Rattle.mr_plan.specs.declared.words.Command.{Command}
 use Rattle.mr_plan.specs.declared.words.Command.TheVariants as commands
 
@@ -56,26 +59,12 @@ abbrev pub given_map : (Opened → Plan) → Found → Plan
 given_map next (Ok map) = next map
 given_map next (Err fault) = comes (ends BadMap (bad_map_line fault))
 
--- a file that has to be there and to stand for a map, read in a version that goes by its bytes, is
--- read
-abbrev pub needs_map_in : (List ℕ → Version) → (List ℕ → List ℕ) → List ℕ → (Opened → Plan) → Plan
-needs_map_in version hash name next =
-    needs name (λ bytes. opens (version bytes) hash bytes (given_map next))
-
--- a map of either version
-abbrev pub needs_any_map : (List ℕ → List ℕ) → List ℕ → (Opened → Plan) → Plan
-needs_any_map hash name next = needs_map_in version_of hash name next
-
--- what follows on a map of the first version; of the second one there are no proofs yet
-abbrev pub at_first : Version → Plan → Plan
-at_first One next = next
-at_first Two next = comes (ends NeedsVersion2 needs_version_2_line)
-
--- a map of a version that has proofs
+-- a file that has to be there and to stand for a map, of either version, is read
 abbrev pub needs_map : (List ℕ → List ℕ) → List ℕ → (Opened → Plan) → Plan
-needs_map hash name next = needs_any_map hash name (λ map. at_first map.version (next map))
+needs_map hash name next =
+    needs name (λ bytes. opens (version_of bytes) hash bytes (given_map next))
 
--- a map of either version, where what follows goes by the number of the file's pages besides
+-- the same, where what follows goes by the number of the file's pages besides
 abbrev pub needs_sized_map : (List ℕ → List ℕ) → List ℕ → ((pages : ℕ) → Opened → Plan) → Plan
 needs_sized_map hash name next = needs name (λ bytes. opens (version_of bytes) hash bytes
     (given_map (next (pages_by (version_of bytes) bytes))))
@@ -116,7 +105,7 @@ say_list_of map = prints (text_of map.version (by_number (records map.tree)))
 
 -- `list MAP`: the records of the map in a file
 abbrev pub say_list : (List ℕ → List ℕ) → List ℕ → Plan
-say_list hash name = needs_any_map hash name (λ map. comes (say_list_of map))
+say_list hash name = needs_map hash name (λ map. comes (say_list_of map))
 
 -- the tree and the batch of a map, in a file of version 2
 abbrev pub say_upgrade_of : (List ℕ → List ℕ) → List ℕ → Opened → Outcome
@@ -124,7 +113,7 @@ say_upgrade_of hash new map = say_map Two hash new map.tree map.batch
 
 -- `upgrade OLD NEW`: the map in a file, of either version, written to another one in version 2
 abbrev pub say_upgrade : (List ℕ → List ℕ) → (old new : List ℕ) → Plan
-say_upgrade hash old new = needs_any_map hash old (λ map. comes (say_upgrade_of hash new map))
+say_upgrade hash old new = needs_map hash old (λ map. comes (say_upgrade_of hash new map))
 
 -- the map of the tree after a batch in a file, at the batch's number, and its root. The file is
 -- made by changes from one of so many pages.
@@ -165,24 +154,26 @@ say_change hash batch new pages map =
 abbrev pub say_apply : (List ℕ → List ℕ) → (old batch new : List ℕ) → Plan
 say_apply hash old batch new = needs_sized_map hash old (say_change hash batch new)
 
--- the honest proof for a query on a map in a file, and its length
+-- the honest proof for a query on a map in a file, and its length; or that there is none
 unfoldable pub say_prove_of : (List ℕ → List ℕ) → Query → List ℕ → Opened → Outcome
-say_prove_of hash query proof map =
-    say_written proof (honest.proof (first hash) map.tree map.batch query)
+say_prove_of hash query proof map = unless_lacking (lacks_proof map.version query)
+    (say_written proof (honest.proof (by map.version hash) map.tree map.batch query))
 
 -- `prove MAP QUERY PROOF`: the proof for a query on the map in a file, written to another one
 abbrev pub say_prove : (List ℕ → List ℕ) → List ℕ → Query → List ℕ → Plan
 say_prove hash name query proof =
     needs_map hash name (λ map. comes (say_prove_of hash query proof map))
 
--- the answer that a proof proves, a line for each record, or its fault
-abbrev pub say_verdict : Result (List Record) Fault → Outcome
-say_verdict (Ok answer) = prints (text_of One answer)
-say_verdict (Err fault) = ends Refused (refused_line fault)
+-- the answer that a proof of this version proves, a line of the version for each record, or its
+-- fault
+abbrev pub say_verdict : Version → Result (List Record) Fault → Outcome
+say_verdict v (Ok answer) = prints (text_of v answer)
+say_verdict v (Err fault) = ends Refused (refused_line fault)
 
 -- what is said of the bytes of a proof
 unfoldable pub say_check_of : (List ℕ → List ℕ) → List ℕ → Query → List ℕ → Outcome
-say_check_of hash root query proof = say_verdict (verdict hash root query proof)
+say_check_of hash root query proof =
+    say_verdict (proof_version proof) (verdict hash root query proof)
 
 -- `check ROOT QUERY PROOF`: the answer that the proof in a file proves
 abbrev pub say_check : (List ℕ → List ℕ) → List ℕ → Query → List ℕ → Plan
@@ -191,7 +182,8 @@ say_check hash root query proof =
 
 -- what is said of the bytes of a proof and of a map
 unfoldable pub say_audit_of : (List ℕ → List ℕ) → Query → Opened → List ℕ → Outcome
-say_audit_of hash query map bytes = say_finding (found (first hash) map.tree map.batch query bytes)
+say_audit_of hash query map bytes = say_finding (proof_version bytes)
+    (found (by map.version hash) map.tree map.batch query bytes)
 
 -- `audit MAP QUERY PROOF`: what the proof in a file is worth against the map in another one
 abbrev pub say_audit : (List ℕ → List ℕ) → List ℕ → Query → List ℕ → Plan

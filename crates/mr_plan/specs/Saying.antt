@@ -1,7 +1,9 @@
 -- Outcomes, by what they say.
-use Rattle.std.specs.Prelude.{ℕ, List, ◌++◌, length, codes, Option, Result, Ok, Err}
+use Rattle.std.specs.Prelude.{ℕ, Bool, false, if◌then◌else◌, List, ◌++◌, length, codes, Option, is_some, Result, Ok, Err}
+use Rattle.std.specs.List.{list_any}
 use Rattle.mr_record.specs.RecordText.{text_of}
-use Rattle.mr_record.specs.declared.version.Version.TheVariants.{One}
+use Rattle.mr_record.specs.declared.version.Version.{Version}
+use Rattle.mr_record.specs.declared.version.Version.TheVariants.{One, Two}
 use Rattle.mr_record.specs.declared.text_fault.TextFault.{TextFault}
 use Rattle.mr_tree.specs.Digest.{by}
 use Rattle.mr_tree.specs.Snapshot.{tree_of}
@@ -16,12 +18,12 @@ use Rattle.mr_bundle.specs.declared.verdict.Verdict.{Verdict}
 use Rattle.mr_clash.specs.declared.finding.Finding.{Finding}
 use Rattle.mr_clash.specs.declared.finding.Finding.TheVariants as findings
 use Rattle.mr_plan.specs.Judged.{bundle_text, bundle_status}
-use Rattle.mr_plan.specs.Lines.{bad_text_line, missing_line, proof_line, served_line, sound_line, collision_lines}
+use Rattle.mr_plan.specs.Lines.{bad_text_line, needs_version_2_line, missing_line, proof_line, served_line, sound_line, collision_lines}
 use Rattle.mr_plan.specs.Outcome.{Outcome, Content, Nothing, File, InPlace}
 use Rattle.mr_plan.specs.Outcome as content
 use Rattle.mr_plan.specs.Refusal.{refused_line}
 use Rattle.mr_plan.specs.declared.status.Status.{Status}
-use Rattle.mr_plan.specs.declared.status.Status.TheVariants.{Done, Refused, BadText, Collision, Outside}
+use Rattle.mr_plan.specs.declared.status.Status.TheVariants.{Done, Refused, BadText, Collision, Outside, NeedsVersion2}
 
 -- a command that ends so, prints this text and writes no file
 abbrev pub ends : Status → List ℕ → Outcome
@@ -59,12 +61,22 @@ say_in_place status text map held made = record {
 abbrev pub say_written : List ℕ → List ℕ → Outcome
 say_written proof bytes = say_text (proof_line (length bytes)) proof bytes
 
--- what was found of the bytes of a proof: its fault; that it is the honest proof, and then the
--- answer, a line for each record; or the two strings
-abbrev pub say_finding : Finding → Outcome
-say_finding (findings.Refused fault) = ends Refused (refused_line fault)
-say_finding (findings.Sound answer) = prints (sound_line ++ text_of One answer)
-say_finding (findings.Collision owned shown) = ends Collision (collision_lines owned shown)
+-- what was found of the bytes of a proof of this version: its fault; that it is the honest proof,
+-- and then the answer, a line of the version for each record; or the two strings
+abbrev pub say_finding : Version → Finding → Outcome
+say_finding v (findings.Refused fault) = ends Refused (refused_line fault)
+say_finding v (findings.Sound answer) = prints (sound_line ++ text_of v answer)
+say_finding v (findings.Collision owned shown) = ends Collision (collision_lines owned shown)
+
+-- whether a map of this version has no proof for the query: one of the first version for a query
+-- that names a mask
+abbrev pub lacks_proof : Version → Query → Bool
+lacks_proof One query = is_some query.mask
+lacks_proof Two query = false
+
+-- this is said, unless a map lacks a proof that is asked for
+abbrev pub unless_lacking : Bool → Outcome → Outcome
+unless_lacking lacks said = if lacks then ends NeedsVersion2 needs_version_2_line else said
 
 -- a bundle in a file, how many queries it is for, and its length
 abbrev pub say_bundle : List ℕ → (queries : ℕ) → List ℕ → Outcome
@@ -75,12 +87,13 @@ abbrev pub opened_in : List Stored → Top → Opened
 opened_in nodes top = record
     { tree = tree_of nodes top; version = top.version; batch = top.batch }
 
--- the bundle for the queries of a script on a map in a file, or the script's first fault
+-- the bundle for the queries of a script on a map in a file; or the script's first fault, or that
+-- one of them has no proof
 unfoldable pub say_serve_of : (List ℕ → List ℕ) → List ℕ → Opened → Result (List Query) TextFault
     → Outcome
 say_serve_of hash name map (Err fault) = ends BadText (bad_text_line fault)
-say_serve_of hash name map (Ok queries) =
-    say_bundle name (length queries) (bundle (by map.version hash) map.tree map.batch queries)
+say_serve_of hash name map (Ok queries) = unless_lacking (list_any (lacks_proof map.version) queries)
+    (say_bundle name (length queries) (bundle (by map.version hash) map.tree map.batch queries))
 
 -- the verdicts on the parts of a bundle that are whole, for so many queries
 abbrev pub say_verdicts : (queries : ℕ) → List Verdict → (broken : Option ℕ) → Outcome

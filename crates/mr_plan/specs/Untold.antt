@@ -1,12 +1,11 @@
 -- What a command may come to over files that are not told. Where it reads pages of a map again, a
 -- page may be another one by then; over files that are told none ever is.
-use Rattle.std.specs.Prelude.{◌≡◌, ◌≢◌, ◌⊎◌, ◌↔◌, ⊤, ℕ, ◌^◌, ◌<◌, ◌≤◌, Bool, List, length, Option, Some, None, IfSome, IsNone, Ok, Err}
+use Rattle.std.specs.Prelude.{◌≡◌, ◌≢◌, ◌⊎◌, ◌↔◌, ⊤, true, ℕ, ◌^◌, ◌<◌, ◌≤◌, Bool, List, length, Option, Some, None, is_some, IfSome, IsNone, Ok, Err}
 use Rattle.mr_outside.specs.Files.{Files}
 use Rattle.mr_record.specs.private.Bytes.{AreBytes}
 use Rattle.mr_record.specs.declared.record.Record.{Record}
 use Rattle.mr_record.specs.declared.text_fault.TextFault.{TextFault}
 use Rattle.mr_record.specs.declared.version.Version.{Version}
-use Rattle.mr_record.specs.declared.version.Version.TheVariants.{One}
 use Rattle.mr_tree.specs.Digest.{root_preimage}
 use Rattle.mr_tree.specs.Limits.{count_limit, level_limit}
 use Rattle.mr_tree.specs.Nodes.{MapModel, root_entry}
@@ -25,6 +24,7 @@ use Rattle.mr_batch.specs.Changes.{Changes}
 use Rattle.mr_batch.specs.declared.admission.BatchFault.{BatchFault}
 use Rattle.mr_query.specs.Script.{queries_of_text}
 use Rattle.mr_query.specs.declared.query.Query.{Query}
+use Rattle.mr_check.specs.Versions.{proof_version}
 use Rattle.mr_clash.specs.Finding.{ShowsCollision, FindsFor}
 use Rattle.mr_clash.specs.declared.finding.Finding.{Finding}
 use Rattle.mr_plan.specs.Found.{bad_map_line}
@@ -63,16 +63,17 @@ IsRefused hash map said = (said ≡ says_missing map) ⊎ IsBadMap hash said
 -- What was found of the bytes of a proof: by their verdict against the root digest of what some map
 -- says of itself its fault, or its answer as sound; or, where it accepts, two strings that differ
 -- and have one hash.
-pub record IsFinding (hash : List ℕ → List ℕ) (query : Query) (finding : Finding) : Type 0 where
+pub record IsFinding (hash : List ℕ → List ℕ) (query : Query) (bytes : List ℕ) (finding : Finding)
+    : Type 0 where
   pub stands : MapModel
-  pub bytes : List ℕ
   pub are : AreBytes bytes
   pub judged : FindsFor hash stands query bytes finding
   pub collides : ShowsCollision hash finding
 
--- it is a map of version 2, of which there are no proofs yet
-abbrev pub LacksProofs : Outcome → Type 0
-LacksProofs said = said ≡ ends NeedsVersion2 needs_version_2_line
+-- the query names a mask, of which a map of the first version has no proof
+abbrev pub LacksProof : Query → Outcome → Type 0
+LacksProof query said =
+    (is_some query.mask ≡ true) × (said ≡ ends NeedsVersion2 needs_version_2_line)
 
 -- some text has this first fault as a batch of some version
 abbrev pub IsBadText : Outcome → Type 0
@@ -105,25 +106,23 @@ IsSomeRoot hash new said = (digest : List ℕ) × (length digest ≡ 32) × IsRo
 
 -- ---- what is said of a map of which not all reads give the same bytes
 
--- it is refused, or has no proofs, or some bytes are written
-abbrev pub MaySayProve : (List ℕ → List ℕ) → (map proof : List ℕ) → Outcome → Type 0
-MaySayProve hash map proof said = IsRefused hash map said ⊎ LacksProofs said
+-- it is refused, or lacks the proof, or some bytes are written
+abbrev pub MaySayProve : (List ℕ → List ℕ) → (map : List ℕ) → Query → (proof : List ℕ) → Outcome
+    → Type 0
+MaySayProve hash map query proof said = IsRefused hash map said ⊎ LacksProof query said
     ⊎ ((bytes : List ℕ) × (said ≡ say_written proof bytes))
 
--- it is refused, or has no proofs, or what was found is said
+-- it is refused, or what was found of some bytes is said, in lines of their version
 abbrev pub MaySayAudit : (List ℕ → List ℕ) → (map : List ℕ) → Query → (proof : List ℕ) → Outcome
     → Type 0
-MaySayAudit hash map query proof said = IsRefused hash map said ⊎ LacksProofs said
-    ⊎ (said ≡ says_missing proof)
-    ⊎ ((finding : Finding) × IsFinding hash query finding × (said ≡ say_finding finding))
+MaySayAudit hash map query proof said = IsRefused hash map said ⊎ (said ≡ says_missing proof)
+    ⊎ ((bytes : List ℕ) × (finding : Finding) × IsFinding hash query bytes finding
+    × (said ≡ say_finding (proof_version bytes) finding))
 
--- it is refused, or has no proofs, or what is said is the bundle of some map, for the queries of
--- some script
+-- it is refused, or what is said is the bundle of some map, for the queries of some script
 abbrev pub MaySayServe : (List ℕ → List ℕ) → (map script bundle : List ℕ) → Outcome → Type 0
-MaySayServe hash map script bundle said = IsRefused hash map said ⊎ LacksProofs said
-    ⊎ (said ≡ says_missing script)
-    ⊎ ((held : Opened) × (held.version ≡ One) × ∥ WellFormed held.tree ∥₁ × (text : List ℕ)
-    × AreBytes text
+MaySayServe hash map script bundle said = IsRefused hash map said ⊎ (said ≡ says_missing script)
+    ⊎ ((held : Opened) × ∥ WellFormed held.tree ∥₁ × (text : List ℕ) × AreBytes text
     × (said ≡ say_serve_of hash bundle held (queries_of_text text)))
 
 -- it is refused, or why some batch is not applied is said, or some root
@@ -137,7 +136,7 @@ MaySayApply hash old batch new said = IsRefused hash old said ⊎ (said ≡ says
 -- what its plan leads to, by some content of each file.
 abbrev pub MaySayUntold : (List ℕ → List ℕ) → Option Command → Outcome → Type 0
 MaySayUntold hash (Some (commands.Prove map query proof)) said =
-    MaySayProve hash map.now proof.now said
+    MaySayProve hash map.now query proof.now said
 MaySayUntold hash (Some (commands.Audit map query proof)) said =
     MaySayAudit hash map.now query proof.now said
 MaySayUntold hash (Some (commands.Serve map script bundle)) said =

@@ -3,16 +3,15 @@
 ghost use Rattle.std.specs.Prelude.{◌≡◌, ◌+◌, ◌≤◌, ◌<◌, ◌^◌, ◌++◌, ◌∷◌, [], All, length, codes, decimal, OnOk, IfOk};
 ghost use Rattle.std.specs.String.{string_bytes};
 ghost use Rattle.mr_record.specs.Record.{HasLayer};
-ghost use Rattle.mr_record.specs.declared.version.Version.TheVariants.{One};
 ghost use Rattle.mr_bundle.specs.declared.verdict.Verdict.TheVariants as verdicts;
-ghost use Rattle.mr_plan.specs.Judged.{IsPlain, verdict_text, verdict_lines, missing_part_line, missing_lines, summary_line as line_of_summary, broken_line, broken_text, accepted_count, bundle_text, bundle_status, is_accepted as accepts};
+ghost use Rattle.mr_plan.specs.Judged.{HasLines, verdict_text, verdict_lines, missing_part_line, missing_lines, summary_line as line_of_summary, broken_line, broken_text, accepted_count, bundle_text, bundle_status, is_accepted as accepts};
 
 use crate::Status;
 use crate::lines::refused_line;
 use crate::text::put_records;
 use mr_bundle::{Text, Verdict};
 use mr_proof::Fault;
-use mr_record::Record;
+use mr_record::{Record, Version};
 use std::alloc::{AllocError, Global};
 
 // Puts the number of a query with its answer.
@@ -25,19 +24,20 @@ fn put_answered(alloc: Global, out: &mut Text, query: usize, size: usize) -> Res
     out.put(line.as_bytes())
 }
 
-// Puts an accepted part: a line, and a line for each record of the answer.
+// Puts an accepted part: a line, and a line of this version for each record of the answer.
 fn put_answer(
     alloc: Global,
     out: &mut Text,
     query: usize,
+    version: Version,
     answer: &[Record],
 ) -> Result<(), AllocError>
-    requires { All (HasLayer One) answer.now }
+    requires { All (HasLayer version) answer.now }
     ensures { OnOk result (out.new.bytes.items ≡ out.old.bytes.items
-        ++ verdict_text query (verdicts.Accepted answer.now)) }
+        ++ verdict_text query (verdicts.Accepted version answer.now)) }
 {
     put_answered(alloc, out, query, answer.len())?;
-    put_records(out, answer)
+    put_records(out, version, answer)
 }
 
 // The line on a part that is refused.
@@ -67,19 +67,21 @@ fn put_verdict(
     query: usize,
     verdict: &Verdict,
 ) -> Result<(), AllocError>
-    requires { IsPlain verdict.now }
+    requires { HasLines verdict.now }
     ensures { OnOk result (out.new.bytes.items ≡ out.old.bytes.items
         ++ verdict_text query verdict.now) }
 {
     match verdict {
-        Verdict::Accepted(answer) => put_answer(alloc, out, query, answer.as_slice()),
+        Verdict::Accepted(version, answer) => {
+            put_answer(alloc, out, query, *version, answer.as_slice())
+        }
         Verdict::Refused(fault) => put_refused(alloc, out, query, fault),
     }
 }
 
 // Puts the verdicts, in the order of their queries.
 fn put_verdicts(alloc: Global, out: &mut Text, list: &[Verdict]) -> Result<(), AllocError>
-    requires { All IsPlain list.now }
+    requires { All HasLines list.now }
     ensures { OnOk result (out.new.bytes.items ≡ out.old.bytes.items
         ++ verdict_lines 1 list.now) }
 {
@@ -165,7 +167,7 @@ fn is_accepted(verdict: &Verdict) -> bool
     ensures { result ≡ accepts verdict.now }
 {
     match verdict {
-        Verdict::Accepted(_) => true,
+        Verdict::Accepted(..) => true,
         Verdict::Refused(_) => false,
     }
 }
@@ -197,7 +199,7 @@ pub fn judged_text(
     accepted: usize,
     broken: Option<usize>,
 ) -> Result<Text, AllocError>
-    requires plain { All IsPlain list.now }
+    requires lines { All HasLines list.now }
     requires few { length list.now ≤ queries }
     requires room { queries + 1 < 2 ^ 64 }
     requires accepted { accepted ≡ accepted_count list.now }

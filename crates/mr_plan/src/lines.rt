@@ -269,7 +269,8 @@ pub fn sound_line(alloc: Global) -> Result<String, AllocError>
     Ok(line)
 }
 
-/// The line on a map of version 2, of which there are no proofs yet: `needs version 2`.
+/// The line on a map of version 1, where a query names a mask, of which that has no proofs: `needs
+/// version 2`.
 pub fn needs_version_2_line(alloc: Global) -> Result<String, AllocError>
     ensures { IfOk result (λ line. string_bytes line ≡ line_of_need) }
 {

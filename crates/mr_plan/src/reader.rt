@@ -10,13 +10,16 @@ ghost use Rattle.mr_plan.specs.Words.{key, file, digest, query, number};
 
 use hex::FromHex;
 use mr_geom::Point;
-use mr_query::{Query, read_query};
+use mr_query::{Query, Shape, read_query};
 use mr_record::read_u64;
 
 // What stands where a word is no query. Nothing is asked with it.
-const NO_QUERY: Query = Query::Nearest {
-    center: Point { x: 0, y: 0 },
-    k: 1,
+const NO_QUERY: Query = Query {
+    shape: Shape::Nearest {
+        center: Point { x: 0, y: 0 },
+        k: 1,
+    },
+    mask: None,
 };
 
 fn are_lower_digits(word: &str) -> bool

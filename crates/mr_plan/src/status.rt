@@ -24,13 +24,13 @@ pub enum Status {
     Outside,
     /// There was no memory.
     NoMemory,
-    /// A map is of version 2, of which there are no proofs yet.
+    /// A map is of version 1, and a query names a mask, of which that has no proof.
     NeedsVersion2,
 }
 
 impl Status {
-    /// The exit status of the program: 0 to 8 in the order of the variants, and 10 for a map whose
-    /// version has no proofs yet.
+    /// The exit status of the program: 0 to 8 in the order of the variants, and 10 for a map that
+    /// would have to be of version 2.
     pub fn code(self) -> u8
         ensures { result ≡ code_of self }
     {

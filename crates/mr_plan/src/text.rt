@@ -10,12 +10,16 @@ use mr_outside::SinkErr;
 use mr_record::{Record, Version, write_lines};
 use std::alloc::{AllocError, Global};
 
-// Puts a line of the first version for each record.
-pub(crate) fn put_records(out: &mut Text, list: &[Record]) -> Result<(), AllocError>
-    requires { All (HasLayer One) list.now }
-    ensures { OnOk result (out.new.bytes.items ≡ out.old.bytes.items ++ text_of One list.now) }
+// Puts a line of this version for each record.
+pub(crate) fn put_records(
+    out: &mut Text,
+    version: Version,
+    list: &[Record],
+) -> Result<(), AllocError>
+    requires { All (HasLayer version) list.now }
+    ensures { OnOk result (out.new.bytes.items ≡ out.old.bytes.items ++ text_of version list.now) }
 {
-    match write_lines(out, Version::One, list) {
+    match write_lines(out, version, list) {
         Ok(()) => Ok(()),
         Err(SinkErr::NoMemory) => Err(AllocError),
         Err(SinkErr::Fault) => unreachable!(),
@@ -28,6 +32,6 @@ pub fn text_of_records(alloc: Global, list: &[Record]) -> Result<Text, AllocErro
     ensures { IfOk result (λ t. t.bytes.items ≡ text_of One list.now) }
 {
     let mut out = Text::new(alloc);
-    put_records(&mut out, list)?;
+    put_records(&mut out, Version::One, list)?;
     Ok(out)
 }

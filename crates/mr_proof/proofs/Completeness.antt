@@ -7,12 +7,15 @@ use Rattle.std.proofs.lemmas.Bool.{false≢true, eqb-true, le-ltb, eq-eqb, ne_eq
 use Rattle.std.proofs.lemmas.List.{append-nil, length-append, take_at, drop_at}
 use Rattle.std.proofs.lemmas.List.Concat.{flat_map-cons}
 use Rattle.std.proofs.lemmas.List.Elements.{recursion_from_All}
-use Rattle.mr_geom.specs.Rectangle.{Rectangle}
-use Rattle.mr_record.specs.Record.{IsRecord, HasLayer, record_bytes, rectangle_bytes}
-use Rattle.mr_record.specs.Version.{version_byte}
+use Rattle.mr_record.specs.Record.{IsRecord, HasLayer, record_bytes, rectangle_bytes, layer_bytes}
+use Rattle.mr_record.specs.Version.{version_byte, highest_layer}
+use Rattle.mr_record.specs.declared.version.Version.{Version}
+use Rattle.mr_record.specs.declared.version.Version.TheVariants.{One, Two}
+use Rattle.mr_tree.specs.Digest.{word_bytes}
 use Rattle.mr_record.specs.declared.record.Record.{Record}
 use Rattle.mr_query.specs.Word.{IsQuery}
 use Rattle.mr_query.specs.declared.query.Query.{Query}
+use Rattle.mr_query.specs.declared.key.Key.{Key}
 use Rattle.std.proofs.Math.Dec.{eqb-suc-zero}
 use Rattle.mr_proof.specs.declared.head.Kind.{Kind}
 use Rattle.mr_proof.specs.declared.head.Kind.TheVariants as kind
@@ -26,20 +29,19 @@ use Rattle.mr_proof.specs.declared.field.Field.{Field}
 use Rattle.mr_proof.specs.declared.field.Field.TheVariants as field
 use Rattle.mr_proof.specs.declared.pruned_entry.PrunedEntry.{PrunedEntry}
 use Rattle.mr_proof.specs.Limits.{count_limit, level_limit, place_limit}
-use Rattle.mr_proof.specs.Fields.{size_of, field_of, magic, kind_byte, pruned_tag, leaf_tag, inner_tag, opened_tag, version}
+use Rattle.mr_proof.specs.Fields.{size_of, field_of, magic, kind_byte, pruned_tag, leaf_tag, inner_tag, opened_tag, IsVersionByte}
 use Rattle.mr_proof.specs.Cut.{Cut, Cuts, Pruned, Leaf, Inner, no_more, first, number_of_cuts}
 use Rattle.mr_proof.specs.Spelling.{shown_bytes, cut_bytes, cuts_bytes, FitsShown, FitsLeaf, FitsInner, FitsCut, FitCuts, radius_bytes, level_bytes, head_bytes, FitsRadius, FitsProofHead, Parsed, said, opened_records, part_bytes, FitsPart, IsSpelled}
 use Rattle.mr_proof.specs.declared.way.Way.{Way}
-use Rattle.mr_proof.specs.Tight.{Key, key_of, opens_seen, opens_at, keeps_at, Question, question, IsLawful, IsTightCut, AreTightCuts}
+use Rattle.mr_proof.specs.Tight.{key_at, key_of, opens_seen, opens_at, keeps_record, Question, question, IsLawful, IsTightCut, AreTightCuts}
 use Rattle.mr_proof.specs.Accepted.{root_found, ShowsCut, ProvesAnswer}
-use Rattle.mr_proof.specs.Grammar.{must, opens, Grammar, done, reads, notes, number_in, wide_in, tag_in, rect_in, bytes_in, payload, one_record, some_records, opened, leaf, some_items, inner, pruned, item, radius, level, head, part, whole}
+use Rattle.mr_proof.specs.Grammar.{must, opens, Grammar, done, reads, notes, number_in, version_in, wide_in, tag_in, rect_in, bytes_in, payload, layer, one_record, some_records, opened, leaf, some_items, inner, unopened, layers_and_count, pruned, item, radius, level, head, part, whole}
 use Rattle.mr_proof.specs.Layout.{Cursor, start, behind, field_at}
-use Rattle.mr_proof.specs.Refused.{has_other_radius}
+use Rattle.mr_proof.specs.Refused.{has_other_radius, has_other_count}
 use Rattle.mr_proof.specs.Reading.{walk, ending, checked, verdict}
-use Rattle.mr_proof.proofs.Laws.{radius_stands, is_lawful}
-use Rattle.mr_proof.proofs.Plain.{IsPlain, are_plain}
-use Rattle.mr_proof.proofs.Values.{bytes_same, word_long, wide_long, rectangle_long, tail}
-use Rattle.mr_proof.proofs.FieldValues.{number_value, batch_value, count_value, level_value, length_value, leaf_count_value, inner_count_value, rect_value, payload_value, digest_value, tag_value, magic_value, version_value, kind_value, flag_value, radius_value}
+use Rattle.mr_proof.proofs.Laws.{either_comes, radius_stands, count_stands, is_lawful}
+use Rattle.mr_proof.proofs.Values.{record_of, part_of, head_of, bytes_same, word_long, wide_long, rectangle_long, tail}
+use Rattle.mr_proof.proofs.FieldValues.{number_value, batch_value, count_value, level_value, length_value, leaf_count_value, inner_count_value, rect_value, payload_value, digest_value, tag_value, magic_value, version_value, kind_value, flag_value, radius_value, layer_value, mask_value, tally_value}
 
 -- the text is read from the front, and what follows it is read behind it
 pub record Comes {A B : Type 0} (heeds : Bool) (e : A → Cursor → Result B Fault) (g k : Grammar A) (s : Cursor)
@@ -105,83 +107,107 @@ payload_again heeds e next s (b ∷ p) rest parts within =
     (reads_again heeds e (want.Payload (length (b ∷ p))) bytes_in next s (b ∷ p) rest (field.Payload (b ∷ p)) refl
     (payload_value (length (b ∷ p)) (b ∷ p)) parts within)
 
-record_again : {A B : Type 0} (heeds : Bool) (e : A → Cursor → Result B Fault) (next : Record → Grammar A) (s : Cursor)
-    (r : Record) (rest : List ℕ) → IsRecord r → HasLayer version r → s.rest ≡ record_bytes version r ++ rest
-    → s.at + length (record_bytes version r) ≤ place_limit
-    → Comes heeds e (one_record next) (next r) s (record_bytes version r) rest
+-- the layer of a record, where the version tells it
+layer_again : {A B : Type 0} (v : Version) (heeds : Bool) (e : A → Cursor → Result B Fault) (next : ℕ → Grammar A)
+    (s : Cursor) (i : ℕ) (rest : List ℕ) → i ≤ highest_layer v → s.rest ≡ layer_bytes v i ++ rest
+    → s.at + length (layer_bytes v i) ≤ place_limit
+    → Comes heeds e (layer v next) (next i) s (layer_bytes v i) rest
+layer_again One heeds e next s i rest low parts within =
+    let lowest : i ≤ 0 = low in
+    let flat : 0 ≡ i = omega arith in
+    subst (λ (i : ℕ). Comes heeds e (next 0) (next i) s [] rest) flat (comes_none heeds e (next 0) s rest parts)
+layer_again Two heeds e next s i rest low parts within =
+    reads_again heeds e want.Layer number_in next s (i ∷ []) rest (field.Num i) refl (layer_value i low) parts within
+
+-- what follows the rectangle of a record
+rest_again : {A B : Type 0} (v : Version) (heeds : Bool) (e : A → Cursor → Result B Fault)
+    (next : ℕ → List ℕ → Grammar A) (s : Cursor) (i : ℕ) (p rest : List ℕ) → i ≤ highest_layer v → length p ≤ 200
+    → s.rest ≡ layer_bytes v i ++ (length p ∷ p ++ rest)
+    → s.at + (length (layer_bytes v i) + (1 + length p)) ≤ place_limit
+    → Comes heeds e (layer v (λ i. reads want.Length (λ l. payload (number_in l) (next i)))) (next i p) s
+    (layer_bytes v i ++ (length p ∷ p)) rest
+rest_again v heeds e next s i p rest low few parts within =
+    let size = length-append (layer_bytes v i) (length p ∷ p) in
+    let x = layer_again v heeds e (λ i. reads want.Length (λ l. payload (number_in l) (next i))) s i
+    (length p ∷ p ++ rest) low parts (omega arith) in
+    let a = x.place in
+    let l = reads_again heeds e want.Length number_in (λ l. payload l (next i)) x.end (length p ∷ []) (p ++ rest)
+    (field.Num (length p)) refl (length_value (length p) few) x.left (omega arith) in
+    let b = l.place in
+    let q = payload_again heeds e (next i) l.end p rest l.left (omega arith) in
+    let c = q.place in
+    record { end = q.end; left = q.left; place = omega arith; same = x.same ∙ l.same ∙ q.same }
+
+record_again : {A B : Type 0} (v : Version) (heeds : Bool) (e : A → Cursor → Result B Fault) (next : Record → Grammar A)
+    (s : Cursor) (r : Record) (rest : List ℕ) → IsRecord r → HasLayer v r → s.rest ≡ record_bytes v r ++ rest
+    → s.at + length (record_bytes v r) ≤ place_limit
+    → Comes heeds e (one_record v next) (next r) s (record_bytes v r) rest
 unfolding record_bytes
-record_again heeds e next s r rest fine low parts within =
+record_again v heeds e next s r rest fine low parts within =
     let number = to_be_bytes w64 r.number in
     let place = rectangle_bytes r.rect in
+    let stratum = layer_bytes v r.layer in
     let tail = length r.payload ∷ r.payload in
-    let one : s.rest ≡ number ++ (place ++ (tail ++ rest)) = parts
-    ∙ ap (λ (x : List ℕ). (x ++ tail) ++ rest) (append-nil (number ++ place))
-    ∙ append_assoc (number ++ place) tail rest ∙ append_assoc number place (tail ++ rest) in
-    let size : length (((number ++ place) ++ []) ++ tail) ≡ 8 + 16 + (1 + length r.payload) = omega (
+    let one : s.rest ≡ number ++ (place ++ (stratum ++ (tail ++ rest))) = parts
+    ∙ append_assoc ((number ++ place) ++ stratum) tail rest
+    ∙ append_assoc (number ++ place) stratum (tail ++ rest) ∙ append_assoc number place (stratum ++ (tail ++ rest)) in
+    let size : length (((number ++ place) ++ stratum) ++ tail) ≡ 8 + 16 + (length stratum + (1 + length r.payload)) =
+    omega (
       arith,
-      length-append ((number ++ place) ++ []) tail,
-      length-append (number ++ place) [],
+      length-append ((number ++ place) ++ stratum) tail,
+      length-append (number ++ place) stratum,
       length-append number place,
       word_long r.number,
       rectangle_long r.rect,
     ) in
+    let both = length-append stratum tail in
     let wide = word_long r.number in
     let square = rectangle_long r.rect in
-    let few = fine.payload in
     let n = reads_again heeds e want.Number number_in
-    (λ n. reads want.Rect (λ x. reads want.Length
-    (λ l. payload (number_in l) (λ p. next (record { number = n; rect = rect_in x; layer = 0; payload = p }))))) s
-    number (place ++ (tail ++ rest)) (field.Num r.number) (word_long r.number) (number_value r.number fine.number) one
-    (omega arith) in
+    (λ n. reads want.Rect (λ x. layer v (λ i. reads want.Length
+    (λ l. payload (number_in l) (λ p. next (record_of n (rect_in x) i p)))))) s
+    number (place ++ (stratum ++ (tail ++ rest))) (field.Num r.number) (word_long r.number)
+    (number_value r.number fine.number) one (omega arith) in
     let a = n.place in
     let x = reads_again heeds e want.Rect rect_in
-    (λ x. reads want.Length (λ l. payload (number_in l)
-    (λ p. next (record { number = r.number; rect = x; layer = 0; payload = p })))) n.end place (tail ++ rest)
+    (λ x. layer v (λ i. reads want.Length (λ l. payload (number_in l)
+    (λ p. next (record_of r.number x i p))))) n.end place (stratum ++ (tail ++ rest))
     (field.Rect r.rect) (rectangle_long r.rect) (rect_value r.rect fine.ordered fine.coordinates) n.left
     (omega arith) in
     let b = x.place in
-    let l = reads_again heeds e want.Length number_in
-    (λ l. payload l (λ p. next (record { number = r.number; rect = r.rect; layer = 0; payload = p }))) x.end
-    (length r.payload ∷ []) (r.payload ++ rest) (field.Num (length r.payload)) refl
-    (length_value (length r.payload) few) x.left (omega arith) in
-    let c = l.place in
-    let p = payload_again heeds e
-    (λ p. next (record { number = r.number; rect = r.rect; layer = 0; payload = p })) l.end r.payload
-    rest l.left (omega arith) in
-    let d = p.place in
-    let flat : 0 ≡ r.layer = omega (arith, low) in
-    let is : Record → Type 0 = λ (x : Record). Comes heeds e (one_record next) (next x) s (record_bytes version r) rest
-    in
-    subst is (λ i. record { number = r.number; rect = r.rect; layer = flat i; payload = r.payload })
-    (record { end = p.end; left = p.left; place = omega arith; same = n.same ∙ x.same ∙ l.same ∙ p.same })
+    let q = rest_again v heeds e (λ i p. next (record_of r.number r.rect i p)) x.end r.layer r.payload rest low
+    fine.payload x.left (omega arith) in
+    let c = q.place in
+    record { end = q.end; left = q.left; place = omega arith; same = n.same ∙ x.same ∙ q.same }
 
-records_again : {A B : Type 0} (heeds : Bool) (e : A → Cursor → Result B Fault) (way : Key → Way)
+records_again : {A B : Type 0} (v : Version) (heeds : Bool) (e : A → Cursor → Result B Fault) (way : Key → Way)
     (next : List Record → Grammar A)
-    (s : Cursor) (rs : List Record) (rest : List ℕ) → AllByRecursion IsPlain rs
-    → s.rest ≡ flat_map (record_bytes version) rs ++ rest
-    → s.at + length (flat_map (record_bytes version) rs) ≤ place_limit
-    → Comes heeds e (some_records way (length rs) next) (next rs) s (flat_map (record_bytes version) rs) rest
-records_again heeds e way next s [] rest fine parts within = comes_none heeds e (next []) s rest parts
-records_again heeds e way next s (r ∷ rs) rest fine parts within =
-    let text = record_bytes version in
+    (s : Cursor) (rs : List Record) (rest : List ℕ) → AllByRecursion IsRecord rs → AllByRecursion (HasLayer v) rs
+    → s.rest ≡ flat_map (record_bytes v) rs ++ rest
+    → s.at + length (flat_map (record_bytes v) rs) ≤ place_limit
+    → Comes heeds e (some_records v way (length rs) next) (next rs) s (flat_map (record_bytes v) rs) rest
+records_again v heeds e way next s [] rest fine low parts within = comes_none heeds e (next []) s rest parts
+records_again v heeds e way next s (r ∷ rs) rest fine low parts within =
+    let text = record_bytes v in
     let whole : flat_map text (r ∷ rs) ≡ text r ++ flat_map text rs = flat_map-cons text r rs in
     let size : length (flat_map text (r ∷ rs)) ≡ length (text r) + length (flat_map text rs) =
     ap length whole ∙ length-append (text r) (flat_map text rs) in
     let regrouped : s.rest ≡ text r ++ (flat_map text rs ++ rest) = parts
     ∙ ap (λ (x : List ℕ). x ++ rest) whole ∙ append_assoc (text r) (flat_map text rs) rest in
-    let one = record_again heeds e (λ r. notes (opens r (keeps_at way r.rect))
-    (some_records way (length rs) (λ rs. next (r ∷ rs)))) s r
-    (flat_map text rs ++ rest) fine.0.0 fine.0.1 regrouped (omega arith) in
+    let one = record_again v heeds e (λ r. notes (opens r (keeps_record way r))
+    (some_records v way (length rs) (λ rs. next (r ∷ rs)))) s r
+    (flat_map text rs ++ rest) fine.0 low.0 regrouped (omega arith) in
     let a = one.place in
-    let behind_one = records_again heeds e way (λ rs. next (r ∷ rs)) one.end rs rest fine.1 one.left (omega arith) in
-    let others : Comes heeds e (notes (opens r (keeps_at way r.rect))
-    (some_records way (length rs) (λ rs. next (r ∷ rs))))
+    let behind_one = records_again v heeds e way (λ rs. next (r ∷ rs)) one.end rs rest fine.1 low.1 one.left
+    (omega arith) in
+    let others : Comes heeds e (notes (opens r (keeps_record way r))
+    (some_records v way (length rs) (λ rs. next (r ∷ rs))))
     (next (r ∷ rs)) one.end (flat_map text rs) rest = record
     { end = behind_one.end; left = behind_one.left; place = behind_one.place; same = behind_one.same } in
-    comes_as heeds e (some_records way (length (r ∷ rs)) next) (next (r ∷ rs)) s
+    comes_as heeds e (some_records v way (length (r ∷ rs)) next) (next (r ∷ rs)) s
     (text r ++ flat_map text rs) (flat_map text (r ∷ rs)) rest (sym whole)
-    (comes_both heeds e (some_records way (length (r ∷ rs)) next)
-    (notes (opens r (keeps_at way r.rect)) (some_records way (length rs) (λ rs. next (r ∷ rs)))) (next (r ∷ rs))
+    (comes_both heeds e (some_records v way (length (r ∷ rs)) next)
+    (notes (opens r (keeps_record way r)) (some_records v way (length rs) (λ rs. next (r ∷ rs)))) (next (r ∷ rs))
     s (text r) (flat_map text rs) rest one others)
 
 -- ---- items
@@ -194,26 +220,26 @@ note_again true e broken false g s rest passed left = absurd (false≢true (pass
 note_again false e broken b g s rest passed left = record { end = s; left = left; place = omega arith; same = refl }
 
 -- where notes are heeded, the cut is tight
-abbrev Passes : Bool → (Key → Way) → Cut → Type 0
-Passes heeds way P = heeds ≡ true → IsTightCut way P
+abbrev Passes : Version → Bool → (Key → Way) → Cut → Type 0
+Passes v heeds way P = heeds ≡ true → IsTightCut v way P
 
-leaf_again : {A B : Type 0} (heeds : Bool) (e : A → Cursor → Result B Fault) (way : Key → Way)
-    (next : Cut → Grammar A) (s : Cursor) (rs : List Record) (rest : List ℕ) → FitsLeaf 0 rs
-    → Passes heeds way (Leaf rs)
-    → s.rest ≡ tail (Leaf rs) ++ rest → s.at + length (tail (Leaf rs)) ≤ place_limit
-    → Comes heeds e (leaf way next) (next (Leaf rs)) s (tail (Leaf rs)) rest
-leaf_again heeds e way next s rs rest fine tight parts within =
-    let text = flat_map (record_bytes version) rs in
+leaf_again : {A B : Type 0} (v : Version) (heeds : Bool) (e : A → Cursor → Result B Fault) (way : Key → Way)
+    (next : Cut → Grammar A) (s : Cursor) (rs : List Record) (rest : List ℕ) → FitsLeaf v 0 rs
+    → Passes v heeds way (Leaf rs)
+    → s.rest ≡ tail v (Leaf rs) ++ rest → s.at + length (tail v (Leaf rs)) ≤ place_limit
+    → Comes heeds e (leaf v way next) (next (Leaf rs)) s (tail v (Leaf rs)) rest
+leaf_again v heeds e way next s rs rest fine tight parts within =
+    let text = flat_map (record_bytes v) rs in
     let n = reads_again heeds e want.LeafCount number_in
-    (λ n. some_records way n (λ rs. opened way (Leaf rs) next)) s
+    (λ n. some_records v way n (λ rs. opened v way (Leaf rs) next)) s
     (length rs ∷ []) (text ++ rest) (field.Num (length rs)) refl
     (leaf_count_value (length rs) fine.some fine.few) parts (omega arith) in
     let a = n.place in
-    let all = records_again heeds e way (λ rs. opened way (Leaf rs) next) n.end rs rest
-    (are_plain rs (recursion_from_All IsRecord rs fine.each)
-    (recursion_from_All (HasLayer version) rs fine.layers)) n.left (omega arith) in
+    let all = records_again v heeds e way (λ rs. opened v way (Leaf rs) next) n.end rs rest
+    (recursion_from_All IsRecord rs fine.each) (recursion_from_All (HasLayer v) rs fine.layers) n.left
+    (omega arith) in
     let b = all.place in
-    let met = note_again heeds e rule.Needless (opens_seen way (key_of (Leaf rs)))
+    let met = note_again heeds e rule.Needless (opens_seen way (key_of v (Leaf rs)))
     (next (Leaf rs)) all.end rest tight all.left in
     let c = met.place in
     record { end = met.end; left = met.left; place = omega arith; same = n.same ∙ all.same ∙ met.same }
@@ -221,123 +247,169 @@ leaf_again heeds e way next s rs rest fine tight parts within =
 is_not : (b : Bool) → b ≡ false → not b ≡ true
 is_not b e = rw e refl
 
-pruned_again : {A B : Type 0} (heeds : Bool) (e : A → Cursor → Result B Fault) (way : Key → Way)
-    (next : Cut → Grammar A) (s : Cursor) (x : PrunedEntry) (rest : List ℕ) → FitsShown x → Passes heeds way (Pruned x)
-    → s.rest ≡ shown_bytes x ++ rest → s.at + length (shown_bytes x) ≤ place_limit
-    → Comes heeds e (pruned way next) (next (Pruned x)) s (shown_bytes x) rest
-pruned_again heeds e way next s x rest fine missed parts within =
-    let square = rectangle_long x.rect in
-    let size : length (shown_bytes x) ≡ 16 + length x.digest = omega
-    (arith, length-append (rectangle_bytes x.rect) x.digest) in
-    let regrouped : s.rest ≡ rectangle_bytes x.rect ++ (x.digest ++ rest) = parts
-    ∙ append_assoc (rectangle_bytes x.rect) x.digest rest in
-    let behind_rect = λ (r : Rectangle). reads want.Digest
-    (λ d. next (Pruned (record { rect = r; digest = bytes_in d }))) in
-    let r = reads_again heeds e want.Rect rect_in
-    (λ r. notes (must rule.Hidden (not (opens_at way r))) (behind_rect r)) s (rectangle_bytes x.rect)
-    (x.digest ++ rest) (field.Rect x.rect) square (rect_value x.rect fine.ordered fine.coordinates) regrouped
-    (omega arith) in
-    let a = r.place in
-    let n = note_again heeds e rule.Hidden (not (opens_at way x.rect)) (behind_rect x.rect) r.end (x.digest ++ rest)
-    (λ h. is_not (opens_at way x.rect) (missed h)) r.left in
+-- the mask and the count of a part, where the version tells them
+layers_again : {A B : Type 0} (v : Version) (heeds : Bool) (e : A → Cursor → Result B Fault) (way : Key → Way)
+    (next : ℕ → ℕ → Grammar A) (s : Cursor) (x : PrunedEntry) (rest : List ℕ) → FitsShown v x
+    → Passes v heeds way (Pruned x) → s.rest ≡ word_bytes v x.mask ++ (word_bytes v x.count ++ rest)
+    → s.at + length (word_bytes v x.mask ++ word_bytes v x.count) ≤ place_limit
+    → Comes heeds e (layers_and_count v way x.rect next) (next x.mask x.count) s
+    (word_bytes v x.mask ++ word_bytes v x.count) rest
+layers_again One heeds e way next s x rest fine missed parts within =
+    let no_layer : x.mask < 1 = fine.mask in
+    let none : x.count ≤ 0 = fine.few in
+    let both : ◌≡◌ {A = ℕ × ℕ} (0, 0) (x.mask, x.count) =
+    let empty : 0 ≡ x.mask = omega arith in let zero : 0 ≡ x.count = omega arith in λ i. (empty i, zero i) in
+    subst (λ (n : ℕ × ℕ). Comes heeds e (layers_and_count One way x.rect next) (next n.0 n.1) s [] rest) both
+    (note_again heeds e rule.Hidden (not (opens_at way (key_at One 0 x.rect))) (next 0 0) s rest
+    (λ h. is_not (opens_at way (key_at One 0 x.rect)) (missed h)) parts)
+layers_again Two heeds e way next s x rest fine missed parts within =
+    let layers = to_be_bytes w64 x.mask in
+    let tally = to_be_bytes w64 x.count in
+    let size = length-append layers tally in
+    let wide = word_long x.mask in
+    let long = word_long x.count in
+    let m = reads_again heeds e want.Mask number_in
+    (λ m. unopened way (key_at Two m x.rect) (reads want.Tally (λ c. next m (number_in c)))) s layers (tally ++ rest)
+    (field.Num x.mask) wide (mask_value x.mask fine.mask) parts (omega arith) in
+    let a = m.place in
+    let n = note_again heeds e rule.Hidden (not (opens_at way (key_at Two x.mask x.rect)))
+    (reads want.Tally (λ c. next x.mask (number_in c))) m.end (tally ++ rest)
+    (λ h. is_not (opens_at way (key_at Two x.mask x.rect)) (missed h)) m.left in
     let b = n.place in
-    let d = reads_again heeds e want.Digest bytes_in (λ d. next (Pruned (record { rect = x.rect; digest = d }))) n.end
-    x.digest rest (field.Digest x.digest) fine.digest (digest_value x.digest) n.left (omega arith) in
+    let c = reads_again heeds e want.Tally number_in (λ c. next x.mask c) n.end tally rest (field.Num x.count) long
+    (tally_value x.count fine.counted fine.few) n.left (omega arith) in
+    let d = c.place in
+    record { end = c.end; left = c.left; place = omega arith; same = m.same ∙ n.same ∙ c.same }
+
+pruned_again : {A B : Type 0} (v : Version) (heeds : Bool) (e : A → Cursor → Result B Fault) (way : Key → Way)
+    (next : Cut → Grammar A) (s : Cursor) (x : PrunedEntry) (rest : List ℕ) → FitsShown v x
+    → Passes v heeds way (Pruned x) → s.rest ≡ shown_bytes v x ++ rest
+    → s.at + length (shown_bytes v x) ≤ place_limit
+    → Comes heeds e (pruned v way next) (next (Pruned x)) s (shown_bytes v x) rest
+pruned_again v heeds e way next s x rest fine missed parts within =
+    let place = rectangle_bytes x.rect in
+    let layers = word_bytes v x.mask in
+    let tally = word_bytes v x.count in
+    let square = rectangle_long x.rect in
+    let size : length (shown_bytes v x) ≡ 16 + (length layers + (length tally + length x.digest)) = omega (
+      arith,
+      length-append place (layers ++ (tally ++ x.digest)),
+      length-append layers (tally ++ x.digest),
+      length-append tally x.digest,
+    ) in
+    let regrouped : s.rest ≡ place ++ (layers ++ (tally ++ (x.digest ++ rest))) = parts
+    ∙ append_assoc place (layers ++ (tally ++ x.digest)) rest
+    ∙ ap (λ (y : List ℕ). place ++ y) (append_assoc layers (tally ++ x.digest) rest
+    ∙ ap (λ (y : List ℕ). layers ++ y) (append_assoc tally x.digest rest)) in
+    let both = length-append layers tally in
+    let r = reads_again heeds e want.Rect rect_in
+    (λ r. layers_and_count v way r (λ m c. reads want.Digest (λ d. next (Pruned (part_of r m c (bytes_in d)))))) s
+    place (layers ++ (tally ++ (x.digest ++ rest))) (field.Rect x.rect) square
+    (rect_value x.rect fine.ordered fine.coordinates) regrouped (omega arith) in
+    let a = r.place in
+    let t = layers_again v heeds e way
+    (λ m c. reads want.Digest (λ d. next (Pruned (part_of x.rect m c (bytes_in d))))) r.end x (x.digest ++ rest) fine
+    missed r.left (omega arith) in
+    let b = t.place in
+    let d = reads_again heeds e want.Digest bytes_in
+    (λ d. next (Pruned (part_of x.rect x.mask x.count d))) t.end
+    x.digest rest (field.Digest x.digest) fine.digest (digest_value x.digest) t.left (omega arith) in
     let c = d.place in
-    record { end = d.end; left = d.left; place = omega arith; same = r.same ∙ n.same ∙ d.same }
+    record { end = d.end; left = d.left; place = omega arith; same = r.same ∙ t.same ∙ d.same }
 
 -- an item that is spelled, and tight where notes are heeded, is read again
-abbrev ItemsAgain : {A B : Type 0} → Bool → (A → Cursor → Result B Fault) → (Key → Way) → ℕ
+abbrev ItemsAgain : {A B : Type 0} → Version → Bool → (A → Cursor → Result B Fault) → (Key → Way) → ℕ
     → ((Cut → Grammar A) → Grammar A) → Type 0
-ItemsAgain {A} {B} heeds e way v one =
-    (next : Cut → Grammar A) (s : Cursor) (P : Cut) (rest : List ℕ) → FitsCut v P → Passes heeds way P
-    → s.rest ≡ cut_bytes P ++ rest → s.at + length (cut_bytes P) ≤ place_limit
-    → Comes heeds e (one next) (next P) s (cut_bytes P) rest
+ItemsAgain {A} {B} v heeds e way l one =
+    (next : Cut → Grammar A) (s : Cursor) (P : Cut) (rest : List ℕ) → FitsCut v l P → Passes v heeds way P
+    → s.rest ≡ cut_bytes v P ++ rest → s.at + length (cut_bytes v P) ≤ place_limit
+    → Comes heeds e (one next) (next P) s (cut_bytes v P) rest
 
-items_again : {A B : Type 0} (heeds : Bool) (e : A → Cursor → Result B Fault) (way : Key → Way) (v : ℕ)
-    (one : (Cut → Grammar A) → Grammar A) → ItemsAgain heeds e way v one
-    → (next : Cuts → Grammar A) (s : Cursor) (Ps : Cuts) (n : ℕ) (rest : List ℕ) → number_of_cuts Ps ≡ n → FitCuts v Ps
-    → (heeds ≡ true → AreTightCuts way Ps) → s.rest ≡ cuts_bytes Ps ++ rest
-    → s.at + length (cuts_bytes Ps) ≤ place_limit
-    → Comes heeds e (some_items one n next) (next Ps) s (cuts_bytes Ps) rest
-items_again heeds e way v one again next s no_more zero rest count fit tight parts within =
+items_again : {A B : Type 0} (v : Version) (heeds : Bool) (e : A → Cursor → Result B Fault) (way : Key → Way) (l : ℕ)
+    (one : (Cut → Grammar A) → Grammar A) → ItemsAgain v heeds e way l one
+    → (next : Cuts → Grammar A) (s : Cursor) (Ps : Cuts) (n : ℕ) (rest : List ℕ) → number_of_cuts Ps ≡ n
+    → FitCuts v l Ps
+    → (heeds ≡ true → AreTightCuts v way Ps) → s.rest ≡ cuts_bytes v Ps ++ rest
+    → s.at + length (cuts_bytes v Ps) ≤ place_limit
+    → Comes heeds e (some_items one n next) (next Ps) s (cuts_bytes v Ps) rest
+items_again v heeds e way l one again next s no_more zero rest count fit tight parts within =
     comes_none heeds e (next no_more) s rest parts
-items_again heeds e way v one again next s no_more (suc n) rest count fit tight parts within = absurd (omega arith)
-items_again heeds e way v one again next s (first P Ps) zero rest count fit tight parts within = absurd (omega arith)
-items_again heeds e way v one again next s (first P Ps) (suc n) rest count fit tight parts within =
-    let size : length (cut_bytes P ++ cuts_bytes Ps) ≡ length (cut_bytes P) + length (cuts_bytes Ps) = length-append
-    (cut_bytes P) (cuts_bytes Ps) in
-    let a = again (λ P. some_items one n (λ Ps. next (first P Ps))) s P (cuts_bytes Ps ++ rest) fit.0 (λ h. (tight h).0)
-    (parts ∙ append_assoc (cut_bytes P) (cuts_bytes Ps) rest) (omega arith) in
+items_again v heeds e way l one again next s no_more (suc n) rest count fit tight parts within = absurd (omega arith)
+items_again v heeds e way l one again next s (first P Ps) zero rest count fit tight parts within = absurd (omega arith)
+items_again v heeds e way l one again next s (first P Ps) (suc n) rest count fit tight parts within =
+    let size = length-append (cut_bytes v P) (cuts_bytes v Ps) in
+    let a = again (λ P. some_items one n (λ Ps. next (first P Ps))) s P (cuts_bytes v Ps ++ rest) fit.0
+    (λ h. (tight h).0)
+    (parts ∙ append_assoc (cut_bytes v P) (cuts_bytes v Ps) rest) (omega arith) in
     let p = a.place in
-    let b = items_again heeds e way v one again (λ Ps. next (first P Ps)) a.end Ps n rest (omega arith) fit.1
+    let b = items_again v heeds e way l one again (λ Ps. next (first P Ps)) a.end Ps n rest (omega arith) fit.1
     (λ h. (tight h).1) a.left (omega arith) in
     comes_both heeds e (some_items one (suc n) next) (some_items one n (λ Ps. next (first P Ps))) (next (first P Ps)) s
-    (cut_bytes P) (cuts_bytes Ps) rest a b
+    (cut_bytes v P) (cuts_bytes v Ps) rest a b
 
-inner_again : {A B : Type 0} (heeds : Bool) (e : A → Cursor → Result B Fault) (way : Key → Way) (v : ℕ)
-    (one : (Cut → Grammar A) → Grammar A) → ItemsAgain heeds e way v one
-    → (next : Cut → Grammar A) (s : Cursor) (Ps : Cuts) (rest : List ℕ) → FitsInner (suc v) (number_of_cuts Ps) →
-    FitCuts v Ps
-    → Passes heeds way (Inner Ps)
-    → s.rest ≡ tail (Inner Ps) ++ rest → s.at + length (tail (Inner Ps)) ≤ place_limit
-    → Comes heeds e (inner way one next) (next (Inner Ps)) s (tail (Inner Ps)) rest
-inner_again heeds e way v one again next s Ps rest fine fit tight parts within =
-    let n = reads_again heeds e want.InnerCount number_in (λ n. some_items one n (λ Ps. opened way (Inner Ps) next))
-    s (number_of_cuts Ps ∷ []) (cuts_bytes Ps ++ rest) (field.Num (number_of_cuts Ps)) refl
+inner_again : {A B : Type 0} (v : Version) (heeds : Bool) (e : A → Cursor → Result B Fault) (way : Key → Way) (l : ℕ)
+    (one : (Cut → Grammar A) → Grammar A) → ItemsAgain v heeds e way l one
+    → (next : Cut → Grammar A) (s : Cursor) (Ps : Cuts) (rest : List ℕ) → FitsInner (suc l) (number_of_cuts Ps) →
+    FitCuts v l Ps
+    → Passes v heeds way (Inner Ps)
+    → s.rest ≡ tail v (Inner Ps) ++ rest → s.at + length (tail v (Inner Ps)) ≤ place_limit
+    → Comes heeds e (inner v way one next) (next (Inner Ps)) s (tail v (Inner Ps)) rest
+inner_again v heeds e way l one again next s Ps rest fine fit tight parts within =
+    let n = reads_again heeds e want.InnerCount number_in (λ n. some_items one n (λ Ps. opened v way (Inner Ps) next))
+    s (number_of_cuts Ps ∷ []) (cuts_bytes v Ps ++ rest) (field.Num (number_of_cuts Ps)) refl
     (inner_count_value (number_of_cuts Ps) fine.some fine.few) parts (omega arith) in
     let a = n.place in
-    let all = items_again heeds e way v one again (λ Ps. opened way (Inner Ps) next) n.end Ps
+    let all = items_again v heeds e way l one again (λ Ps. opened v way (Inner Ps) next) n.end Ps
     (number_of_cuts Ps) rest refl fit (λ h. (tight h).1) n.left (omega arith) in
     let b = all.place in
-    let met = note_again heeds e rule.Needless (opens_seen way (key_of (Inner Ps))) (next (Inner Ps)) all.end rest
+    let met = note_again heeds e rule.Needless (opens_seen way (key_of v (Inner Ps))) (next (Inner Ps)) all.end rest
     (λ h. (tight h).0) all.left in
     let c = met.place in
     record { end = met.end; left = met.left; place = omega arith; same = n.same ∙ all.same ∙ met.same }
 
-inner_tag_is : (v : ℕ) → inner_tag ≡ opened_tag (suc v)
-inner_tag_is v = rw (eqb-suc-zero v) refl
+inner_tag_is : (l : ℕ) → inner_tag ≡ opened_tag (suc l)
+inner_tag_is l = rw (eqb-suc-zero l) refl
 
-item_again : {A B : Type 0} (heeds : Bool) (e : A → Cursor → Result B Fault) (way : Key → Way) (v : ℕ)
-    → ItemsAgain heeds e way v (item way v)
-item_again heeds e way zero next s (Pruned x) rest fit tight parts within =
+item_again : {A B : Type 0} (v : Version) (heeds : Bool) (e : A → Cursor → Result B Fault) (way : Key → Way) (l : ℕ)
+    → ItemsAgain v heeds e way l (item v way l)
+item_again v heeds e way zero next s (Pruned x) rest fit tight parts within =
     let t = reads_again heeds e (want.Tag 0) tag_in
-    (λ b. if b == pruned_tag then pruned way next else leaf way next) s (pruned_tag ∷ [])
-    (tail (Pruned x) ++ rest) (field.Tag pruned_tag) refl (tag_value 0 pruned_tag (inl refl)) parts (omega arith) in
+    (λ b. if b == pruned_tag then pruned v way next else leaf v way next) s (pruned_tag ∷ [])
+    (tail v (Pruned x) ++ rest) (field.Tag pruned_tag) refl (tag_value 0 pruned_tag (inl refl)) parts (omega arith) in
     let a = t.place in
-    comes_both heeds e (item way 0 next) (pruned way next) (next (Pruned x)) s (pruned_tag ∷ [])
-    (tail (Pruned x)) rest t (pruned_again heeds e way next t.end x rest fit tight t.left (omega arith))
-item_again heeds e way zero next s (Leaf rs) rest fit tight parts within =
+    comes_both heeds e (item v way 0 next) (pruned v way next) (next (Pruned x)) s (pruned_tag ∷ [])
+    (tail v (Pruned x)) rest t (pruned_again v heeds e way next t.end x rest fit tight t.left (omega arith))
+item_again v heeds e way zero next s (Leaf rs) rest fit tight parts within =
     let t = reads_again heeds e (want.Tag 0) tag_in
-    (λ b. if b == pruned_tag then pruned way next else leaf way next) s (leaf_tag ∷ [])
-    (tail (Leaf rs) ++ rest) (field.Tag leaf_tag) refl (tag_value 0 leaf_tag (inr refl)) parts (omega arith) in
+    (λ b. if b == pruned_tag then pruned v way next else leaf v way next) s (leaf_tag ∷ [])
+    (tail v (Leaf rs) ++ rest) (field.Tag leaf_tag) refl (tag_value 0 leaf_tag (inr refl)) parts (omega arith) in
     let a = t.place in
-    comes_both heeds e (item way 0 next) (leaf way next) (next (Leaf rs)) s (leaf_tag ∷ [])
-    (tail (Leaf rs)) rest t (leaf_again heeds e way next t.end rs rest fit tight t.left (omega arith))
-item_again heeds e way zero next s (Inner Ps) rest fit tight parts within =
+    comes_both heeds e (item v way 0 next) (leaf v way next) (next (Leaf rs)) s (leaf_tag ∷ [])
+    (tail v (Leaf rs)) rest t (leaf_again v heeds e way next t.end rs rest fit tight t.left (omega arith))
+item_again v heeds e way zero next s (Inner Ps) rest fit tight parts within =
     let above = fit.0.above in absurd (omega arith)
-item_again heeds e way (suc v) next s (Pruned x) rest fit tight parts within =
-    let t = reads_again heeds e (want.Tag (suc v))
-    tag_in (λ b. if b == pruned_tag then pruned way next else inner way (item way v) next) s
-    (pruned_tag ∷ []) (tail (Pruned x) ++ rest) (field.Tag pruned_tag) refl
-    (tag_value (suc v) pruned_tag (inl refl)) parts (omega arith) in
+item_again v heeds e way (suc l) next s (Pruned x) rest fit tight parts within =
+    let t = reads_again heeds e (want.Tag (suc l))
+    tag_in (λ b. if b == pruned_tag then pruned v way next else inner v way (item v way l) next) s
+    (pruned_tag ∷ []) (tail v (Pruned x) ++ rest) (field.Tag pruned_tag) refl
+    (tag_value (suc l) pruned_tag (inl refl)) parts (omega arith) in
     let a = t.place in
-    comes_both heeds e (item way (suc v) next) (pruned way next) (next (Pruned x)) s (pruned_tag ∷ [])
-    (tail (Pruned x)) rest t (pruned_again heeds e way next t.end x rest fit tight t.left (omega arith))
-item_again heeds e way (suc v) next s (Leaf rs) rest fit tight parts within =
+    comes_both heeds e (item v way (suc l) next) (pruned v way next) (next (Pruned x)) s (pruned_tag ∷ [])
+    (tail v (Pruned x)) rest t (pruned_again v heeds e way next t.end x rest fit tight t.left (omega arith))
+item_again v heeds e way (suc l) next s (Leaf rs) rest fit tight parts within =
     let level = fit.at_leaf in absurd (omega arith)
-item_again heeds e way (suc v) next s (Inner Ps) rest fit tight parts within =
-    let t = reads_again heeds e (want.Tag (suc v))
-    tag_in (λ b. if b == pruned_tag then pruned way next else inner way (item way v) next) s
-    (inner_tag ∷ []) (tail (Inner Ps) ++ rest) (field.Tag inner_tag) refl
-    (tag_value (suc v) inner_tag (inr (inner_tag_is v))) parts (omega arith) in
+item_again v heeds e way (suc l) next s (Inner Ps) rest fit tight parts within =
+    let t = reads_again heeds e (want.Tag (suc l))
+    tag_in (λ b. if b == pruned_tag then pruned v way next else inner v way (item v way l) next) s
+    (inner_tag ∷ []) (tail v (Inner Ps) ++ rest) (field.Tag inner_tag) refl
+    (tag_value (suc l) inner_tag (inr (inner_tag_is l))) parts (omega arith) in
     let a = t.place in
-    let below : suc v - 1 ≡ v = omega arith in
-    let inside = subst (λ (k : ℕ). FitCuts k Ps) below fit.1 in
-    comes_both heeds e (item way (suc v) next) (inner way (item way v) next) (next (Inner Ps)) s
-    (inner_tag ∷ []) (tail (Inner Ps)) rest t
-    (inner_again heeds e way v (item way v)
-    (item_again heeds e way v) next t.end Ps rest fit.0 inside tight t.left (omega arith))
+    let below : suc l - 1 ≡ l = omega arith in
+    let inside = subst (λ (k : ℕ). FitCuts v k Ps) below fit.1 in
+    comes_both heeds e (item v way (suc l) next) (inner v way (item v way l) next) (next (Inner Ps)) s
+    (inner_tag ∷ []) (tail v (Inner Ps)) rest t
+    (inner_again v heeds e way l (item v way l)
+    (item_again v heeds e way l) next t.end Ps rest fit.0 inside tight t.left (omega arith))
 
 -- ---- the head
 
@@ -400,26 +472,48 @@ abbrev no_value : Field → Unit {0}
 no_value f = tt
 
 -- what stands before the batch
-abbrev opening_bytes : Kind → List ℕ
-opening_bytes k = magic ++ version_byte version ∷ kind_byte k ∷ []
+abbrev opening_bytes : Version → Kind → List ℕ
+opening_bytes v k = magic ++ version_byte v ∷ kind_byte k ∷ []
 
-opening_again : {A B : Type 0} (heeds : Bool) (e : A → Cursor → Result B Fault) (k : Kind) (g : Grammar A) (s : Cursor)
-    (rest : List ℕ) → s.rest ≡ opening_bytes k ++ rest → s.at + 6 ≤ place_limit
-    → Comes heeds e (reads want.Magic (λ _. reads want.Version (λ _. reads (want.Kind k) (λ _. g)))) g s
-    (opening_bytes k) rest
-opening_again heeds e k g s rest parts within =
+-- a version that may come has a byte that may
+byte_comes : (two_only : Bool) (v : Version) → (v ≡ One → two_only ≡ false) → IsVersionByte two_only (version_byte v)
+byte_comes two_only One may = inr (may refl, refl)
+byte_comes two_only Two may = inl refl
+
+version_back : (v : Version) → version_in (field.Num (version_byte v)) ≡ v
+version_back One = refl
+version_back Two = refl
+
+version_again : {A B : Type 0} (heeds : Bool) (e : A → Cursor → Result B Fault) (two_only : Bool) (v : Version)
+    (next : Version → Grammar A) (s : Cursor) (rest : List ℕ) → (v ≡ One → two_only ≡ false)
+    → s.rest ≡ version_byte v ∷ rest → s.at + 1 ≤ place_limit
+    → Comes heeds e (reads (want.Version two_only) (λ f. next (version_in f))) (next v) s (version_byte v ∷ []) rest
+version_again heeds e two_only v next s rest may parts within =
+    subst (λ (u : Version). Comes heeds e (reads (want.Version two_only) (λ f. next (version_in f))) (next u) s
+    (version_byte v ∷ []) rest) (version_back v)
+    (reads_again heeds e (want.Version two_only) version_in next s (version_byte v ∷ []) rest
+    (field.Num (version_byte v)) refl (version_value two_only (version_byte v) (byte_comes two_only v may)) parts within)
+
+opening_again : {A B : Type 0} (heeds : Bool) (e : A → Cursor → Result B Fault) (two_only : Bool) (v : Version) (k : Kind)
+    (g : Version → Grammar A) (s : Cursor) (rest : List ℕ) → (v ≡ One → two_only ≡ false)
+    → s.rest ≡ opening_bytes v k ++ rest → s.at + 6 ≤ place_limit
+    → Comes heeds e
+    (reads want.Magic (λ _. reads (want.Version two_only) (λ f. reads (want.Kind k) (λ _. g (version_in f))))) (g v) s
+    (opening_bytes v k) rest
+opening_again heeds e two_only v k g s rest may parts within =
     let m = reads_again heeds e want.Magic no_value
-    (λ _. reads want.Version (λ _. reads (want.Kind k) (λ _. g))) s magic
-    (version_byte version ∷ kind_byte k ∷ rest) field.Plain refl magic_value parts (omega arith) in
+    (λ _. reads (want.Version two_only) (λ f. reads (want.Kind k) (λ _. g (version_in f)))) s magic
+    (version_byte v ∷ kind_byte k ∷ rest) field.Plain refl magic_value parts (omega arith) in
     let m1 = m.place in
-    let v = reads_again heeds e want.Version no_value (λ _. reads (want.Kind k) (λ _. g)) m.end
-    (version_byte version ∷ []) (kind_byte k ∷ rest) field.Plain refl version_value m.left (omega arith) in
-    let v1 = v.place in
-    let b = reads_again heeds e (want.Kind k) no_value (λ _. g) v.end (kind_byte k ∷ []) rest field.Plain refl
-    (kind_value k) v.left (omega arith) in
+    let x = version_again heeds e two_only v (λ v. reads (want.Kind k) (λ _. g v)) m.end
+    (kind_byte k ∷ rest) may m.left (omega arith) in
+    let x1 = x.place in
+    let b = reads_again heeds e (want.Kind k) no_value (λ _. g v) x.end (kind_byte k ∷ []) rest field.Plain refl
+    (kind_value k) x.left (omega arith) in
     let b1 = b.place in
-    let mv : walk heeds e (reads want.Magic (λ _. reads want.Version (λ _. reads (want.Kind k) (λ _. g)))) s ≡ walk
-    heeds e (reads (want.Kind k) (λ _. g)) v.end = m.same ∙ v.same in
+    let mv : walk heeds e
+    (reads want.Magic (λ _. reads (want.Version two_only) (λ f. reads (want.Kind k) (λ _. g (version_in f))))) s
+    ≡ walk heeds e (reads (want.Kind k) (λ _. g v)) x.end = m.same ∙ x.same in
     record { end = b.end; left = b.left; place = omega arith; same = mv ∙ b.same }
 
 -- the bytes of a radius and a level
@@ -480,8 +574,8 @@ numbers_again heeds e k made s r b c l rest small few fits low empty parts withi
     (reads want.Count (λ g. radius k (λ r. level (number_in g) (made b (number_in g) r)))) (made b c r l) s
     (to_be_bytes w64 b) (to_be_bytes w64 c ++ last_bytes k r c l) rest x y
 
-abbrev made_by : {A : Type 0} → (Head → Grammar A) → Kind → ℕ → ℕ → Option ℕ → ℕ → Grammar A
-made_by next k b c r l = next (record { kind = k; batch = b; count = c; radius = r; level = l })
+abbrev made_by : {A : Type 0} → (Head → Grammar A) → Version → Kind → ℕ → ℕ → Option ℕ → ℕ → Grammar A
+made_by next v k b c r l = next (head_of v k b c r l)
 
 head_long : (h : Head) → length (head_bytes h) ≡ 6 + (8 + (8 + length (last_bytes h.kind h.radius h.count h.level)))
 head_long h =
@@ -495,75 +589,82 @@ head_long h =
       word_long h.count,
     )
 
-head_again : {A B : Type 0} (heeds : Bool) (e : A → Cursor → Result B Fault) (next : Head → Grammar A) (s : Cursor)
-    (h : Head) (rest : List ℕ) → FitsProofHead h
+head_again : {A B : Type 0} (heeds : Bool) (e : A → Cursor → Result B Fault) (two_only : Bool) (next : Head → Grammar A)
+    (s : Cursor) (h : Head) (rest : List ℕ) → (h.version ≡ One → two_only ≡ false) → FitsProofHead h
     → s.rest ≡ head_bytes h ++ rest → s.at + length (head_bytes h) ≤ place_limit
-    → Comes heeds e (head h.kind next) (next h) s (head_bytes h) rest
-head_again heeds e next s h rest fine parts within =
+    → Comes heeds e (head h.kind two_only next) (next h) s (head_bytes h) rest
+head_again heeds e two_only next s h rest may fine parts within =
     let numbers = number_bytes h.kind h.radius h.batch h.count h.level in
-    let g = reads want.Batch (λ f. reads want.Count
-    (λ g. radius h.kind (λ r. level (number_in g) (made_by next h.kind (number_in f) (number_in g) r)))) in
+    let g = λ (v : Version). reads want.Batch (λ f. reads want.Count
+    (λ g. radius h.kind (λ r. level (number_in g) (made_by next v h.kind (number_in f) (number_in g) r)))) in
     let size = head_long h in
-    let a = opening_again heeds e h.kind g s (numbers ++ rest) parts (omega arith) in
+    let a = opening_again heeds e two_only h.version h.kind g s (numbers ++ rest) may parts (omega arith) in
     let p = a.place in
-    let b = numbers_again heeds e h.kind (made_by next h.kind) a.end h.radius h.batch h.count h.level rest fine.batch
-    fine.count fine.radius fine.level fine.empty a.left (omega arith) in
-    comes_both heeds e (head h.kind next) g (next h) s (opening_bytes h.kind) numbers rest a b
+    let b = numbers_again heeds e h.kind (made_by next h.version h.kind) a.end h.radius h.batch h.count h.level rest
+    fine.batch fine.count fine.radius fine.level fine.empty a.left (omega arith) in
+    comes_both heeds e (head h.kind two_only next) (g h.version) (next h) s (opening_bytes h.version h.kind) numbers rest
+    a b
 
 -- ---- the whole
 
 part_again : {B : Type 0} (heeds : Bool) (e : Parsed → Cursor → Result B Fault) (way : Option ℕ → Key → Way)
-    (h : Head) (P : Option Cut) (s : Cursor) → FitsPart h P → (heeds ≡ true → IfSome P (IsTightCut (way h.radius)))
-    → s.rest ≡ part_bytes P → s.at + length (part_bytes P) ≤ place_limit
-    → Comes heeds e (part way h) (done (said h P)) s (part_bytes P) []
+    (h : Head) (P : Option Cut) (s : Cursor) → FitsPart h P
+    → (heeds ≡ true → IfSome P (IsTightCut h.version (way h.radius)))
+    → s.rest ≡ part_bytes h.version P → s.at + length (part_bytes h.version P) ≤ place_limit
+    → Comes heeds e (part way h) (done (said h P)) s (part_bytes h.version P) []
 part_again heeds e way h None s fit tight parts within =
     let none : eqb h.count 0 ≡ true = eq-eqb h.count 0 fit in
-    subst (λ (c : Bool). Comes heeds e (if c then done (said h None) else item (way h.radius) h.level
+    subst (λ (c : Bool). Comes heeds e (if c then done (said h None) else item h.version (way h.radius) h.level
     (λ P. done (said h (Some P)))) (done (said h None)) s [] []) (sym none)
     (comes_none heeds e (done (said h None)) s [] parts)
 part_again heeds e way h (Some P) s fit tight parts within =
+    let v = h.version in
     let filled = fit.0 in
     let some : eqb h.count 0 ≡ false = ne_eqb h.count 0 (λ z. omega arith) in
-    subst (λ (c : Bool). Comes heeds e (if c then done (said h None) else item (way h.radius) h.level
-    (λ P. done (said h (Some P)))) (done (said h (Some P))) s (cut_bytes P) []) (sym some)
-    (item_again heeds e (way h.radius) h.level (λ P. done (said h (Some P))) s P [] fit.1 tight
-    (parts ∙ sym (append-nil (cut_bytes P))) within)
+    subst (λ (c : Bool). Comes heeds e (if c then done (said h None) else item v (way h.radius) h.level
+    (λ P. done (said h (Some P)))) (done (said h (Some P))) s (cut_bytes v P) []) (sym some)
+    (item_again v heeds e (way h.radius) h.level (λ P. done (said h (Some P))) s P [] fit.1 tight
+    (parts ∙ sym (append-nil (cut_bytes v P))) within)
 
--- what is spelled, and tight where notes are heeded, is read again, by any ending
-pub whole_again : {B : Type 0} (heeds : Bool) (e : Parsed → Cursor → Result B Fault) (way : Option ℕ → Key → Way)
-    (bytes : List ℕ) (h : Head) (P : Option Cut) → IsSpelled h P bytes
-    → (heeds ≡ true → IfSome P (IsTightCut (way h.radius)))
-    → Comes heeds e (whole h.kind way) (done (said h P)) (start bytes) (head_bytes h ++ part_bytes P) []
-whole_again heeds e way bytes h P spelled tight =
-    let size : length bytes ≡ length (head_bytes h) + length (part_bytes P) = ap length spelled.whole
-    ∙ length-append (head_bytes h) (part_bytes P) in
+-- what is spelled, of a version that may come, and tight where notes are heeded, is read again, by any ending
+pub whole_again : {B : Type 0} (heeds : Bool) (e : Parsed → Cursor → Result B Fault) (two_only : Bool)
+    (way : Option ℕ → Key → Way) (bytes : List ℕ) (h : Head) (P : Option Cut) → (h.version ≡ One → two_only ≡ false)
+    → IsSpelled h P bytes → (heeds ≡ true → IfSome P (IsTightCut h.version (way h.radius)))
+    → Comes heeds e (whole h.kind two_only way) (done (said h P)) (start bytes)
+    (head_bytes h ++ part_bytes h.version P) []
+whole_again heeds e two_only way bytes h P may spelled tight =
+    let cut = part_bytes h.version P in
+    let size : length bytes ≡ length (head_bytes h) + length cut = ap length spelled.whole
+    ∙ length-append (head_bytes h) cut in
     let short = spelled.short in
-    let none = append-nil (part_bytes P) in
-    let parts : bytes ≡ head_bytes h ++ (part_bytes P ++ []) = spelled.whole
+    let none = append-nil cut in
+    let parts : bytes ≡ head_bytes h ++ (cut ++ []) = spelled.whole
     ∙ ap (λ (x : List ℕ). head_bytes h ++ x) (sym none) in
-    let a = head_again heeds e (part way) (start bytes) h (part_bytes P ++ []) spelled.head parts (omega arith) in
+    let a = head_again heeds e two_only (part way) (start bytes) h (cut ++ []) may spelled.head parts (omega arith) in
     let p = a.place in
     let b = part_again heeds e way h P a.end spelled.part tight (a.left ∙ none) (omega arith) in
-    comes_both heeds e (whole h.kind way) (part way h) (done (said h P)) (start bytes) (head_bytes h)
-    (part_bytes P) [] a b
+    comes_both heeds e (whole h.kind two_only way) (part way h) (done (said h P)) (start bytes) (head_bytes h)
+    cut [] a b
 
 ending_again : (hash : List ℕ → List ℕ) (root : List ℕ) (a : Question) (x : Parsed) (s : Cursor) → s.rest ≡ []
     → root_found hash x.head x.part ≡ root → has_other_radius a.around x.head.radius (opened_records x.part) ≡ false
-    → ending hash root a x s ≡ Ok x
+    → has_other_count x ≡ false → ending hash root a x s ≡ Ok x
 unfolding ending
-ending_again hash root a x s left same right =
-    rw (left, bytes_same (root_found hash x.head x.part) root same, right) refl
+ending_again hash root a x s left same right counted =
+    rw (left, bytes_same (root_found hash x.head x.part) root same, right, counted) refl
 
 -- what bytes show is accepted
 pub checked_from : (hash : List ℕ → List ℕ) (root : List ℕ) (a : Question) (bytes : List ℕ) (y : Parsed)
     → IsLawful a → (p : ShowsCut hash root a bytes y) → checked hash root a bytes ≡ Ok y
 unfolding checked
 checked_from hash root a bytes y law p =
-    let x = whole_again true (ending hash root a) a.way bytes y.head y.part p.spelled (λ _. p.tight.parts) in
-    let of_kind : walk true (ending hash root a) (whole y.head.kind a.way) (start bytes) ≡ Ok y =
+    let x = whole_again true (ending hash root a) a.two_only a.way bytes y.head y.part
+    (either_comes a y.head.version p.version) p.spelled (λ _. p.tight.parts) in
+    let of_kind : walk true (ending hash root a) (whole y.head.kind a.two_only a.way) (start bytes) ≡ Ok y =
     x.same ∙ ending_again hash root a y x.end x.left p.held
-    (radius_stands a y.head.radius (opened_records y.part) law p.tight.radius) in
-    subst (λ (k : Kind). walk true (ending hash root a) (whole k a.way) (start bytes) ≡ Ok y) p.kind of_kind
+    (radius_stands a y.head.radius (opened_records y.part) law p.tight.radius)
+    (count_stands y.head y.part p.tight.counted) in
+    subst (λ (k : Kind). walk true (ending hash root a) (whole k a.two_only a.way) (start bytes) ≡ Ok y) p.kind of_kind
 
 pub verdict_from : (hash : List ℕ → List ℕ) (root : List ℕ) (q : Query) (bytes : List ℕ) (answer : List Record)
     → IsQuery q → ProvesAnswer hash root q bytes answer → verdict hash root q bytes ≡ Ok answer

@@ -9,8 +9,8 @@ use Rattle.mr_proof.specs.declared.want.Want.TheVariants as want
 use Rattle.mr_proof.specs.declared.field.Field.{Field}
 use Rattle.mr_proof.specs.declared.field.Field.TheVariants as field
 use Rattle.mr_proof.specs.Fields.{size_of, field_of, field_bytes, IsField, HasForm, NumberWith}
-use Rattle.mr_proof.proofs.FieldsTaken.{length_meant, level_meant, flag_meant, leaf_count_meant, inner_count_meant, number_meant, batch_meant, count_meant, radius_meant, rect_meant, payload_meant, digest_meant, tag_meant, magic_meant, version_meant, kind_meant}
-use Rattle.mr_proof.proofs.FieldValues.{number_value, batch_value, count_value, level_value, length_value, leaf_count_value, inner_count_value, rect_value, payload_value, digest_value, tag_value, magic_value, version_value, kind_value, flag_value, radius_value}
+use Rattle.mr_proof.proofs.FieldsTaken.{length_meant, level_meant, flag_meant, leaf_count_meant, inner_count_meant, number_meant, batch_meant, count_meant, radius_meant, rect_meant, payload_meant, digest_meant, tag_meant, magic_meant, version_meant, kind_meant, layer_meant, mask_meant, tally_meant}
+use Rattle.mr_proof.proofs.FieldValues.{number_value, batch_value, count_value, level_value, length_value, leaf_count_value, inner_count_value, rect_value, payload_value, digest_value, tag_value, magic_value, version_value, kind_value, flag_value, radius_value, layer_value, mask_value, tally_value}
 
 -- ---- what is read is written so
 
@@ -18,7 +18,7 @@ spelled_so : (w : Want) (raw : List ℕ) (f : Field) → length raw ≡ size_of 
     → raw ≡ field_bytes w f
 unfolding field_bytes
 spelled_so want.Magic raw f long fits e = (magic_meant raw f long fits e).0
-spelled_so want.Version raw f long fits e = (version_meant raw f long fits e).0
+spelled_so (want.Version two_only) raw f long fits e = (version_meant two_only raw f long fits e).0
 spelled_so (want.Kind k) raw f long fits e = (kind_meant k raw f long fits e).0
 spelled_so want.Batch raw f long fits e = (batch_meant raw f long fits e).0
 spelled_so want.Count raw f long fits e = (count_meant raw f long fits e).0
@@ -30,8 +30,11 @@ spelled_so want.LeafCount raw f long fits e = (leaf_count_meant raw f long fits 
 spelled_so want.InnerCount raw f long fits e = (inner_count_meant raw f long fits e).0
 spelled_so want.Number raw f long fits e = (number_meant raw f long fits e).0
 spelled_so want.Rect raw f long fits e = (rect_meant raw f long fits e).0
+spelled_so want.Layer raw f long fits e = (layer_meant raw f long fits e).0
 spelled_so want.Length raw f long fits e = (length_meant raw f long fits e).0
 spelled_so (want.Payload n) raw f long fits e = (payload_meant n raw f long fits e).0
+spelled_so want.Mask raw f long fits e = (mask_meant raw f long fits e).0
+spelled_so want.Tally raw f long fits e = (tally_meant raw f long fits e).0
 spelled_so want.Digest raw f long fits e = (digest_meant raw f long fits e).0
 
 if_ok : (r : Result Field Rule) (P : Field → Type 0) → ((f : Field) → r ≡ Ok f → P f) → IfOk r P
@@ -115,7 +118,8 @@ digest_again (field.Digest bytes) has = λ is. digest_value bytes
 value_again : (w : Want) (f : Field) → HasForm w f → Again w f
 unfolding field_bytes
 value_again want.Magic f has = plain_again want.Magic f has (λ is. magic_value)
-value_again want.Version f has = plain_again want.Version f has (λ is. version_value)
+value_again (want.Version two_only) f has =
+    by_number _ (Again (want.Version two_only)) f has (λ n may is. version_value two_only n may)
 value_again (want.Kind k) f has = plain_again (want.Kind k) f has (λ is. kind_value k)
 value_again want.Batch f has = by_number _ (Again want.Batch) f has (λ n _ is. batch_value n is)
 value_again want.Count f has = by_number _ (Again want.Count) f has (λ n low is. count_value n low)
@@ -129,8 +133,11 @@ value_again want.InnerCount f has =
     by_number _ (Again want.InnerCount) f has (λ n both is. inner_count_value n both.0 both.1)
 value_again want.Number f has = by_number _ (Again want.Number) f has (λ n _ is. number_value n is)
 value_again want.Rect f has = rect_again f has
+value_again want.Layer f has = by_number _ (Again want.Layer) f has (λ n low is. layer_value n low)
 value_again want.Length f has = by_number _ (Again want.Length) f has (λ n low is. length_value n low)
 value_again (want.Payload n) f has = payload_again n f has
+value_again want.Mask f has = by_number _ (Again want.Mask) f has (λ n _ is. mask_value n is)
+value_again want.Tally f has = by_number _ (Again want.Tally) f has (λ n both is. tally_value n both.0 both.1)
 value_again want.Digest f has = digest_again f has
 
 pub read_again : (w : Want) (f : Field) (raw : List ℕ) → IsField f → HasForm w f → raw ≡ field_bytes w f

@@ -1,13 +1,14 @@
 -- The bytes of a field's value are read as it.
 use Rattle.std.proofs.Common.{◌≡◌, ◌⊎◌, ℕ, ◌<◌, ◌≤◌, ◌^◌, Bool, true, false, List, [], ◌∷◌, Ok, refl, ap, ◌∙◌, inl, inr, arith}
-use Rattle.std.specs.Prelude.{◌==◌, nat_le, ◌&&◌, ◌||◌}
+use Rattle.std.specs.Prelude.{◌==◌, nat_le, not, ◌&&◌, ◌||◌}
 use Rattle.std.specs.Int.{w64, w128, to_be_bytes, from_be_bytes}
 use Rattle.std.proofs.lemmas.Bool.{le-leb, eq-eqb, or_right}
 use Rattle.std.proofs.lemmas.Nat.{from_be_bytes-to_be_bytes_8}
 use Rattle.mr_geom.specs.Rectangle.{Rectangle, IsOrdered, FitsMap, in_order}
 use Rattle.mr_geom.proofs.Rectangles.{is_in_order}
 use Rattle.mr_record.specs.Record.{rectangle_bytes}
-use Rattle.mr_record.specs.Version.{version_byte}
+use Rattle.mr_record.specs.Version.{version_byte, highest_layer}
+use Rattle.mr_record.specs.declared.version.Version.TheVariants.{One, Two}
 use Rattle.mr_record.proofs.Encodings.{sides_again}
 use Rattle.mr_proof.specs.declared.head.Kind.{Kind}
 use Rattle.mr_proof.specs.declared.head.Kind.TheVariants as kind
@@ -17,7 +18,7 @@ use Rattle.mr_proof.specs.declared.want.Want.TheVariants as want
 use Rattle.mr_proof.specs.declared.field.Field.{Field}
 use Rattle.mr_proof.specs.declared.field.Field.TheVariants as field
 use Rattle.mr_proof.specs.Limits.{count_limit, radius_limit, level_limit, leaf_limit, inner_limit}
-use Rattle.mr_proof.specs.Fields.{field_of, only_if, magic, version, kind_byte, pruned_tag, opened_tag}
+use Rattle.mr_proof.specs.Fields.{field_of, only_if, magic, kind_byte, pruned_tag, opened_tag, IsVersionByte}
 use Rattle.mr_proof.proofs.Wide.{wide_again}
 
 pub number_value : (n : ℕ) → n < 2 ^ 64 → field_of want.Number (to_be_bytes w64 n) ≡ Ok (field.Num n)
@@ -42,6 +43,22 @@ count_value n le =
 pub level_value : (n : ℕ) → n ≤ level_limit → field_of want.Level (n ∷ []) ≡ Ok (field.Num n)
 unfolding field_of
 level_value n le = passes (nat_le n level_limit) (field.Num n) rule.BadLevel (le-leb n level_limit le)
+
+pub layer_value : (n : ℕ) → n ≤ highest_layer Two → field_of want.Layer (n ∷ []) ≡ Ok (field.Num n)
+unfolding field_of
+layer_value n le = passes (nat_le n 63) (field.Num n) rule.BadLayer (le-leb n 63 le)
+
+pub mask_value : (n : ℕ) → n < 2 ^ 64 → field_of want.Mask (to_be_bytes w64 n) ≡ Ok (field.Num n)
+unfolding field_of
+mask_value n lt = ap (λ (k : ℕ). Ok (field.Num k)) (from_be_bytes-to_be_bytes_8 n lt)
+
+pub tally_value : (n : ℕ) → 1 ≤ n → n ≤ count_limit → field_of want.Tally (to_be_bytes w64 n) ≡ Ok (field.Num n)
+unfolding field_of
+tally_value n low high =
+    let same : from_be_bytes w64 (to_be_bytes w64 n) ≡ n = from_be_bytes-to_be_bytes_8 n (omega arith) in
+    ap (λ (k : ℕ). only_if (nat_le 1 k && nat_le k count_limit) (field.Num k) rule.BadCount) same
+    ∙ passes (nat_le 1 n && nat_le n count_limit) (field.Num n) rule.BadCount
+    (rw (le-leb 1 n low, le-leb n count_limit high) refl)
 
 pub length_value : (n : ℕ) → n ≤ 200 → field_of want.Length (n ∷ []) ≡ Ok (field.Num n)
 unfolding field_of
@@ -87,9 +104,17 @@ pub magic_value : field_of want.Magic magic ≡ Ok field.Plain
 unfolding field_of
 magic_value = refl
 
-pub version_value : field_of want.Version (version_byte version ∷ []) ≡ Ok field.Plain
+-- the byte is one that may come
+pub version_value : (two_only : Bool) (n : ℕ) → IsVersionByte two_only n
+    → field_of (want.Version two_only) (n ∷ []) ≡ Ok (field.Num n)
 unfolding field_of
-version_value = refl
+version_value two_only n (inl two) =
+    passes (n == version_byte Two || (not two_only && n == version_byte One)) (field.Num n) rule.BadVersion
+    (rw (eq-eqb n (version_byte Two) two) refl)
+version_value two_only n (inr one) =
+    passes (n == version_byte Two || (not two_only && n == version_byte One)) (field.Num n) rule.BadVersion
+    (or_right (n == version_byte Two) (not two_only && n == version_byte One)
+    (rw (one.0, eq-eqb n (version_byte One) one.1) refl))
 
 pub kind_value : (k : Kind) → field_of (want.Kind k) (kind_byte k ∷ []) ≡ Ok field.Plain
 unfolding field_of

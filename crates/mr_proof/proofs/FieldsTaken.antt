@@ -1,13 +1,14 @@
 -- Single fields of a proof, taken from the front of a byte string: what the bytes mean.
 use Rattle.std.proofs.Common.{◌≡◌, ◌⊎◌, ℕ, ◌+◌, ◌<◌, ◌≤◌, ◌^◌, Bool, true, false, cond, List, [], ◌∷◌, ◌++◌, length, take, Result, Ok, Err, refl, sym, ap, subst, ◌∙◌, inl, inr, arith, append_assoc}
-use Rattle.std.specs.Prelude.{if◌then◌else◌, ◌==◌, nat_lt, nat_le, ◌&&◌, ◌||◌, slice_index, bytes_eq, ⊤}
+use Rattle.std.specs.Prelude.{if◌then◌else◌, ◌==◌, nat_lt, nat_le, not, ◌&&◌, ◌||◌, slice_index, bytes_eq, ⊤}
 use Rattle.std.specs.Int.{w64, w128, to_be_bytes, from_be_bytes}
 use Rattle.std.proofs.lemmas.Bool.{eqb-true, ltb-false, leb-true, and_parts, or_cases}
 use Rattle.std.proofs.lemmas.List.{take-append-drop, length-take-le, length-append}
 use Rattle.mr_geom.specs.Rectangle.{Rectangle, IsOrdered, FitsMap}
 use Rattle.mr_record.specs.private.Bytes.{AreBytes}
 use Rattle.mr_record.specs.Record.{rectangle_bytes}
-use Rattle.mr_record.specs.Version.{version_byte}
+use Rattle.mr_record.specs.Version.{version_byte, highest_layer}
+use Rattle.mr_record.specs.declared.version.Version.TheVariants.{One, Two}
 use Rattle.mr_proof.specs.declared.head.Kind.{Kind}
 use Rattle.mr_proof.specs.declared.rule.Rule.{Rule}
 use Rattle.mr_proof.specs.declared.rule.Rule.TheVariants as rule
@@ -17,10 +18,10 @@ use Rattle.mr_proof.specs.declared.want.Want.TheVariants as want
 use Rattle.mr_proof.specs.declared.field.Field.{Field}
 use Rattle.mr_proof.specs.declared.field.Field.TheVariants as field
 use Rattle.mr_proof.specs.Limits.{count_limit, radius_limit, level_limit, leaf_limit, inner_limit, place_limit}
-use Rattle.mr_proof.specs.Fields.{size_of, field_of, only_if, magic, kind_byte, pruned_tag, opened_tag, version}
+use Rattle.mr_proof.specs.Fields.{size_of, field_of, only_if, magic, kind_byte, pruned_tag, opened_tag, IsVersionByte}
 use Rattle.mr_geom.specs.Rectangle.{in_order}
 use Rattle.mr_record.specs.Record.{sides_of}
-use Rattle.mr_proof.specs.Grammar.{Grammar, reads, number_in, wide_in, tag_in, rect_in, bytes_in}
+use Rattle.mr_proof.specs.Grammar.{Grammar, reads, number_in, version_in, wide_in, tag_in, rect_in, bytes_in}
 use Rattle.mr_proof.specs.Layout.{fault, Cursor, behind, field_or_fault, field_at}
 use Rattle.mr_proof.specs.Reading.{◌>>=◌, walk}
 use Rattle.mr_record.proofs.Encodings.{IsBytes, IsBytes-take, IsBytes-drop, AreBytes-from, word_is, word_below, sides_are, sides_fit}
@@ -152,6 +153,14 @@ byte_meant raw b f d long e =
     let n : slice_index raw 0 ≡ number_in f = ap number_in p.1 in
     (single raw long ∙ ap (λ (k : ℕ). k ∷ []) n, p.0, sym n)
 
+pub layer_meant : (raw : List ℕ) (f : Field) → length raw ≡ size_of want.Layer → IsBytes raw
+    → field_of want.Layer raw ≡ Ok f → (raw ≡ number_in f ∷ []) × (number_in f ≤ highest_layer Two)
+unfolding field_of
+layer_meant raw f long fits e =
+    let p = byte_meant raw (nat_le (slice_index raw 0) 63) f rule.BadLayer long e in
+    let le : slice_index raw 0 ≤ 63 = leb-true (slice_index raw 0) 63 p.1 in
+    (p.0, rw p.2 le)
+
 pub length_meant : (raw : List ℕ) (f : Field) → length raw ≡ size_of want.Length → IsBytes raw
     → field_of want.Length raw ≡ Ok f → (raw ≡ number_in f ∷ []) × (number_in f ≤ 200)
 unfolding field_of
@@ -211,6 +220,27 @@ unfolding field_of
 batch_meant raw f long fits e =
     let n : from_be_bytes w64 raw ≡ number_in f = ap number_in (same_field (field.Num (from_be_bytes w64 raw)) f e) in
     (word_is raw long fits ∙ ap (to_be_bytes w64) n, subst (λ (k : ℕ). k < 2 ^ 64) n (word_below raw fits))
+
+pub mask_meant : (raw : List ℕ) (f : Field) → length raw ≡ size_of want.Mask → IsBytes raw
+    → field_of want.Mask raw ≡ Ok f → (raw ≡ to_be_bytes w64 (number_in f)) × (number_in f < 2 ^ 64)
+unfolding field_of
+mask_meant raw f long fits e =
+    let n : from_be_bytes w64 raw ≡ number_in f = ap number_in (same_field (field.Num (from_be_bytes w64 raw)) f e) in
+    (word_is raw long fits ∙ ap (to_be_bytes w64) n, subst (λ (k : ℕ). k < 2 ^ 64) n (word_below raw fits))
+
+pub tally_meant : (raw : List ℕ) (f : Field) → length raw ≡ size_of want.Tally → IsBytes raw
+    → field_of want.Tally raw ≡ Ok f
+    → (raw ≡ to_be_bytes w64 (number_in f)) × ((1 ≤ number_in f) × (number_in f ≤ count_limit))
+unfolding field_of
+tally_meant raw f long fits e =
+    let word = from_be_bytes w64 raw in
+    let p = passed (nat_le 1 word && nat_le word count_limit) (field.Num word) f rule.BadCount e in
+    let both = and_parts (nat_le 1 word) (nat_le word count_limit) p.0 in
+    let n : word ≡ number_in f = ap number_in p.1 in (
+      word_is raw long fits ∙ ap (to_be_bytes w64) n,
+      subst (λ (k : ℕ). (1 ≤ k) × (k ≤ count_limit)) n
+          (leb-true 1 word both.0, leb-true word count_limit both.1),
+    )
 
 pub count_meant : (raw : List ℕ) (f : Field) → length raw ≡ size_of want.Count → IsBytes raw
     → field_of want.Count raw ≡ Ok f → (raw ≡ to_be_bytes w64 (number_in f)) × (number_in f ≤ count_limit)
@@ -280,15 +310,54 @@ pub magic_meant : (raw : List ℕ) (f : Field) → length raw ≡ size_of want.M
 unfolding field_of
 magic_meant raw f long fits e = (same_bytes raw magic (passed (bytes_eq raw magic) field.Plain f rule.BadMagic e).0, tt)
 
-pub version_meant : (raw : List ℕ) (f : Field) → length raw ≡ size_of want.Version → IsBytes raw
-    → field_of want.Version raw ≡ Ok f → (raw ≡ version_byte version ∷ []) × ⊤
+not_true : (b : Bool) → not b ≡ true → b ≡ false
+not_true true e = absurd cc
+not_true false e = refl
+
+-- a byte that passes is one that may come
+pub may_come_byte : (two_only : Bool) (n : ℕ)
+    → (n == version_byte Two || (not two_only && n == version_byte One)) ≡ true → IsVersionByte two_only n
+may_come_byte two_only n t = elim (or_cases (n == version_byte Two) (not two_only && n == version_byte One) t) [
+  | inl two ↦ inl (eqb-true n (version_byte Two) two)
+  | inr both ↦
+      let p = and_parts (not two_only) (n == version_byte One) both in
+      inr (not_true two_only p.0, eqb-true n (version_byte One) p.1)
+]
+
+pub version_meant : (two_only : Bool) (raw : List ℕ) (f : Field) → length raw ≡ size_of (want.Version two_only)
+    → IsBytes raw → field_of (want.Version two_only) raw ≡ Ok f
+    → (raw ≡ number_in f ∷ []) × IsVersionByte two_only (number_in f)
 unfolding field_of
-version_meant raw f long fits e = (
-  single raw long ∙ ap (λ (k : ℕ). k ∷ [])
-      (eqb-true (slice_index raw 0) (version_byte version) (passed
-      (slice_index raw 0 == version_byte version) field.Plain f rule.BadVersion e).0),
-  tt,
-)
+version_meant two_only raw f long fits e =
+    let b = slice_index raw 0 in
+    let p = byte_meant raw (b == version_byte Two || (not two_only && b == version_byte One)) f rule.BadVersion long e in
+    (p.0, subst (IsVersionByte two_only) (sym p.2) (may_come_byte two_only b p.1))
+
+-- such a byte is that of the version that is read
+pub byte_of_version : (two_only : Bool) (f : Field) → IsVersionByte two_only (number_in f)
+    → number_in f ≡ version_byte (version_in f)
+byte_of_version two_only f (inl two) =
+    two ∙ ap (λ (n : ℕ). version_byte (if n == version_byte One then One else Two)) (sym two)
+byte_of_version two_only f (inr one) =
+    one.1 ∙ ap (λ (n : ℕ). version_byte (if n == version_byte One then One else Two)) (sym one.1)
+
+-- which is one that may come
+pub version_may_come : (two_only : Bool) (f : Field) → IsVersionByte two_only (number_in f)
+    → version_in f ≡ One → two_only ≡ false
+version_may_come two_only f (inl two) one =
+    let same : 1 ≡ version_byte (version_in f) = ap version_byte (sym one) in
+    absurd (omega (arith, byte_of_version two_only f (inl two)))
+version_may_come two_only f (inr one) is = one.0
+
+-- the version and the byte that are read of the field
+pub version_taken : (two_only : Bool) (raw : List ℕ) (f : Field) → length raw ≡ size_of (want.Version two_only)
+    → IsBytes raw → field_of (want.Version two_only) raw ≡ Ok f
+    → (raw ≡ version_byte (version_in f) ∷ []) × (version_in f ≡ One → two_only ≡ false)
+version_taken two_only raw f long fits e =
+    let p = version_meant two_only raw f long fits e in (
+      p.0 ∙ ap (λ (n : ℕ). n ∷ []) (byte_of_version two_only f p.1),
+      version_may_come two_only f p.1,
+    )
 
 pub kind_meant : (k : Kind) (raw : List ℕ) (f : Field) → length raw ≡ size_of (want.Kind k) → IsBytes raw
     → field_of (want.Kind k) raw ≡ Ok f → (raw ≡ kind_byte k ∷ []) × ⊤

@@ -4,7 +4,10 @@ use Rattle.std.specs.Prelude.{if◌then◌else◌, ◌==◌, nat_lt, not, bytes_
 use Rattle.std.specs.List.{Contains}
 use Rattle.std.proofs.lemmas.Bool.{ltb-true, cases_Bool, cases_lt, eqb-false}
 use Rattle.std.proofs.lemmas.List.Elements.{All-cons, All-nil, All-append, All-weaker, All-contains, All-contains_itself, All-head}
+use Rattle.mr_geom.specs.Rectangle.{Rectangle}
 use Rattle.mr_record.specs.declared.record.Record.{Record}
+use Rattle.mr_record.specs.declared.version.Version.{Version}
+use Rattle.mr_record.specs.declared.version.Version.TheVariants.{One, Two}
 use Rattle.mr_query.specs.declared.query.Query.{Query}
 use Rattle.mr_query.specs.Scan.{scan}
 use Rattle.mr_proof.specs.declared.head.Kind.{Kind}
@@ -21,13 +24,14 @@ use Rattle.mr_proof.specs.Fields.{size_of, field_of, pruned_tag}
 use Rattle.mr_proof.specs.Cut.{Cut, Cuts, Pruned, Leaf, Inner, no_more, first}
 use Rattle.mr_proof.specs.Spelling.{Parsed, said, opened_records}
 use Rattle.mr_proof.specs.declared.way.Way.{Way}
-use Rattle.mr_proof.specs.Tight.{Key, keeps_at, Question, question}
+use Rattle.mr_query.specs.declared.key.Key.{Key}
+use Rattle.mr_proof.specs.Tight.{keeps_record, Question, question}
 use Rattle.mr_proof.specs.Accepted.{root_found}
-use Rattle.mr_proof.specs.Grammar.{must, opens, Grammar, done, reads, notes, number_in, tag_in, rect_in, wide_in, bytes_in, payload, one_record, some_records, opened, leaf, some_items, inner, pruned, item, radius, level, head, part, whole}
+use Rattle.mr_proof.specs.Grammar.{must, opens, Grammar, done, reads, notes, number_in, version_in, tag_in, rect_in, wide_in, bytes_in, payload, layer, one_record, some_records, opened, leaf, some_items, inner, layers_and_count, pruned, item, radius, level, head, part, whole}
 use Rattle.mr_proof.specs.Layout.{fault, Cursor, start, behind, field_or_fault, field_at}
-use Rattle.mr_proof.specs.Refused.{rank, Before, IsFirst, with_field, if_fault, faults, has_other_radius, last_faults, all_faults, IsRefused}
+use Rattle.mr_proof.specs.Refused.{rank, Before, IsFirst, with_field, if_fault, faults, has_other_radius, has_other_count, last_faults, all_faults, IsRefused}
 use Rattle.mr_proof.specs.Reading.{◌>>=◌, walk, ending, checked, verdict}
-use Rattle.mr_proof.proofs.Values.{same_value, failed, same_fault}
+use Rattle.mr_proof.proofs.Values.{record_of, part_of, head_of, same_value, failed, same_fault}
 
 -- ---- the first of some faults
 
@@ -202,37 +206,55 @@ agree e final ends last n (notes (opens x met) next) sized s lt = agree e final 
 
 -- ---- the ending
 
-ends_by : {B : Type 0} (b c d : Bool) (t w r : Fault) (x : B) → (b ≡ true → Before t w) → (b ≡ true → Before t r)
-    → Before w r
-    → Agrees (cond b (Err t) (cond (not c) (Err w) (cond d (Err r) (Ok x))))
-    (if_fault b t ++ (if_fault (not c) w ++ if_fault d r))
-ends_by true true true t w r x tw tr wr =
-    front_is_first t (r ∷ []) (All-cons (λ x. (x ≡ t) ⊎ Before t x) r [] (inr (tr refl))
-    (All-nil (λ x. (x ≡ t) ⊎ Before t x)))
-ends_by true true false t w r x tw tr wr = front_is_first t [] (All-nil (λ x. (x ≡ t) ⊎ Before t x))
-ends_by true false true t w r x tw tr wr =
-    front_is_first t (w ∷ r ∷ []) (All-cons (λ x. (x ≡ t) ⊎ Before t x) w (r ∷ []) (inr (tw refl))
-    (All-cons (λ x. (x ≡ t) ⊎ Before t x) r [] (inr (tr refl)) (All-nil (λ x. (x ≡ t) ⊎ Before t x))))
-ends_by true false false t w r x tw tr wr =
-    front_is_first t (w ∷ []) (All-cons (λ x. (x ≡ t) ⊎ Before t x) w [] (inr (tw refl))
-    (All-nil (λ x. (x ≡ t) ⊎ Before t x)))
-ends_by false true true t w r x tw tr wr = front_is_first r [] (All-nil (λ x. (x ≡ r) ⊎ Before r x))
-ends_by false true false t w r x tw tr wr = refl
-ends_by false false true t w r x tw tr wr =
-    front_is_first w (r ∷ []) (All-cons (λ x. (x ≡ w) ⊎ Before w x) r [] (inr wr) (All-nil (λ x. (x ≡ w) ⊎ Before w x)))
-ends_by false false false t w r x tw tr wr = front_is_first w [] (All-nil (λ x. (x ≡ w) ⊎ Before w x))
+-- a fault that is found goes before those that are found after it
+ends_step : {B : Type 0} (b : Bool) (f : Fault) (r : Result B Fault) (fs : List Fault)
+    → (b ≡ true → All (Before f) fs) → Agrees r fs → Agrees (cond b (Err f) r) (if_fault b f ++ fs)
+ends_step true f r fs before a =
+    front_is_first f fs (All-weaker (Before f) (λ x. (x ≡ f) ⊎ Before f x) (λ x p. inr p) fs (before refl))
+ends_step false f r fs before a = a
+
+ends_last : {B : Type 0} (b : Bool) (f : Fault) (x : B) → Agrees (cond b (Err f) (Ok x)) (if_fault b f)
+ends_last true f x = front_is_first f [] (All-nil (λ x. (x ≡ f) ⊎ Before f x))
+ends_last false f x = refl
 
 ending_agrees : (hash : List ℕ → List ℕ) (root : List ℕ) (a : Question) (x : Parsed) (s : Cursor)
     → Agrees (ending hash root a x s) (last_faults hash root a x s)
 unfolding ending
 ending_agrees hash root a x s =
-    ends_by (nat_lt 0 (length s.rest)) (bytes_eq (root_found hash x.head x.part) root)
-    (has_other_radius a.around x.head.radius (opened_records x.part))
-    (fault rule.Trailing s.at) (fault (rule.WrongRoot (root_found hash x.head x.part)) (s.at + length s.rest))
-    (fault rule.WrongRadius (s.at + length s.rest)) x
-    (λ t. let some : 0 < length s.rest = ltb-true 0 (length s.rest) t in inl (omega arith))
-    (λ t. let some : 0 < length s.rest = ltb-true 0 (length s.rest) t in inl (omega arith))
-    (inr (refl, omega arith))
+    let found = root_found hash x.head x.part in
+    let end = s.at + length s.rest in
+    let left = nat_lt 0 (length s.rest) in
+    let other_root = not (bytes_eq found root) in
+    let other_radius = has_other_radius a.around x.head.radius (opened_records x.part) in
+    let other_count = has_other_count x in
+    let trailing = fault rule.Trailing s.at in
+    let wrong_root = fault (rule.WrongRoot found) end in
+    let wrong_radius = fault rule.WrongRadius end in
+    let wrong_tally = fault rule.WrongTally end in
+    let counts : Agrees (if other_count then Err wrong_tally else Ok x) (if_fault other_count wrong_tally) =
+    ends_last other_count wrong_tally x in
+    let radii : Agrees (if other_radius then Err wrong_radius else if other_count then Err wrong_tally else Ok x)
+    (if_fault other_radius wrong_radius ++ if_fault other_count wrong_tally) =
+    ends_step other_radius wrong_radius (if other_count then Err wrong_tally else Ok x)
+    (if_fault other_count wrong_tally)
+    (λ t. if_fault_all (Before wrong_radius) other_count wrong_tally (inr (refl, omega arith))) counts in
+    let roots : Agrees (if other_root then Err wrong_root else if other_radius then Err wrong_radius else if other_count
+    then Err wrong_tally else Ok x)
+    (if_fault other_root wrong_root ++ (if_fault other_radius wrong_radius ++ if_fault other_count wrong_tally)) =
+    ends_step other_root wrong_root
+    (if other_radius then Err wrong_radius else if other_count then Err wrong_tally else Ok x)
+    (if_fault other_radius wrong_radius ++ if_fault other_count wrong_tally)
+    (λ t. All-append (Before wrong_root) _ _
+    (if_fault_all (Before wrong_root) other_radius wrong_radius (inr (refl, omega arith)))
+    (if_fault_all (Before wrong_root) other_count wrong_tally (inr (refl, omega arith)))) radii in
+    ends_step left trailing
+    (if other_root then Err wrong_root else if other_radius then Err wrong_radius else if other_count
+    then Err wrong_tally else Ok x)
+    (if_fault other_root wrong_root ++ (if_fault other_radius wrong_radius ++ if_fault other_count wrong_tally))
+    (λ t. let some : 0 < length s.rest = ltb-true 0 (length s.rest) t in
+    All-append (Before trailing) _ _ (if_fault_all (Before trailing) other_root wrong_root (inl (omega arith)))
+    (All-append (Before trailing) _ _ (if_fault_all (Before trailing) other_radius wrong_radius (inl (omega arith)))
+    (if_fault_all (Before trailing) other_count wrong_tally (inl (omega arith))))) roots
 
 ending_late : (hash : List ℕ → List ℕ) (root : List ℕ) (a : Question) (x : Parsed) (s : Cursor)
     → All (λ f. s.at ≤ f.at) (last_faults hash root a x s)
@@ -242,8 +264,11 @@ ending_late hash root a x s =
     (All-append (λ f. s.at ≤ f.at) _ _
     (if_fault_all (λ f. s.at ≤ f.at) (not (bytes_eq (root_found hash x.head x.part) root))
     (fault (rule.WrongRoot (root_found hash x.head x.part)) (s.at + length s.rest)) (omega arith))
+    (All-append (λ f. s.at ≤ f.at) _ _
     (if_fault_all (λ f. s.at ≤ f.at) (has_other_radius a.around x.head.radius (opened_records x.part))
-    (fault rule.WrongRadius (s.at + length s.rest)) (omega arith)))
+    (fault rule.WrongRadius (s.at + length s.rest)) (omega arith))
+    (if_fault_all (λ f. s.at ≤ f.at) (has_other_count x) (fault rule.WrongTally (s.at + length s.rest))
+    (omega arith))))
 
 -- ---- each field of a proof has a byte, and its notes stand in order
 
@@ -254,54 +279,70 @@ sized_payload n next h = elim (cases_Bool (eqb n 0)) [
   | inr f ↦ let some : (n ≡ 0 → ⊥) = eqb-false n 0 f in rw f (omega arith, λ p. h (bytes_in p))
 ]
 
-sized_record : {A : Type 0} (n : ℕ) (next : Record → Grammar A) → ((r : Record) → Sized 0 (next r))
-    → Sized n (one_record next)
-sized_record m next h = (
+sized_layer : {A : Type 0} (v : Version) (next : ℕ → Grammar A) → ((i : ℕ) → Sized 0 (next i)) → Sized 0 (layer v next)
+sized_layer One next h = h 0
+sized_layer Two next h = (omega arith, λ l. h (number_in l))
+
+sized_record : {A : Type 0} (v : Version) (n : ℕ) (next : Record → Grammar A) → ((r : Record) → Sized 0 (next r))
+    → Sized n (one_record v next)
+sized_record v m next h = (
   omega arith,
   λ n. (
     omega arith,
-    λ r. (
-      omega arith,
-      λ l.
-          sized_payload (number_in l)
-          (λ p. next (record { number = number_in n; rect = rect_in r; layer = 0; payload = p }))
-          (λ p. h (record { number = number_in n; rect = rect_in r; layer = 0; payload = p })),
-    ),
+    λ r. sized_layer v
+        (λ i. reads want.Length (λ l. payload (number_in l) (λ p. next (record_of (number_in n) (rect_in r) i p))))
+        (λ i. (
+          omega arith,
+          λ l.
+              sized_payload (number_in l) (λ p. next (record_of (number_in n) (rect_in r) i p))
+              (λ p. h (record_of (number_in n) (rect_in r) i p)),
+        )),
   ),
 )
 
-sized_records : {A : Type 0} (way : Key → Way) (n : ℕ) (next : List Record → Grammar A) →
+sized_records : {A : Type 0} (v : Version) (way : Key → Way) (n : ℕ) (next : List Record → Grammar A) →
     ((rs : List Record) → Sized 0 (next rs))
-    → Sized 0 (some_records way n next)
-sized_records way zero next h = h []
-sized_records way (suc n) next h =
-    sized_record 0 (λ r. notes (opens r (keeps_at way r.rect)) (some_records way n (λ rs. next (r ∷ rs))))
-    (λ r. sized_records way n (λ rs. next (r ∷ rs)) (λ rs. h (r ∷ rs)))
+    → Sized 0 (some_records v way n next)
+sized_records v way zero next h = h []
+sized_records v way (suc n) next h =
+    sized_record v 0 (λ r. notes (opens r (keeps_record way r)) (some_records v way n (λ rs. next (r ∷ rs))))
+    (λ r. sized_records v way n (λ rs. next (r ∷ rs)) (λ rs. h (r ∷ rs)))
 
 -- behind an item the notes are those of opened nodes
 abbrev Follows : {A : Type 0} {X : Type 0} → (X → Grammar A) → Type 0
 Follows {A} {X} next = (x : X) → Sized 14 (next x)
 
-sized_leaf : {A : Type 0} (way : Key → Way) (next : Cut → Grammar A) → Follows next → Sized 0 (leaf way next)
-sized_leaf way next h = (
+sized_leaf : {A : Type 0} (v : Version) (way : Key → Way) (next : Cut → Grammar A) → Follows next
+    → Sized 0 (leaf v way next)
+sized_leaf v way next h = (
   omega arith,
-  λ n. sized_records way (number_in n) (λ rs. opened way (Leaf rs) next)
+  λ n. sized_records v way (number_in n) (λ rs. opened v way (Leaf rs) next)
       (λ rs. (inr refl, omega arith, h (Leaf rs))),
 )
 
-sized_pruned : {A : Type 0} (way : Key → Way) (next : Cut → Grammar A) → Follows next
-    → Sized 0 (pruned way next)
-sized_pruned way next h = (
+sized_layers : {A : Type 0} (v : Version) (way : Key → Way) (r : Rectangle) (next : ℕ → ℕ → Grammar A)
+    → ((m c : ℕ) → Sized 13 (next m c)) → Sized 0 (layers_and_count v way r next)
+sized_layers One way r next h = (inl refl, omega arith, h 0 0)
+sized_layers Two way r next h = (
   omega arith,
-  λ r. (
+  λ m. (
     inl refl,
     omega arith,
-    (
-      omega arith,
-      λ d. sized_any 14 (next (Pruned (record { rect = rect_in r; digest = bytes_in d })))
-          (h (Pruned (record { rect = rect_in r; digest = bytes_in d }))),
-    ),
+    (omega arith, λ c. sized_any 13 (next (number_in m) (number_in c)) (h (number_in m) (number_in c))),
   ),
+)
+
+sized_pruned : {A : Type 0} (v : Version) (way : Key → Way) (next : Cut → Grammar A) → Follows next
+    → Sized 0 (pruned v way next)
+sized_pruned v way next h = (
+  omega arith,
+  λ r. sized_layers v way (rect_in r)
+      (λ m c. reads want.Digest (λ d. next (Pruned (part_of (rect_in r) m c (bytes_in d)))))
+      (λ m c. (
+        omega arith,
+        λ d. sized_any 14 (next (Pruned (part_of (rect_in r) m c (bytes_in d))))
+            (h (Pruned (part_of (rect_in r) m c (bytes_in d)))),
+      )),
 )
 
 sized_items : {A : Type 0} (one : (Cut → Grammar A) → Grammar A)
@@ -316,20 +357,20 @@ sized_choice : {A : Type 0} (n : ℕ) (b : Bool) (g k : Grammar A) → Sized n g
 sized_choice n true g k p q = p
 sized_choice n false g k p q = q
 
-sized_item : {A : Type 0} (way : Key → Way) (v n : ℕ) (next : Cut → Grammar A) → Follows next
-    → Sized n (item way v next)
-sized_item way zero n next h = (
+sized_item : {A : Type 0} (v : Version) (way : Key → Way) (l n : ℕ) (next : Cut → Grammar A) → Follows next
+    → Sized n (item v way l next)
+sized_item v way zero n next h = (
   omega arith,
-  λ t. sized_choice 0 (tag_in t == pruned_tag) (pruned way next) (leaf way next)
-      (sized_pruned way next h) (sized_leaf way next h),
+  λ t. sized_choice 0 (tag_in t == pruned_tag) (pruned v way next) (leaf v way next)
+      (sized_pruned v way next h) (sized_leaf v way next h),
 )
-sized_item way (suc v) n next h = (
+sized_item v way (suc l) n next h = (
   omega arith,
-  λ t. sized_choice 0 (tag_in t == pruned_tag) (pruned way next) (inner way (item way v) next)
-      (sized_pruned way next h) (
+  λ t. sized_choice 0 (tag_in t == pruned_tag) (pruned v way next) (inner v way (item v way l) next)
+      (sized_pruned v way next h) (
         omega arith,
-        λ n. sized_any 14 (some_items (item way v) (number_in n) (λ Ps. opened way (Inner Ps) next))
-            (sized_items (item way v) (sized_item way v 14) (number_in n) (λ Ps. opened way (Inner Ps) next)
+        λ n. sized_any 14 (some_items (item v way l) (number_in n) (λ Ps. opened v way (Inner Ps) next))
+            (sized_items (item v way l) (sized_item v way l 14) (number_in n) (λ Ps. opened v way (Inner Ps) next)
             (λ Ps. (inr refl, omega arith, h (Inner Ps)))),
       ),
 )
@@ -350,8 +391,9 @@ sized_radius kind.K next h = (
       (h None) (omega arith, λ r. h (Some (wide_in r))),
 )
 
-sized_head : {A : Type 0} (k : Kind) (next : Head → Grammar A) → ((h : Head) → Sized 0 (next h)) → Sized 0 (head k next)
-sized_head k next h = (
+sized_head : {A : Type 0} (k : Kind) (two_only : Bool) (next : Head → Grammar A) → ((h : Head) → Sized 0 (next h))
+    → Sized 0 (head k two_only next)
+sized_head k two_only next h = (
   omega arith,
   λ m. (
     omega arith,
@@ -363,22 +405,22 @@ sized_head k next h = (
           omega arith,
           λ c.
               sized_radius k (λ r. level (number_in c)
-              (λ l. next (record { kind = k; batch = number_in b; count = number_in c; radius = r; level = l })))
+              (λ l. next (head_of (version_in v) k (number_in b) (number_in c) r l)))
               (λ r.
-              sized_level (number_in c) (λ l. next (record
-              { kind = k; batch = number_in b; count = number_in c; radius = r; level = l })) (λ l.
-              h (record { kind = k; batch = number_in b; count = number_in c; radius = r; level = l }))),
+              sized_level (number_in c) (λ l. next (head_of (version_in v) k (number_in b) (number_in c) r l))
+              (λ l. h (head_of (version_in v) k (number_in b) (number_in c) r l))),
         ),
       ),
     ),
   ),
 )
 
-pub sized_whole : (k : Kind) (way : Option ℕ → Key → Way) → Sized 0 (whole k way)
-sized_whole k way =
-    sized_head k (part way) (λ h.
-    sized_choice 0 (h.count == 0) (done (said h None)) (item (way h.radius) h.level (λ P. done (said h (Some P)))) tt
-    (sized_item (way h.radius) h.level 0 (λ P. done (said h (Some P))) (λ P. tt)))
+pub sized_whole : (k : Kind) (two_only : Bool) (way : Option ℕ → Key → Way) → Sized 0 (whole k two_only way)
+sized_whole k two_only way =
+    sized_head k two_only (part way) (λ h.
+    sized_choice 0 (h.count == 0) (done (said h None))
+    (item h.version (way h.radius) h.level (λ P. done (said h (Some P)))) tt
+    (sized_item h.version (way h.radius) h.level 0 (λ P. done (said h (Some P))) (λ P. tt)))
 
 -- ---- the whole
 
@@ -404,8 +446,8 @@ checked_agrees : (hash : List ℕ → List ℕ) (root : List ℕ) (a : Question)
 unfolding checked
 checked_agrees hash root a bytes =
     agree_first (ending hash root a) (last_faults hash root a) (ending_agrees hash root a) (ending_late hash root a)
-    (whole a.kind a.way)
-    (sized_whole a.kind a.way) tt (start bytes) (omega arith)
+    (whole a.kind a.two_only a.way)
+    (sized_whole a.kind a.two_only a.way) tt (start bytes) (omega arith)
 
 answer_agrees : {A B : Type 0} (r : Result A Fault) (m : A → B) (fs : List Fault) → Agrees r fs
     → Agrees (r >>= λ x. Ok (m x)) fs

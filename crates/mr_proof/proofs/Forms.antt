@@ -11,6 +11,7 @@ use Rattle.mr_proof.specs.declared.field.Field.{Field}
 use Rattle.mr_proof.specs.declared.field.Field.TheVariants as field
 use Rattle.mr_proof.specs.Limits.{count_limit, radius_limit, level_limit, leaf_limit, inner_limit}
 use Rattle.mr_record.specs.Record.{sides_of}
+use Rattle.mr_proof.proofs.FieldsTaken.{may_come_byte}
 use Rattle.mr_proof.specs.Fields.{size_of, field_of, HasForm, only_if, pruned_tag, opened_tag}
 
 -- a value that stands only where a test passes has what the test says
@@ -25,7 +26,9 @@ within most n t = let both = and_parts (nat_le 1 n) (nat_le n most) t in (leb-tr
 pub forms : (w : Want) (bytes : List ℕ) → length bytes ≡ size_of w → IfOk (field_of w bytes) (HasForm w)
 unfolding field_of
 forms want.Magic bytes e = if_passed want.Magic _ field.Plain rule.BadMagic (λ _. refl)
-forms want.Version bytes e = if_passed want.Version _ field.Plain rule.BadVersion (λ _. refl)
+forms (want.Version two_only) bytes e =
+    if_passed (want.Version two_only) _ (field.Num (slice_index bytes 0)) rule.BadVersion
+    (may_come_byte two_only (slice_index bytes 0))
 forms (want.Kind k) bytes e = if_passed (want.Kind k) _ field.Plain rule.WrongKind (λ _. refl)
 forms want.Batch bytes e = tt
 forms want.Count bytes e =
@@ -53,7 +56,13 @@ forms want.InnerCount bytes e =
     (within inner_limit (slice_index bytes 0))
 forms want.Number bytes e = tt
 forms want.Rect bytes e = if_passed want.Rect _ (field.Rect (sides_of bytes)) rule.BadRect (λ t. t)
+forms want.Layer bytes e =
+    if_passed want.Layer _ (field.Num (slice_index bytes 0)) rule.BadLayer (λ t. leb-true (slice_index bytes 0) 63 t)
 forms want.Length bytes e =
     if_passed want.Length _ (field.Num (slice_index bytes 0)) rule.BadLength (λ t. leb-true (slice_index bytes 0) 200 t)
 forms (want.Payload n) bytes e = e
+forms want.Mask bytes e = tt
+forms want.Tally bytes e =
+    if_passed want.Tally _ (field.Num (from_be_bytes w64 bytes)) rule.BadCount
+    (within count_limit (from_be_bytes w64 bytes))
 forms want.Digest bytes e = e

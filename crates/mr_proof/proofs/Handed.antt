@@ -4,7 +4,10 @@ use Rattle.std.specs.Prelude.{if◌then◌else◌, ◌==◌, not, ◌&&◌, nat_
 use Rattle.std.proofs.lemmas.Bool.{false≢true, cases_Bool}
 use Rattle.std.proofs.lemmas.List.{append-nil}
 use Rattle.std.proofs.lemmas.List.Elements.{filter-append}
+use Rattle.mr_geom.specs.Rectangle.{Rectangle}
 use Rattle.mr_record.specs.declared.record.Record.{Record}
+use Rattle.mr_record.specs.declared.version.Version.{Version}
+use Rattle.mr_record.specs.declared.version.Version.TheVariants.{One, Two}
 use Rattle.mr_proof.specs.declared.head.Kind.{Kind}
 use Rattle.mr_proof.specs.declared.head.Kind.TheVariants as kind
 use Rattle.mr_proof.specs.declared.head.Head.{Head}
@@ -18,13 +21,15 @@ use Rattle.mr_proof.specs.Limits.{place_limit}
 use Rattle.mr_proof.specs.Fields.{size_of, pruned_tag}
 use Rattle.mr_proof.specs.Cut.{Cut, Cuts, Pruned, Leaf, Inner, no_more, first, records, all_records}
 use Rattle.mr_proof.specs.Spelling.{Parsed, said, opened_records, IsSpelled}
-use Rattle.mr_proof.specs.Tight.{Key, keeps_at, Question, IsTightCut}
-use Rattle.mr_proof.specs.Grammar.{must, opens, Grammar, done, reads, notes, number_in, wide_in, tag_in, rect_in, bytes_in, payload, one_record, some_records, opened, leaf, some_items, inner, pruned, item, radius, level, head, part, whole}
+use Rattle.mr_query.specs.declared.key.Key.{Key}
+use Rattle.mr_proof.specs.Tight.{keeps_record, Question, MayCome, IsTightCut}
+use Rattle.mr_proof.specs.Grammar.{must, opens, Grammar, done, reads, notes, number_in, version_in, wide_in, tag_in, rect_in, bytes_in, payload, layer, one_record, some_records, opened, leaf, some_items, inner, layers_and_count, pruned, item, radius, level, head, part, whole}
 use Rattle.mr_proof.specs.Layout.{fault, Cursor, start, field_at}
 use Rattle.mr_proof.specs.Reading.{◌>>=◌, walk}
 use Rattle.mr_proof.specs.Handed.{is_fixed, if_read, if_handed, handed, handed_out}
 use Rattle.mr_proof.specs.Feeding.{IsFrontOfRecords, kept_records, HandsOpened}
-use Rattle.mr_proof.proofs.Values.{same_value}
+use Rattle.mr_proof.proofs.Laws.{either_comes}
+use Rattle.mr_proof.proofs.Values.{record_of, part_of, head_of, same_value}
 use Rattle.mr_proof.proofs.Completeness.{whole_again}
 
 -- the records on the way to the last field that are not left out, whatever the notes say is broken
@@ -157,7 +162,7 @@ kept_ends Q before (notes (opens r met) next) s y ends e =
 
 -- the records that are not left out
 abbrev out : (Key → Way) → List Record → List Record
-out way rs = filter (λ (r : Record). keeps_at way r.rect) rs
+out way rs = filter (keeps_record way) rs
 
 module _ {A : Type 0} (Q : A → List Record → Type 0) where
   none_more : (before : List Record) (g : Grammar A) → Ends Q (before ++ []) g → Ends Q before g
@@ -170,41 +175,56 @@ module _ {A : Type 0} (Q : A → List Record → Type 0) where
     | inr f ↦ rw f (λ p. h (bytes_in p))
   ]
 
-  ends_record : (before : List Record) (next : Record → Grammar A) → ((r : Record) → Ends Q before (next r))
-      → Ends Q before (one_record next)
-  ends_record before next h = λ n r l.
-      ends_payload before (number_in l)
-      (λ p. next (record { number = number_in n; rect = rect_in r; layer = 0; payload = p }))
-      (λ p. h (record { number = number_in n; rect = rect_in r; layer = 0; payload = p }))
+  ends_layer : (before : List Record) (v : Version) (next : ℕ → Grammar A) → ((i : ℕ) → Ends Q before (next i))
+      → Ends Q before (layer v next)
+  ends_layer before One next h = h 0
+  ends_layer before Two next h = λ l. h (number_in l)
 
-  ends_records : (before : List Record) (way : Key → Way) (n : ℕ) (next : List Record → Grammar A)
-      → ((rs : List Record) → Ends Q (before ++ out way rs) (next rs)) → Ends Q before (some_records way n next)
-  ends_records before way zero next h = none_more before (next []) (h [])
-  ends_records before way (suc n) next h =
-      ends_record before (λ r. notes (opens r (keeps_at way r.rect)) (some_records way n (λ rs. next (r ∷ rs))))
-      (λ r. ends_records (before ++ if_handed (keeps_at way r.rect) r []) way n (λ rs. next (r ∷ rs)) (λ rs.
+  ends_record : (before : List Record) (v : Version) (next : Record → Grammar A)
+      → ((r : Record) → Ends Q before (next r)) → Ends Q before (one_record v next)
+  ends_record before v next h = λ n r. ends_layer before v
+      (λ i. reads want.Length (λ l. payload (number_in l)
+      (λ p. next (record_of (number_in n) (rect_in r) i p))))
+      (λ i l. ends_payload before (number_in l)
+      (λ p. next (record_of (number_in n) (rect_in r) i p))
+      (λ p. h (record_of (number_in n) (rect_in r) i p)))
+
+  ends_records : (before : List Record) (v : Version) (way : Key → Way) (n : ℕ) (next : List Record → Grammar A)
+      → ((rs : List Record) → Ends Q (before ++ out way rs) (next rs)) → Ends Q before (some_records v way n next)
+  ends_records before v way zero next h = none_more before (next []) (h [])
+  ends_records before v way (suc n) next h =
+      ends_record before v (λ r. notes (opens r (keeps_record way r)) (some_records v way n (λ rs. next (r ∷ rs))))
+      (λ r. ends_records (before ++ if_handed (keeps_record way r) r []) v way n (λ rs. next (r ∷ rs)) (λ rs.
       subst (λ (z : List Record). Ends Q z (next (r ∷ rs)))
-      (sym (one_more (keeps_at way r.rect) before r (out way rs))) (h (r ∷ rs))))
+      (sym (one_more (keeps_record way r) before r (out way rs))) (h (r ∷ rs))))
 
   -- what follows a cut, with its records
   abbrev Behind : (Key → Way) → List Record → (Cut → Grammar A) → Type 0
   Behind way before next = (P : Cut) → Ends Q (before ++ out way (records P)) (next P)
 
-  ends_leaf : (before : List Record) (way : Key → Way) (next : Cut → Grammar A) → Behind way before next
-      → Ends Q before (leaf way next)
-  ends_leaf before way next h = λ n.
-      ends_records before way (number_in n) (λ rs. opened way (Leaf rs) next) (λ rs. h (Leaf rs))
+  ends_leaf : (before : List Record) (v : Version) (way : Key → Way) (next : Cut → Grammar A) → Behind way before next
+      → Ends Q before (leaf v way next)
+  ends_leaf before v way next h = λ n.
+      ends_records before v way (number_in n) (λ rs. opened v way (Leaf rs) next) (λ rs. h (Leaf rs))
 
-  ends_pruned : (before : List Record) (way : Key → Way) (next : Cut → Grammar A) → Behind way before next
-      → Ends Q before (pruned way next)
-  ends_pruned before way next h = λ r d.
-      none_more before (next (Pruned (record { rect = rect_in r; digest = bytes_in d })))
-      (h (Pruned (record { rect = rect_in r; digest = bytes_in d })))
+  ends_layers : (before : List Record) (v : Version) (way : Key → Way) (r : Rectangle) (next : ℕ → ℕ → Grammar A)
+      → ((m c : ℕ) → Ends Q before (next m c)) → Ends Q before (layers_and_count v way r next)
+  ends_layers before One way r next h = h 0 0
+  ends_layers before Two way r next h = λ m c. h (number_in m) (number_in c)
+
+  ends_pruned : (before : List Record) (v : Version) (way : Key → Way) (next : Cut → Grammar A)
+      → Behind way before next → Ends Q before (pruned v way next)
+  ends_pruned before v way next h = λ r. ends_layers before v way (rect_in r)
+      (λ m c. reads want.Digest
+      (λ d. next (Pruned (part_of (rect_in r) m c (bytes_in d)))))
+      (λ m c d. none_more before
+      (next (Pruned (part_of (rect_in r) m c (bytes_in d))))
+      (h (Pruned (part_of (rect_in r) m c (bytes_in d)))))
 
   two_parts : (before : List Record) (way : Key → Way) (xs ys : List Record)
       → before ++ out way (xs ++ ys) ≡ (before ++ out way xs) ++ out way ys
   two_parts before way xs ys =
-      ap (λ (z : List Record). before ++ z) (filter-append (λ (r : Record). keeps_at way r.rect) xs ys)
+      ap (λ (z : List Record). before ++ z) (filter-append (keeps_record way) xs ys)
       ∙ sym (append_assoc before (out way xs) (out way ys))
 
   ends_items : (way : Key → Way) (one : (Cut → Grammar A) → Grammar A)
@@ -224,16 +244,16 @@ module _ {A : Type 0} (Q : A → List Record → Type 0) where
   ends_choice before true g k p q = p
   ends_choice before false g k p q = q
 
-  ends_item : (way : Key → Way) (v : ℕ) (before : List Record) (next : Cut → Grammar A)
-      → Behind way before next → Ends Q before (item way v next)
-  ends_item way zero before next h = λ t.
-      ends_choice before (tag_in t == pruned_tag) (pruned way next) (leaf way next)
-      (ends_pruned before way next h) (ends_leaf before way next h)
-  ends_item way (suc v) before next h = λ t.
-      ends_choice before (tag_in t == pruned_tag) (pruned way next) (inner way (item way v) next)
-      (ends_pruned before way next h) (λ n.
-      ends_items way (item way v) (ends_item way v) before (number_in n)
-      (λ Ps. opened way (Inner Ps) next) (λ Ps. h (Inner Ps)))
+  ends_item : (v : Version) (way : Key → Way) (l : ℕ) (before : List Record) (next : Cut → Grammar A)
+      → Behind way before next → Ends Q before (item v way l next)
+  ends_item v way zero before next h = λ t.
+      ends_choice before (tag_in t == pruned_tag) (pruned v way next) (leaf v way next)
+      (ends_pruned before v way next h) (ends_leaf before v way next h)
+  ends_item v way (suc l) before next h = λ t.
+      ends_choice before (tag_in t == pruned_tag) (pruned v way next) (inner v way (item v way l) next)
+      (ends_pruned before v way next h) (λ n.
+      ends_items way (item v way l) (ends_item v way l) before (number_in n)
+      (λ Ps. opened v way (Inner Ps) next) (λ Ps. h (Inner Ps)))
 
   ends_level : (before : List Record) (count : ℕ) (next : ℕ → Grammar A) → ((n : ℕ) → Ends Q before (next n))
       → Ends Q before (level count next)
@@ -249,14 +269,14 @@ module _ {A : Type 0} (Q : A → List Record → Type 0) where
       ends_choice before (number_in f == 0) (next None) (reads want.Radius (λ r. next (Some (wide_in r)))) (h None)
       (λ r. h (Some (wide_in r)))
 
-  ends_head : (before : List Record) (k : Kind) (next : Head → Grammar A) → ((h : Head) → Ends Q before (next h))
-      → Ends Q before (head k next)
-  ends_head before k next each = λ m v w b c.
+  ends_head : (before : List Record) (k : Kind) (two_only : Bool) (next : Head → Grammar A)
+      → ((h : Head) → Ends Q before (next h)) → Ends Q before (head k two_only next)
+  ends_head before k two_only next each = λ m v w b c.
       ends_radius before k (λ r. level (number_in c)
-      (λ l. next (record { kind = k; batch = number_in b; count = number_in c; radius = r; level = l })))
-      (λ r. ends_level before (number_in c) (λ l. next (record
-      { kind = k; batch = number_in b; count = number_in c; radius = r; level = l })) (λ l.
-      each (record { kind = k; batch = number_in b; count = number_in c; radius = r; level = l })))
+      (λ l. next (head_of (version_in v) k (number_in b) (number_in c) r l)))
+      (λ r. ends_level before (number_in c)
+      (λ l. next (head_of (version_in v) k (number_in b) (number_in c) r l))
+      (λ l. each (head_of (version_in v) k (number_in b) (number_in c) r l)))
 
 -- ---- the whole
 
@@ -264,34 +284,36 @@ module _ {A : Type 0} (Q : A → List Record → Type 0) where
 abbrev AreKept : (Option ℕ → Key → Way) → Parsed → List Record → Type 0
 AreKept way x rs = rs ≡ out (way x.head.radius) (opened_records x.part)
 
-ends_whole : (k : Kind) (way : Option ℕ → Key → Way) → Ends (AreKept way) [] (whole k way)
-ends_whole k way =
-    ends_head (AreKept way) [] k (part way) (λ h.
+ends_whole : (k : Kind) (two_only : Bool) (way : Option ℕ → Key → Way) → Ends (AreKept way) [] (whole k two_only way)
+ends_whole k two_only way =
+    ends_head (AreKept way) [] k two_only (part way) (λ h.
     ends_choice (AreKept way) [] (h.count == 0) (done (said h None))
-    (item (way h.radius) h.level (λ P. done (said h (Some P)))) refl
-    (ends_item (AreKept way) (way h.radius) h.level [] (λ P. done (said h (Some P))) (λ P. refl)))
+    (item h.version (way h.radius) h.level (λ P. done (said h (Some P)))) refl
+    (ends_item (AreKept way) h.version (way h.radius) h.level [] (λ P. done (said h (Some P))) (λ P. refl)))
 
 -- what bytes spell is read
 read_spelled : (heeds : Bool) (a : Question) (bytes : List ℕ) (h : Head) (P : Option Cut) → h.kind ≡ a.kind
-    → IsSpelled h P bytes → (heeds ≡ true → IfSome P (IsTightCut (a.way h.radius)))
-    → walk heeds reached (whole a.kind a.way) (start bytes) ≡ Ok (said h P)
-read_spelled heeds a bytes h P k spelled tight =
-    let x = whole_again heeds reached a.way bytes h P spelled tight in
-    subst (λ (z : Kind). walk heeds reached (whole z a.way) (start bytes) ≡ Ok (said h P)) k x.same
+    → MayCome a h.version → IsSpelled h P bytes
+    → (heeds ≡ true → IfSome P (IsTightCut h.version (a.way h.radius)))
+    → walk heeds reached (whole a.kind a.two_only a.way) (start bytes) ≡ Ok (said h P)
+read_spelled heeds a bytes h P k may spelled tight =
+    let x = whole_again heeds reached a.two_only a.way bytes h P (either_comes a h.version may) spelled tight in
+    subst (λ (z : Kind). walk heeds reached (whole z a.two_only a.way) (start bytes) ≡ Ok (said h P)) k x.same
 
-kept_spelled : (a : Question) (bytes : List ℕ) (h : Head) (P : Option Cut) → h.kind ≡ a.kind → IsSpelled h P bytes
-    → kept (whole a.kind a.way) (start bytes) ≡ kept_records a h P
-kept_spelled a bytes h P k spelled =
-    kept_ends (AreKept a.way) [] (whole a.kind a.way) (start bytes) (said h P) (ends_whole a.kind a.way)
-    (read_spelled false a bytes h P k spelled (λ e. absurd (false≢true e)))
+kept_spelled : (a : Question) (bytes : List ℕ) (h : Head) (P : Option Cut) → h.kind ≡ a.kind → MayCome a h.version
+    → IsSpelled h P bytes → kept (whole a.kind a.two_only a.way) (start bytes) ≡ kept_records a h P
+kept_spelled a bytes h P k may spelled =
+    kept_ends (AreKept a.way) [] (whole a.kind a.two_only a.way) (start bytes) (said h P)
+    (ends_whole a.kind a.two_only a.way) (read_spelled false a bytes h P k may spelled (λ e. absurd (false≢true e)))
 
 pub hands_opened : (a : Question) (bytes : List ℕ) → HandsOpened a bytes
 unfolding handed_out
 hands_opened a bytes = record {
-  front = λ h P k spelled.
-      subst (IsFrontOfRecords (handed (whole a.kind a.way) (start bytes))) (kept_spelled a bytes h P k spelled)
-      (front (whole a.kind a.way) (start bytes));
-  tight = λ h P k spelled tight.
-      (all_out (whole a.kind a.way) (start bytes) (said h P) (read_spelled true a bytes h P k spelled (λ e. tight))).1
-      ∙ kept_spelled a bytes h P k spelled;
+  front = λ h P k may spelled.
+      subst (IsFrontOfRecords (handed (whole a.kind a.two_only a.way) (start bytes)))
+      (kept_spelled a bytes h P k may spelled) (front (whole a.kind a.two_only a.way) (start bytes));
+  tight = λ h P k may spelled tight.
+      (all_out (whole a.kind a.two_only a.way) (start bytes) (said h P)
+      (read_spelled true a bytes h P k may spelled (λ e. tight))).1
+      ∙ kept_spelled a bytes h P k may spelled;
 }

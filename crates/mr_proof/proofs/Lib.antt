@@ -1,6 +1,5 @@
 pub mod Forms
 pub mod Values
-pub mod Plain
 pub mod Wide
 pub mod FirstFault
 pub mod FieldsTaken
@@ -14,7 +13,7 @@ pub mod Longer
 pub mod Handed
 pub mod Preimages
 pub mod Full
-pub mod PlainTrees
+pub mod LayeredTrees
 pub mod HonestCut
 pub mod KeptRecords
 pub mod Laws

@@ -15,7 +15,7 @@ use Rattle.mr_proof.specs.Tight.{Question}
 use Rattle.mr_proof.specs.Accepted.{root_found}
 use Rattle.mr_proof.specs.Grammar.{Grammar, must, opens, done, reads, notes, whole}
 use Rattle.mr_proof.specs.Layout.{fault, Cursor, start, field_or_fault, field_at}
-use Rattle.mr_proof.specs.Refused.{has_other_radius}
+use Rattle.mr_proof.specs.Refused.{has_other_radius, has_other_count}
 use Rattle.mr_proof.specs.Reading.{◌>>=◌, walk, ending, checked}
 use Rattle.mr_proof.specs.Halves.{IsSettled, StaysRefused}
 use Rattle.mr_proof.proofs.FirstFault.{faults_just}
@@ -85,14 +85,18 @@ walk_stays e more f settled last (notes (opens x met) next) s is = walk_stays e 
 
 -- ---- the whole
 
-end_stays : (b c d b2 : Bool) (t w r f : Fault) (x : Parsed) (after : Result Parsed Fault) → (b ≡ true → b2 ≡ true)
-    → (IsSettled w.rule → ⊥) → (IsSettled r.rule → ⊥) → IsSettled f.rule
-    → cond b (Err t) (cond (not c) (Err w) (cond d (Err r) (Ok x))) ≡ Err f → cond b2 (Err t) after ≡ Err f
-end_stays true c d b2 t w r f x after more no_w no_r settled e = rw (more refl) e
-end_stays false true true b2 t w r f x after more no_w no_r settled e =
+end_stays : (b c d o b2 : Bool) (t w r y f : Fault) (x : Parsed) (after : Result Parsed Fault)
+    → (b ≡ true → b2 ≡ true)
+    → (IsSettled w.rule → ⊥) → (IsSettled r.rule → ⊥) → (IsSettled y.rule → ⊥) → IsSettled f.rule
+    → cond b (Err t) (cond (not c) (Err w) (cond d (Err r) (cond o (Err y) (Ok x)))) ≡ Err f
+    → cond b2 (Err t) after ≡ Err f
+end_stays true c d o b2 t w r y f x after more no_w no_r no_y settled e = rw (more refl) e
+end_stays false true true o b2 t w r y f x after more no_w no_r no_y settled e =
     absurd (no_r (subst (λ (h : Fault). IsSettled h.rule) (sym (same_fault r f e)) settled))
-end_stays false true false b2 t w r f x after more no_w no_r settled e = absurd cc
-end_stays false false d b2 t w r f x after more no_w no_r settled e =
+end_stays false true false true b2 t w r y f x after more no_w no_r no_y settled e =
+    absurd (no_y (subst (λ (h : Fault). IsSettled h.rule) (sym (same_fault y f e)) settled))
+end_stays false true false false b2 t w r y f x after more no_w no_r no_y settled e = absurd cc
+end_stays false false d o b2 t w r y f x after more no_w no_r no_y settled e =
     absurd (no_w (subst (λ (h : Fault). IsSettled h.rule) (sym (same_fault w f e)) settled))
 
 ending_stays : (hash : List ℕ → List ℕ) (root : List ℕ) (a : Question) (more : List ℕ) (f : Fault) → IsSettled f.rule
@@ -101,22 +105,24 @@ unfolding ending
 ending_stays hash root a more f settled x s is =
     let found = root_found hash x.head x.part in
     let other = has_other_radius a.around x.head.radius (opened_records x.part) in
+    let counted = has_other_count x in
     let end = s.at + length s.rest in
     let far = s.at + length (s.rest ++ more) in
-    end_stays (nat_lt 0 (length s.rest)) (bytes_eq found root) other (nat_lt 0 (length (s.rest ++ more)))
-    (fault rule.Trailing s.at) (fault (rule.WrongRoot found) end) (fault rule.WrongRadius end) f x
+    end_stays (nat_lt 0 (length s.rest)) (bytes_eq found root) other counted (nat_lt 0 (length (s.rest ++ more)))
+    (fault rule.Trailing s.at) (fault (rule.WrongRoot found) end) (fault rule.WrongRadius end)
+    (fault rule.WrongTally end) f x
     (if not (bytes_eq found root) then Err (fault (rule.WrongRoot found) far) else if other then Err
-    (fault rule.WrongRadius far) else Ok x)
+    (fault rule.WrongRadius far) else if counted then Err (fault rule.WrongTally far) else Ok x)
     (λ t. let some : 0 < length s.rest = ltb-true 0 (length s.rest) t in
     lt-ltb 0 (length (s.rest ++ more)) (omega (arith, length-append s.rest more)))
-    (λ h. h) (λ h. h) settled is
+    (λ h. h) (λ h. h) (λ h. h) settled is
 
 checked_stays : (hash : List ℕ → List ℕ) (root : List ℕ) (a : Question) (bytes : List ℕ) (f : Fault) (more : List ℕ)
     → IsSettled f.rule → checked hash root a bytes ≡ Err f → checked hash root a (bytes ++ more) ≡ Err f
 unfolding checked
 checked_stays hash root a bytes f more settled e =
-    walk_stays (ending hash root a) more f settled (ending_stays hash root a more f settled) (whole a.kind a.way)
-    (start bytes) e
+    walk_stays (ending hash root a) more f settled (ending_stays hash root a more f settled)
+    (whole a.kind a.two_only a.way) (start bytes) e
 
 pub stays_refused : (hash : List ℕ → List ℕ) (root : List ℕ) (a : Question) (bytes : List ℕ)
     → StaysRefused hash root a bytes

@@ -9,7 +9,10 @@ use Rattle.mr_proof.specs.declared.rule.Rule.TheVariants as rule
 use Rattle.mr_proof.specs.declared.rule.Fault.{Fault}
 use Rattle.mr_proof.specs.Fields.{kind_byte}
 use Rattle.mr_proof.specs.Cut.{Cut}
-use Rattle.mr_proof.specs.Spelling.{Parsed, said, IsSpelled}
+use Rattle.mr_record.specs.declared.version.Version.{Version}
+use Rattle.mr_record.specs.declared.version.Version.TheVariants.{One, Two}
+use Rattle.mr_proof.specs.Spelling.{Parsed, said, FitsVersion, IsSpelled}
+use Rattle.mr_proof.specs.Tight.{needs_two}
 use Rattle.mr_proof.specs.Grammar.{whole}
 use Rattle.mr_proof.specs.Layout.{fault, start}
 use Rattle.mr_proof.specs.Reading.{walk, kind_in, at_end, if_spelled, anywhere, pair_of, pair_in}
@@ -35,15 +38,23 @@ queried_if false = tt
 
 -- ---- what is spelled is found
 
+-- a head of a kind that proofs of the second version alone have is of that version
+two_alone : (k : Kind) (v : Version) → FitsVersion k v → v ≡ One → needs_two k ≡ false
+two_alone kind.W v fits e = refl
+two_alone kind.K v fits e = refl
+two_alone (kind.Choice letter) v fits e = let never : One ≡ Two = sym e ∙ fits in absurd cc
+
 -- the pair that bytes spell is found in them, tight or not
 pub pair_found_of : (k : Kind) (h : Head) (P : Option Cut) (bytes : List ℕ) → h.kind ≡ k → IsSpelled h P bytes
     → pair_of k bytes ≡ Some (said h P)
 unfolding pair_of
 pair_found_of k h P bytes e s =
-    let x = whole_again false at_end anywhere bytes h P s (λ f. absurd (false≢true f)) in
-    let of_kind : if_spelled (walk false at_end (whole h.kind anywhere) (start bytes)) ≡ Some (said h P) =
-    ap if_spelled x.same ∙ (rw x.left refl) in
-    subst (λ (k : Kind). if_spelled (walk false at_end (whole k anywhere) (start bytes)) ≡ Some (said h P)) e of_kind
+    let x = whole_again false at_end (needs_two h.kind) anywhere bytes h P
+    (two_alone h.kind h.version s.head.version) s (λ f. absurd (false≢true f)) in
+    let of_kind : if_spelled (walk false at_end (whole h.kind (needs_two h.kind) anywhere) (start bytes))
+    ≡ Some (said h P) = ap if_spelled x.same ∙ (rw x.left refl) in
+    subst (λ (k : Kind). if_spelled (walk false at_end (whole k (needs_two k) anywhere) (start bytes))
+    ≡ Some (said h P)) e of_kind
 
 pub pair_found : (h : Head) (P : Option Cut) (bytes : List ℕ) → IsQueried h.kind → IsSpelled h P bytes
     → pair_in bytes ≡ Some (said h P)
@@ -72,13 +83,13 @@ pub pair_spelled : (k : Kind) (bytes : List ℕ) (x : Parsed) → IsBytes bytes 
     → (x.head.kind ≡ k) × IsSpelled x.head x.part bytes
 unfolding pair_of
 pair_spelled k bytes x fits e =
-    let t = take_whole false at_end k anywhere bytes x fits
-    (read_pair (walk false at_end (whole k anywhere) (start bytes)) x e) in
+    let t = take_whole false at_end k (needs_two k) anywhere bytes x (λ two. two) fits
+    (read_pair (walk false at_end (whole k (needs_two k) anywhere) (start bytes)) x e) in
     let z = not_failed (nat_lt 0 (length t.end.rest)) (fault rule.Trailing t.end.at) (Ok t.value) x t.rest in
     let same = same_found t.value x z.1 in (
       subst (λ (y : Parsed). y.head.kind ≡ k) same t.kind,
       subst (λ (y : Parsed). IsSpelled y.head y.part bytes) same
-          (spelled_whole false at_end k anywhere bytes x t (nothing_left t.end.rest z.0)),
+          (spelled_whole false at_end k (needs_two k) anywhere bytes x t (nothing_left t.end.rest z.0)),
     )
 
 pub finds_pair_of : (k : Kind) (bytes : List ℕ) → IsBytes bytes → FindsPairOf k bytes

@@ -1,4 +1,4 @@
--- Two roots with one preimage are of one version, batch, count, level, rectangle and digest.
+-- Two roots with one preimage are of one version, batch, count, level, rectangle, mask and digest.
 use Rattle.std.proofs.Common.{◌≡◌, ℕ, ◌<◌, ◌≤◌, ◌^◌, List, ◌∷◌, ◌++◌, length, eqb, refl, sym, ap, ◌∙◌, inl, inr, arith, append_assoc}
 use Rattle.std.specs.Int.{w64, to_be_bytes}
 use Rattle.std.proofs.lemmas.Bool.{cases_Bool, ne_eqb}
@@ -10,7 +10,7 @@ use Rattle.mr_record.specs.declared.version.Version.TheVariants.{One, Two}
 use Rattle.mr_tree.proofs.RootLengths.{length-word_bytes}
 use Rattle.mr_proof.proofs.Full.{IsThere}
 use Rattle.mr_proof.proofs.Spellings.{fronts, cons_parts, same_word}
-use Rattle.mr_proof.proofs.SameNodes.{SameEntry, same_rect, rect_long}
+use Rattle.mr_proof.proofs.SameNodes.{same_rect, rect_long}
 
 -- the bytes behind the tag and the version
 tail_of : Version → ℕ → ℕ → Entry → List ℕ
@@ -21,12 +21,18 @@ filled_root : (v : Version) (b c : ℕ) (e : Entry) → 1 ≤ c
 unfolding tail_of
 filled_root v b c e some = rw (ne_eqb c 0 (λ z. omega arith)) refl
 
+-- two entries of which a root preimage says the same
+pub record SameRootEntry (v : Version) (e f : Entry) : Type 0 where
+  pub rect : e.rect ≡ f.rect
+  pub mask : word_bytes v e.mask ≡ word_bytes v f.mask
+  pub digest : e.digest ≡ f.digest
+
 pub record SameRoot (v w : Version) (b c d k : ℕ) (e f : Entry) : Type 0 where
   pub version : v ≡ w
   pub batch : b ≡ d
   pub count : c ≡ k
   pub level : e.level ≡ f.level
-  pub same : SameEntry e f
+  pub same : SameRootEntry v e f
 
 -- of two versions with one byte
 same_version : (v w : Version) → version_byte v ≡ version_byte w → v ≡ w
@@ -55,8 +61,8 @@ parts a b c d m n x y p q e =
     record { batch = f.front; count = g.front; level = l.0; rest = l.1 }
 
 -- what stands behind the rectangle
-abbrev masked : Version → Entry → List ℕ
-masked v e = word_bytes v e.mask ++ e.digest
+abbrev two_only : Version → Entry → List ℕ
+two_only v e = word_bytes v e.mask ++ e.digest
 
 tails : (v : Version) (b c d k : ℕ) (e f : Entry) → b < 2 ^ 64 → c < 2 ^ 64 → d < 2 ^ 64 → k < 2 ^ 64
     → IsThere e.rect → IsThere f.rect → tail_of v b c e ≡ tail_of v d k f → SameRoot v v b c d k e f
@@ -64,7 +70,7 @@ unfolding tail_of
 tails v b c d k e f bl cl dl kl p q is =
     let x = parts (to_be_bytes w64 b) (to_be_bytes w64 d) (to_be_bytes w64 c) (to_be_bytes w64 k) e.level f.level
     (root_entry_bytes v e) (root_entry_bytes v f) refl refl is in
-    let y = fronts (rect_bytes e.rect) (rect_bytes f.rect) (masked v e) (masked v f)
+    let y = fronts (rect_bytes e.rect) (rect_bytes f.rect) (two_only v e) (two_only v f)
     (rect_long e.rect p ∙ sym (rect_long f.rect q)) x.rest in
     let z = fronts (word_bytes v e.mask) (word_bytes v f.mask) e.digest f.digest
     (length-word_bytes v e.mask ∙ sym (length-word_bytes v f.mask)) y.rest in
@@ -73,7 +79,7 @@ tails v b c d k e f bl cl dl kl p q is =
       batch = same_word b d bl dl x.batch;
       count = same_word c k cl kl x.count;
       level = x.level;
-      same = record { rect = same_rect e.rect f.rect p q y.front; digest = z.rest };
+      same = record { rect = same_rect e.rect f.rect p q y.front; mask = z.front; digest = z.rest };
     }
 
 -- of maps with records

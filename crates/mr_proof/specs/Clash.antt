@@ -1,7 +1,7 @@
 -- The first two strings, of the owner and of a proof, that stand at one place and differ.
 use Rattle.std.specs.Prelude.{◌≡◌, ◌≢◌, ℕ, ◌-◌, if◌then◌else◌, List, [], ◌∷◌, Option, Some, None, bytes_eq}
 use Rattle.mr_tree.specs.Digest as digests
-use Rattle.mr_tree.specs.Digest.{Scheme}
+use Rattle.mr_tree.specs.Digest.{Scheme, by}
 use Rattle.mr_tree.specs.declared.tree.Tree.{Tree}
 use Rattle.mr_tree.specs.declared.tree.Tree.TheOpen as node
 use Rattle.mr_tree.specs.declared.tree.Tree.TheOpen.{Tree-F}
@@ -37,31 +37,32 @@ abbrev pub children : Tree → List Tree
 children t = children_in (out-Tree t)
 
 abbrev mutual
-  -- Of a tree and a cut of this level, by the preimages of their nodes: a node before its children,
-  -- and children from left to right. What is pruned is left out.
-  pub node_clash : Scheme → (level : ℕ) → Tree → Cut → Option Pair
-  node_clash s level t (Pruned part) = None
-  node_clash s level t (Leaf records) =
-      differ (digests.preimage s t) (preimage s level (Leaf records))
-  node_clash s level t (Inner cuts) = or_else
-      (differ (digests.preimage s t) (preimage s level (Inner cuts)))
-      (children_clash s (level - 1) (children t) cuts)
+  -- Of a tree in one version and a cut of this level in another, by the preimages of their nodes: a
+  -- node before its children, and children from left to right. What is pruned is left out.
+  pub node_clash : (owned shown : Scheme) → (level : ℕ) → Tree → Cut → Option Pair
+  node_clash s u level t (Pruned part) = None
+  node_clash s u level t (Leaf records) =
+      differ (digests.preimage s t) (preimage u level (Leaf records))
+  node_clash s u level t (Inner cuts) = or_else
+      (differ (digests.preimage s t) (preimage u level (Inner cuts)))
+      (children_clash s u (level - 1) (children t) cuts)
 
-  pub children_clash : Scheme → (level : ℕ) → List Tree → Cuts → Option Pair
-  children_clash s level ts no_more = None
-  children_clash s level [] (first P Ps) = None
-  children_clash s level (t ∷ ts) (first P Ps) =
-      or_else (node_clash s level t P) (children_clash s level ts Ps)
+  pub children_clash : (owned shown : Scheme) → (level : ℕ) → List Tree → Cuts → Option Pair
+  children_clash s u level ts no_more = None
+  children_clash s u level [] (first P Ps) = None
+  children_clash s u level (t ∷ ts) (first P Ps) =
+      or_else (node_clash s u level t P) (children_clash s u level ts Ps)
 
-abbrev pub part_clash : Scheme → (level : ℕ) → Tree → Option Cut → Option Pair
-part_clash s level t None = None
-part_clash s level t (Some P) = node_clash s level t P
+abbrev pub part_clash : (owned shown : Scheme) → (level : ℕ) → Tree → Option Cut → Option Pair
+part_clash s u level t None = None
+part_clash s u level t (Some P) = node_clash s u level t P
 
--- of the map with this tree at this batch, and a head and a cut: the roots before the nodes
+-- Of the map with this tree at this batch, in its version, and a head and a cut, in the head's: the
+-- roots before the nodes.
 abbrev pub pair_clash : Scheme → Tree → (batch : ℕ) → Parsed → Option Pair
 pair_clash s t batch x = or_else
     (differ (digests.root_preimage_of s t batch) (Some (proof_preimage s.of x.head x.part)))
-    (part_clash s x.head.level t x.part)
+    (part_clash s (by x.head.version s.of) x.head.level t x.part)
 
 abbrev pub if_said : Option Parsed → (Parsed → Option Pair) → Option Pair
 if_said None f = None

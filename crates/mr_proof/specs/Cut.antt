@@ -1,8 +1,9 @@
 -- A cut of a tree: some nodes of it opened, the other parts pruned.
-use Rattle.std.specs.Prelude.{◌≡◌, ℕ, ◌+◌, ◌-◌, List, [], ◌∷◌, ◌++◌, Option, Some, None, option_map}
+use Rattle.std.specs.Prelude.{◌≡◌, ℕ, ◌+◌, ◌-◌, List, [], ◌∷◌, ◌++◌, Option, Some, None, option_map, sum}
+use Rattle.mr_record.specs.declared.version.Version.{Version}
 use Rattle.mr_geom.specs.Rectangle.{Rectangle}
 use Rattle.mr_record.specs.declared.record.Record.{Record}
-use Rattle.mr_tree.specs.Tree.{union_of, rect_step}
+use Rattle.mr_tree.specs.Tree.{union_of, rect_step, mask_of, mask_step, count_step}
 use Rattle.mr_tree.specs.Tree as tree
 use Rattle.mr_tree.specs.Digest.{Scheme, entry_step, node_preimage}
 use Rattle.mr_tree.specs.Digest as digests
@@ -27,17 +28,21 @@ mutual
 -- ---- what is shown of a pruned part: what its parent's entry shows of it
 
 abbrev pub shown_with : Entry → Rectangle → PrunedEntry
-shown_with e r = record { rect = r; digest = e.digest }
+shown_with e r = record { rect = r; mask = e.mask; count = e.count; digest = e.digest }
 
 -- the entry of the empty tree, of which there is no cut, has no rectangle and shows nothing
 abbrev pub pruned_entry : Entry → Option PrunedEntry
 pruned_entry e = option_map (shown_with e) e.rect
 
--- the entry of a part of this level, by what is shown of it; the version of proofs tells of no
--- layers and no counts
+-- the entry of a part of this level, by what is shown of it
 abbrev pub entry_shown : (level : ℕ) → PrunedEntry → Entry
-entry_shown level part = record
-    { level = level; rect = Some part.rect; mask = 0; count = 0; digest = part.digest }
+entry_shown level part = record {
+  level = level;
+  rect = Some part.rect;
+  mask = part.mask;
+  count = part.count;
+  digest = part.digest;
+}
 
 abbrev pub pruned_if : Option PrunedEntry → Cut
 pruned_if None = Leaf []
@@ -69,6 +74,28 @@ abbrev mutual
   pub rects : Cuts → List (Option Rectangle)
   rects no_more = []
   rects (first P Ps) = rect P ∷ rects Ps
+
+abbrev mutual
+  -- the mask of the layers of the tree, as a version tells it
+  pub mask : Version → Cut → ℕ
+  mask v (Pruned part) = part.mask
+  mask v (Leaf records) = mask_step v (node.Leaf records)
+  mask v (Inner cuts) = mask_of (masks v cuts)
+
+  pub masks : Version → Cuts → List ℕ
+  masks v no_more = []
+  masks v (first P Ps) = mask v P ∷ masks v Ps
+
+abbrev mutual
+  -- the number of records of the tree, as a version tells it
+  pub count : Version → Cut → ℕ
+  count v (Pruned part) = part.count
+  count v (Leaf records) = count_step v (node.Leaf records)
+  count v (Inner cuts) = sum (counts v cuts)
+
+  pub counts : Version → Cuts → List ℕ
+  counts v no_more = []
+  counts v (first P Ps) = count v P ∷ counts v Ps
 
 abbrev mutual
   -- what the parent of the tree, a tree of this level, knows of it
@@ -120,6 +147,8 @@ abbrev mutual
   -- this is a cut of that tree
   pub CutOf : Scheme → Cut → Tree → Type 0
   CutOf s (Pruned part) t = (Some part.rect ≡ tree.rect t)
+      × (part.mask ≡ tree.mask s.version t)
+      × (part.count ≡ tree.count s.version t)
       × (part.digest ≡ digests.digest s t)
   CutOf s (Leaf records) t = t ≡ trees.Leaf records
   CutOf s (Inner cuts) t = (children : List Tree) × (t ≡ trees.Inner children)

@@ -7,7 +7,7 @@ use Rattle.mr_proof.specs.declared.head.Head.{Head}
 use Rattle.mr_proof.specs.declared.rule.Fault.{Fault}
 use Rattle.mr_proof.specs.Cut.{Cut}
 use Rattle.mr_proof.specs.Spelling.{Parsed, opened_records, IsSpelled}
-use Rattle.mr_proof.specs.Tight.{Question, question, keeps_at, IsTightCut}
+use Rattle.mr_proof.specs.Tight.{Question, question, keeps_record, MayCome, IsTightCut}
 use Rattle.mr_proof.specs.Reading.{checked, verdict}
 use Rattle.mr_proof.specs.Halves.{IsSettled}
 use Rattle.mr_proof.specs.Handed.{handed_out}
@@ -39,16 +39,18 @@ IsFrontOfRecords some all = (rest : List Record) × (all ≡ some ++ rest)
 
 -- the records that are opened and not left out, in reading order
 abbrev pub kept_records : Question → Head → Option Cut → List Record
-kept_records a h P = filter (λ (r : Record). keeps_at (a.way h.radius) r.rect) (opened_records P)
+kept_records a h P = filter (keeps_record (a.way h.radius)) (opened_records P)
 
--- Of bytes that spell a head and a cut the records handed out are the first of those opened that
--- are not left out, and all of them where the cut's parts are tight: whatever the root digest and
--- the radius, accepted or not.
+-- Of bytes that spell a head, of a version that may come, and a cut the records handed out are the
+-- first of those opened that are not left out, and all of them where the cut's parts are tight:
+-- whatever the root digest and the radius, accepted or not.
 pub record HandsOpened (a : Question) (bytes : List ℕ) : Type 0 where
-  pub front : (h : Head) (P : Option Cut) → h.kind ≡ a.kind → IsSpelled h P bytes
+  pub front : (h : Head) (P : Option Cut) → h.kind ≡ a.kind → MayCome a h.version
+      → IsSpelled h P bytes
       → IsFrontOfRecords (handed_out a bytes) (kept_records a h P)
-  pub tight : (h : Head) (P : Option Cut) → h.kind ≡ a.kind → IsSpelled h P bytes
-      → IfSome P (IsTightCut (a.way h.radius)) → handed_out a bytes ≡ kept_records a h P
+  pub tight : (h : Head) (P : Option Cut) → h.kind ≡ a.kind → MayCome a h.version
+      → IsSpelled h P bytes
+      → IfSome P (IsTightCut h.version (a.way h.radius)) → handed_out a bytes ≡ kept_records a h P
 
 -- the proof is accepted, with this head and cut; and the records that were handed out are those
 -- opened that are not left out, in reading order
@@ -56,7 +58,7 @@ pub record HandsOut (hash : List ℕ → List ℕ) (root : List ℕ) (a : Questi
     (x : Parsed) : Type 0 where
   pub is_read : checked hash root a bytes ≡ Ok x
   pub all : handed_out a bytes
-      ≡ filter (λ (r : Record). keeps_at (a.way x.head.radius) r.rect) (opened_records x.part)
+      ≡ filter (keeps_record (a.way x.head.radius)) (opened_records x.part)
 
 -- for a query their scan is the answer
 pub record HandsOutAll (hash : List ℕ → List ℕ) (root : List ℕ) (q : Query)

@@ -1,13 +1,13 @@
 -- The fields of a proof, each by itself: its size, and the value of its bytes or the rule that they
 -- break.
-use Rattle.std.specs.Prelude.{◌≡◌, ◌⊎◌, ℕ, ◌<◌, ◌≤◌, ◌^◌, ⊤, Bool, true, ◌==◌, ◌&&◌, ◌||◌, nat_le, if◌then◌else◌, List, [], ◌∷◌, length, slice_index, bytes_eq, Result, Ok, Err, pos}
+use Rattle.std.specs.Prelude.{◌≡◌, ◌⊎◌, ℕ, ◌<◌, ◌≤◌, ◌^◌, ⊤, Bool, true, false, not, ◌==◌, ◌&&◌, ◌||◌, nat_le, if◌then◌else◌, List, [], ◌∷◌, length, slice_index, bytes_eq, Result, Ok, Err, pos}
 use Rattle.std.specs.Int.{w64, w128, from_be_bytes, to_be_bytes}
 use Rattle.mr_geom.specs.Rectangle.{Rectangle, FitsMap, in_order}
 use Rattle.mr_record.specs.private.Bytes.{AreBytes}
 use Rattle.mr_record.specs.Record.{sides_of, rectangle_bytes}
-use Rattle.mr_record.specs.Version.{version_byte}
+use Rattle.mr_record.specs.Version.{version_byte, highest_layer}
 use Rattle.mr_record.specs.declared.version.Version.{Version}
-use Rattle.mr_record.specs.declared.version.Version.TheVariants.{One}
+use Rattle.mr_record.specs.declared.version.Version.TheVariants.{One, Two}
 use Rattle.mr_proof.specs.Limits.{count_limit, radius_limit, level_limit, leaf_limit, inner_limit, payload_limit}
 use Rattle.mr_proof.specs.declared.head.Kind.{Kind}
 use Rattle.mr_proof.specs.declared.head.Kind.TheVariants as kind
@@ -21,7 +21,7 @@ use Rattle.mr_proof.specs.declared.field.Field.TheVariants as field
 -- how many bytes a field has
 abbrev pub size_of : Want → ℕ
 size_of want.Magic = 4
-size_of want.Version = 1
+size_of (want.Version two_only) = 1
 size_of (want.Kind k) = 1
 size_of want.Batch = 8
 size_of want.Count = 8
@@ -33,8 +33,11 @@ size_of want.LeafCount = 1
 size_of want.InnerCount = 1
 size_of want.Number = 8
 size_of want.Rect = 16
+size_of want.Layer = 1
 size_of want.Length = 1
 size_of (want.Payload n) = n
+size_of want.Mask = 8
+size_of want.Tally = 8
 size_of want.Digest = 32
 
 -- a payload is wanted with no more bytes than one may have
@@ -49,10 +52,6 @@ only_if good value broken = if good then Ok value else Err broken
 -- `MRVO`
 abbrev pub magic : List ℕ
 magic = 77 ∷ 82 ∷ 86 ∷ 79 ∷ []
-
--- the version of proofs, so far the only one
-abbrev pub version : Version
-version = One
 
 -- `W` or `K`, or the letter of a choice
 abbrev pub kind_byte : Kind → ℕ
@@ -80,14 +79,22 @@ tag_of level b = only_if (b == pruned_tag || b == opened_tag level) (field.Tag b
 abbrev pub entries_of : ℕ → ℕ → Result Field Rule
 entries_of most n = only_if (nat_le 1 n && nat_le n most) (field.Num n) rule.BadEntries
 
+-- the byte of a version: of either, or where only the second one may come of that
+abbrev pub version_field : Bool → ℕ → Result Field Rule
+version_field two_only b =
+    only_if (b == version_byte Two || (not two_only && b == version_byte One))
+    (field.Num b) rule.BadVersion
+
+abbrev pub tally_field : ℕ → Result Field Rule
+tally_field n = only_if (nat_le 1 n && nat_le n count_limit) (field.Num n) rule.BadCount
+
 abbrev pub rectangle_field : Rectangle → Result Field Rule
 rectangle_field r = only_if (in_order r) (field.Rect r) rule.BadRect
 
 -- the value of a field's bytes, else the rule that they break
 unfoldable pub field_of : Want → List ℕ → Result Field Rule
 field_of want.Magic bytes = only_if (bytes_eq bytes magic) field.Plain rule.BadMagic
-field_of want.Version bytes =
-    only_if (slice_index bytes 0 == version_byte version) field.Plain rule.BadVersion
+field_of (want.Version two_only) bytes = version_field two_only (slice_index bytes 0)
 field_of (want.Kind k) bytes =
     only_if (slice_index bytes 0 == kind_byte k) field.Plain rule.WrongKind
 field_of want.Batch bytes = Ok (field.Num (from_be_bytes w64 bytes))
@@ -107,10 +114,15 @@ field_of want.LeafCount bytes = entries_of leaf_limit (slice_index bytes 0)
 field_of want.InnerCount bytes = entries_of inner_limit (slice_index bytes 0)
 field_of want.Number bytes = Ok (field.Num (from_be_bytes w64 bytes))
 field_of want.Rect bytes = rectangle_field (sides_of bytes)
+field_of want.Layer bytes =
+    only_if (nat_le (slice_index bytes 0) (highest_layer Two))
+    (field.Num (slice_index bytes 0)) rule.BadLayer
 field_of want.Length bytes =
     only_if (nat_le (slice_index bytes 0) payload_limit)
     (field.Num (slice_index bytes 0)) rule.BadLength
 field_of (want.Payload n) bytes = Ok (field.Payload bytes)
+field_of want.Mask bytes = Ok (field.Num (from_be_bytes w64 bytes))
+field_of want.Tally bytes = tally_field (from_be_bytes w64 bytes)
 field_of want.Digest bytes = Ok (field.Digest bytes)
 
 -- ---- what a field holds, where it is one of this form
@@ -118,6 +130,10 @@ field_of want.Digest bytes = Ok (field.Digest bytes)
 abbrev pub number_in : Field → ℕ
 number_in (field.Num n) = n
 number_in _ = 0
+
+-- the version of its byte
+abbrev pub version_in : Field → Version
+version_in f = if number_in f == version_byte One then One else Two
 
 abbrev pub wide_in : Field → ℕ
 wide_in (field.Wide n) = n
@@ -143,7 +159,7 @@ bytes_in _ = []
 
 unfoldable pub field_bytes : Want → Field → List ℕ
 field_bytes want.Magic f = magic
-field_bytes want.Version f = version_byte version ∷ []
+field_bytes (want.Version two_only) f = number_in f ∷ []
 field_bytes (want.Kind k) f = kind_byte k ∷ []
 field_bytes want.Batch f = to_be_bytes w64 (number_in f)
 field_bytes want.Count f = to_be_bytes w64 (number_in f)
@@ -155,8 +171,11 @@ field_bytes want.LeafCount f = number_in f ∷ []
 field_bytes want.InnerCount f = number_in f ∷ []
 field_bytes want.Number f = to_be_bytes w64 (number_in f)
 field_bytes want.Rect f = rectangle_bytes (rect_in f)
+field_bytes want.Layer f = number_in f ∷ []
 field_bytes want.Length f = number_in f ∷ []
 field_bytes (want.Payload n) f = bytes_in f
+field_bytes want.Mask f = to_be_bytes w64 (number_in f)
+field_bytes want.Tally f = to_be_bytes w64 (number_in f)
 field_bytes want.Digest f = bytes_in f
 
 -- ---- which values there are
@@ -196,10 +215,13 @@ abbrev pub DigestWith : (List ℕ → Type 0) → Field → Type 0
 DigestWith P (field.Digest bytes) = P bytes
 DigestWith P _ = ⊥
 
+abbrev pub IsVersionByte : Bool → ℕ → Type 0
+IsVersionByte two_only n = (n ≡ version_byte Two) ⊎ ((two_only ≡ false) × (n ≡ version_byte One))
+
 -- the value is one that the field may have
 abbrev pub HasForm : Want → Field → Type 0
 HasForm want.Magic f = f ≡ field.Plain
-HasForm want.Version f = f ≡ field.Plain
+HasForm (want.Version two_only) f = NumberWith (IsVersionByte two_only) f
 HasForm (want.Kind k) f = f ≡ field.Plain
 HasForm want.Batch f = NumberWith (λ n. ⊤) f
 HasForm want.Count f = NumberWith (λ n. n ≤ count_limit) f
@@ -211,8 +233,11 @@ HasForm want.LeafCount f = NumberWith (λ n. (1 ≤ n) × (n ≤ leaf_limit)) f
 HasForm want.InnerCount f = NumberWith (λ n. (1 ≤ n) × (n ≤ inner_limit)) f
 HasForm want.Number f = NumberWith (λ n. ⊤) f
 HasForm want.Rect f = RectWith (λ r. in_order r ≡ true) f
+HasForm want.Layer f = NumberWith (λ n. n ≤ highest_layer Two) f
 HasForm want.Length f = NumberWith (λ n. n ≤ payload_limit) f
 HasForm (want.Payload n) f = PayloadWith (λ bytes. length bytes ≡ n) f
+HasForm want.Mask f = NumberWith (λ n. ⊤) f
+HasForm want.Tally f = NumberWith (λ n. (1 ≤ n) × (n ≤ count_limit)) f
 HasForm want.Digest f = DigestWith (λ bytes. length bytes ≡ 32) f
 
 -- the fields with a number

@@ -15,7 +15,7 @@ use Rattle.mr_proof.specs.declared.rule.Rule.TheVariants as rule
 use Rattle.mr_proof.specs.declared.rule.Fault.{Fault}
 use Rattle.mr_proof.specs.Cut.{Cut, CutOf}
 use Rattle.mr_proof.specs.Spelling.{Parsed, said, IsSpelled}
-use Rattle.mr_proof.specs.Tight.{Question, question, IsTight}
+use Rattle.mr_proof.specs.Tight.{Question, MayCome, question, IsTight}
 use Rattle.mr_proof.specs.Accepted.{root_found, ShowsCut, ProvesAnswer}
 use Rattle.mr_proof.specs.Honest.{honest_head, honest_part, honest_said, proof_for, proof}
 use Rattle.mr_proof.specs.Refused.{IsRefused}
@@ -50,6 +50,7 @@ abbrev pub IsSettled : Rule → Type 0
 IsSettled rule.Short = ⊥
 IsSettled (rule.WrongRoot found) = ⊥
 IsSettled rule.WrongRadius = ⊥
+IsSettled rule.WrongTally = ⊥
 IsSettled _ = ⊤
 
 -- such a fault of the bytes is that of all longer ones
@@ -58,19 +59,21 @@ StaysRefused hash root a bytes =
     (f : Fault) (more : List ℕ) → IsSettled f.rule → IsRefused hash root a bytes f
     → IsRefused hash root a (bytes ++ more) f
 
--- the honest proof of every map of the scheme's version is accepted, as that of its head and cut
+-- the honest proof of every map of the scheme's version, where there is one, is accepted, as that
+-- of its head and cut
 abbrev pub AcceptsHonestProof : Scheme → Question → Type 0
 AcceptsHonestProof s a =
-    (t : Tree) (batch : ℕ) → WellFormed t → HasLayers s.version t → batch < 2 ^ 64
+    (t : Tree) (batch : ℕ) → MayCome a s.version → WellFormed t → HasLayers s.version t
+    → batch < 2 ^ 64
     → checked s.of (root s t batch) a (proof_for s a t batch) ≡ Ok (honest_said s a t batch)
 
 -- it spells its head and its cut, which is a tight cut of the tree, with the map's root digest; and
 -- it is short
 pub record IsHonestProof (s : Scheme) (t : Tree) (batch : ℕ) (a : Question) : Type 0 where
-  pub spelled : IsSpelled (honest_head a t batch) (honest_part s a t) (proof_for s a t batch)
-  pub tight : IsTight a (honest_head a t batch) (honest_part s a t)
+  pub spelled : IsSpelled (honest_head s a t batch) (honest_part s a t) (proof_for s a t batch)
+  pub tight : IsTight a (honest_head s a t batch) (honest_part s a t)
   pub cut : IfSome (honest_part s a t) (λ P. CutOf s P t)
-  pub held : root_found s.of (honest_head a t batch) (honest_part s a t) ≡ root s t batch
+  pub held : root_found s.of (honest_head s a t batch) (honest_part s a t) ≡ root s t batch
   pub short : length (proof_for s a t batch) < 2 ^ 30
 
 -- ---- of queries
@@ -113,9 +116,9 @@ FindsPair bytes =
     (h : Head) (P : Option Cut) → (IsQueried h.kind × IsSpelled h P bytes)
     ↔ (pair_in bytes ≡ Some (said h P))
 
--- the honest proof of every map of the scheme's version is accepted, with the answer of a scan of
--- the map's records
+-- the honest proof of every map of the scheme's version, where there is one, is accepted, with the
+-- answer of a scan of the map's records
 abbrev pub AcceptsHonest : Scheme → Query → Type 0
 AcceptsHonest s q =
-    (t : Tree) (batch : ℕ) → WellFormed t → HasLayers s.version t → batch < 2 ^ 64
-    → verdict s.of (root s t batch) q (proof s t batch q) ≡ Ok (scan (records t) q)
+    (t : Tree) (batch : ℕ) → MayCome (question q) s.version → WellFormed t → HasLayers s.version t
+    → batch < 2 ^ 64 → verdict s.of (root s t batch) q (proof s t batch q) ≡ Ok (scan (records t) q)

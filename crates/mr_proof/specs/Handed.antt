@@ -36,4 +36,4 @@ handed (notes (opens r met) next) s =
 
 -- those of the bytes, as a proof of what is asked
 unfoldable pub handed_out : Question → List ℕ → List Record
-handed_out a bytes = handed (whole a.kind a.way) (start bytes)
+handed_out a bytes = handed (whole a.kind a.two_only a.way) (start bytes)

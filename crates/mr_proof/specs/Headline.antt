@@ -1,6 +1,6 @@
 -- What an accepted proof is worth: it is the honest proof and its answer that of a scan of the
 -- map's records, or it shows two strings that differ and have one hash.
-use Rattle.std.specs.Prelude.{◌≡◌, ◌≢◌, ◌⊎◌, ℕ, ◌^◌, ◌<◌, List, Some, None, Ok, Err}
+use Rattle.std.specs.Prelude.{◌≡◌, ◌⊎◌, ℕ, ◌^◌, ◌<◌, List, Some, None, Ok, Err}
 use Rattle.mr_record.specs.declared.record.Record.{Record}
 use Rattle.mr_tree.specs.Tree.{records}
 use Rattle.mr_tree.specs.Digest.{Scheme, root}
@@ -10,9 +10,9 @@ use Rattle.mr_query.specs.declared.query.Query.{Query}
 use Rattle.mr_query.specs.Scan.{scan}
 use Rattle.mr_proof.specs.declared.rule.Fault.{Fault}
 use Rattle.mr_proof.specs.Spelling.{Parsed}
-use Rattle.mr_proof.specs.Tight.{Question}
+use Rattle.mr_proof.specs.Tight.{Question, MayCome, question}
 use Rattle.mr_proof.specs.Accepted.{ProvesAnswer}
-use Rattle.mr_proof.specs.Honest.{honest_said, proof_for, proof}
+use Rattle.mr_proof.specs.Honest.{honest_said, proof_for, proof, IsProofFor, IsProof}
 use Rattle.mr_proof.specs.Reading.{checked, verdict}
 use Rattle.mr_proof.specs.Clash.{Pair, clash_of, clash, IsCollision, NoneAnd}
 
@@ -22,7 +22,7 @@ use Rattle.mr_proof.specs.Clash.{Pair, clash_of, clash, IsCollision, NoneAnd}
 pub record MatchesHonest (s : Scheme) (t : Tree) (batch : ℕ) (a : Question) (bytes : List ℕ)
     (x : Parsed) : Type 0 where
   pub same : x ≡ honest_said s a t batch
-  pub own : bytes ≡ proof_for s a t batch
+  pub own : IsProofFor s a t batch bytes
 
 abbrev pub MatchesHonestOrCollides : Scheme → Tree → (batch : ℕ) → Question → List ℕ → Parsed →
     Type 0
@@ -39,8 +39,8 @@ AcceptedMatchesHonest s a bytes =
 -- The honest proof shows no pair.
 abbrev pub HonestProofIsQuiet : Scheme → Question → Type 0
 HonestProofIsQuiet s a =
-    (t : Tree) (batch : ℕ) → WellFormed t → HasLayers s.version t → batch < 2 ^ 64
-    → clash_of a.kind s t batch (proof_for s a t batch) ≡ None
+    (t : Tree) (batch : ℕ) → MayCome a s.version → WellFormed t → HasLayers s.version t
+    → batch < 2 ^ 64 → clash_of a.kind s t batch (proof_for s a t batch) ≡ None
 
 -- ---- of queries
 
@@ -48,7 +48,7 @@ HonestProofIsQuiet s a =
 pub record IsHonest (s : Scheme) (t : Tree) (batch : ℕ) (q : Query)
     (bytes : List ℕ) (answer : List Record) : Type 0 where
   pub complete : answer ≡ scan (records t) q
-  pub own : bytes ≡ proof s t batch q
+  pub own : IsProof s t batch q bytes
 
 -- No two strings stand at one place and differ, and all is honest; or the first two that do are a
 -- collision.
@@ -78,11 +78,12 @@ AcceptedIsHonest s q bytes =
 abbrev pub OthersFail : Scheme → Query → List ℕ → Type 0
 OthersFail s q bytes =
     (t : Tree) (batch : ℕ) → WellFormed t → HasLayers s.version t → batch < 2 ^ 64
-    → bytes ≢ proof s t batch q → ((f : Fault) × (verdict s.of (root s t batch) q bytes ≡ Err f))
+    → (IsProof s t batch q bytes → ⊥)
+    → ((f : Fault) × (verdict s.of (root s t batch) q bytes ≡ Err f))
     ⊎ ((p : Pair) × (clash s t batch bytes ≡ Some p) × IsCollision s.of p)
 
 -- The honest proof shows no pair.
 abbrev pub HonestIsQuiet : Scheme → Query → Type 0
 HonestIsQuiet s q =
-    (t : Tree) (batch : ℕ) → WellFormed t → HasLayers s.version t → batch < 2 ^ 64
-    → clash s t batch (proof s t batch q) ≡ None
+    (t : Tree) (batch : ℕ) → MayCome (question q) s.version → WellFormed t → HasLayers s.version t
+    → batch < 2 ^ 64 → clash s t batch (proof s t batch q) ≡ None

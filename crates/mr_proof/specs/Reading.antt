@@ -11,11 +11,12 @@ use Rattle.mr_proof.specs.Spelling.{Parsed, opened_records}
 use Rattle.mr_query.specs.Scan.{scan}
 use Rattle.mr_proof.specs.declared.way.Way.{Way}
 use Rattle.mr_proof.specs.declared.way.Way.TheVariants as ways
-use Rattle.mr_proof.specs.Tight.{Key, Question, question}
+use Rattle.mr_query.specs.declared.key.Key.{Key}
+use Rattle.mr_proof.specs.Tight.{Question, needs_two, question}
 use Rattle.mr_proof.specs.Accepted.{root_found}
 use Rattle.mr_proof.specs.Grammar.{Note, must, opens, Grammar, done, reads, notes, whole}
 use Rattle.mr_proof.specs.Layout.{fault, Cursor, start, field_at}
-use Rattle.mr_proof.specs.Refused.{has_other_radius}
+use Rattle.mr_proof.specs.Refused.{has_other_radius, has_other_count}
 
 -- the second step, if the first met no fault
 infixl 10 ◌>>=◌
@@ -49,12 +50,13 @@ ending hash root a x s =
     Err (fault (rule.WrongRoot (root_found hash x.head x.part)) (s.at + length s.rest))
     else if has_other_radius a.around x.head.radius (opened_records x.part) then
     Err (fault rule.WrongRadius (s.at + length s.rest))
+    else if has_other_count x then Err (fault rule.WrongTally (s.at + length s.rest))
     else Ok x
 
 -- the head and the cut of an accepted proof, or the fault of the bytes
 unfoldable pub checked : (List ℕ → List ℕ) → List ℕ → Question → List ℕ → Result Parsed Fault
 checked hash root a bytes =
-    walk true (ending hash root a) (whole a.kind a.way) (start bytes)
+    walk true (ending hash root a) (whole a.kind a.two_only a.way) (start bytes)
 
 -- the answer to a query that the bytes prove, or their fault
 unfoldable pub verdict : (List ℕ → List ℕ) → List ℕ → Query → List ℕ → Result (List Record) Fault
@@ -81,8 +83,9 @@ anywhere radius s = ways.Open
 
 -- the head and the cut that the whole of the bytes spells, in a proof of this kind, tight or not
 unfoldable pub pair_of : Kind → List ℕ → Option Parsed
-pair_of k bytes = if_spelled (walk false at_end (whole k anywhere) (start bytes))
+pair_of k bytes =
+    if_spelled (walk false at_end (whole k (needs_two k) anywhere) (start bytes))
 
--- for a query of whatever kind
+-- for a query of whatever kind that names no mask
 abbrev pub pair_in : List ℕ → Option Parsed
 pair_in bytes = pair_of (kind_in bytes) bytes

@@ -3,23 +3,25 @@
 ghost use Rattle.std.specs.Prelude.{◌≡◌, ◌≤◌, IfOk, length, Ok};
 ghost use Rattle.mr_record.specs.Record.{sides_of, payload_limit};
 ghost use Rattle.mr_proof.specs.declared.field.Field as types;
-ghost use Rattle.mr_proof.specs.Fields.{size_of, field_of, field_bytes, IsField, FitsPayload, HasForm, only_if, tag_of, entries_of, rectangle_field, kind_byte};
+ghost use Rattle.mr_proof.specs.Fields.{size_of, field_of, field_bytes, IsField, FitsPayload, HasForm, only_if, tag_of, entries_of, version_field, tally_field, rectangle_field, kind_byte};
 ghost use Rattle.mr_proof.specs.declared.field.Field.TheVariants as field;
 
 use crate::limits::RADIUS_LIMIT;
 use crate::{Kind, Rule, Want};
 use mr_geom::Rect as Rectangle;
 use mr_record::{
-    PAYLOAD_LIMIT, Payload as Bytes, Version, rect_of_bytes, u64_of_bytes, u128_of_bytes,
+    LAYER_LIMIT, PAYLOAD_LIMIT, Payload as Bytes, Version, rect_of_bytes, u64_of_bytes,
+    u128_of_bytes,
 };
 use mr_tree::{COUNT_LIMIT, INNER_LIMIT, LEAF_LIMIT, LEVEL_LIMIT};
 
 /// The value of a field that breaks no rule.
 #[derive(Clone, Copy)]
 pub enum Field {
-    /// Of a magic, a version and a kind: nothing more than that they are the right ones.
+    /// Of a magic and a kind: nothing more than that they are the right ones.
     Plain,
-    /// Of a batch, a count, a flag, a level, a number of entries, a record's number and a length.
+    /// Of a version (1 or 2), a batch, a count, a flag, a level, a number of entries, a record's
+    /// number, a layer, a length, a mask and the number of records of a part.
     Num(u64),
     /// Of a squared radius.
     Wide(u128),
@@ -94,8 +96,26 @@ pub(crate) fn kind_byte(kind: Kind) -> u8
     }
 }
 
-/// The version of proofs, so far the only one.
-pub const VERSION: Version = Version::One;
+fn version_of(two_only: bool, byte: u8) -> Result<Field, Rule>
+    ensures { result ≡ version_field two_only byte }
+{
+    let one = !two_only && byte == Version::One.byte();
+    only_if(
+        byte == Version::Two.byte() || one,
+        Field::Num(u64::from(byte)),
+        Rule::BadVersion,
+    )
+}
+
+fn tally_of(count: u64) -> Result<Field, Rule>
+    ensures { result ≡ tally_field count }
+{
+    only_if(
+        1 <= count && count <= COUNT_LIMIT,
+        Field::Num(count),
+        Rule::BadCount,
+    )
+}
 
 #[tactic(auto, unfolding(crate::specs::Fields::field_of))]
 fn value_of(want: &Want, bytes: &[u8]) -> Result<Field, Rule>
@@ -105,9 +125,9 @@ fn value_of(want: &Want, bytes: &[u8]) -> Result<Field, Rule>
 {
     match want {
         Want::Magic => only_if(bytes == b"MRVO".as_slice(), Field::Plain, Rule::BadMagic),
-        Want::Version => only_if(bytes[0] == VERSION.byte(), Field::Plain, Rule::BadVersion),
+        Want::Version(two_only) => version_of(*two_only, bytes[0]),
         Want::Kind(kind) => only_if(bytes[0] == kind_byte(*kind), Field::Plain, Rule::WrongKind),
-        Want::Batch | Want::Number => Ok(Field::Num(u64_of_bytes(bytes))),
+        Want::Batch | Want::Number | Want::Mask => Ok(Field::Num(u64_of_bytes(bytes))),
         Want::Count => {
             let count = u64_of_bytes(bytes);
             only_if(count <= COUNT_LIMIT, Field::Num(count), Rule::BadCount)
@@ -130,12 +150,18 @@ fn value_of(want: &Want, bytes: &[u8]) -> Result<Field, Rule>
         Want::LeafCount => entries_of(LEAF_LIMIT, bytes[0]),
         Want::InnerCount => entries_of(INNER_LIMIT, bytes[0]),
         Want::Rect => rect_of(bytes),
+        Want::Layer => only_if(
+            bytes[0] <= LAYER_LIMIT,
+            Field::Num(u64::from(bytes[0])),
+            Rule::BadLayer,
+        ),
         Want::Length => only_if(
             usize::from(bytes[0]) <= PAYLOAD_LIMIT,
             Field::Num(u64::from(bytes[0])),
             Rule::BadLength,
         ),
         Want::Payload(_) => payload_of(bytes),
+        Want::Tally => tally_of(u64_of_bytes(bytes)),
         Want::Digest => digest_of(bytes),
     }
 }

@@ -14,7 +14,7 @@ mod want;
 mod way;
 mod write;
 
-pub use field::{Field, VERSION, read_field};
+pub use field::{Field, read_field};
 pub use head::{Head, Kind, kind_of};
 pub use honest::{
     accepted_is_honest, accepted_matches_honest, honest_is_accepted, honest_proof_is_accepted,
@@ -23,7 +23,7 @@ pub use honest::{
 pub use item::Item;
 pub use limits::{PLACE_LIMIT, RADIUS_LIMIT};
 pub use pruned_entry::PrunedEntry;
-pub use question::{Around, AsQuestion};
+pub use question::{Around, AsQuestion, mask_seen};
 pub use rule::{Fault, Rule};
 pub use want::Want;
 pub use way::Way;

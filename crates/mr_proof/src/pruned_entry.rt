@@ -11,6 +11,10 @@ use mr_tree::Entry;
 pub struct PrunedEntry {
     /// The least rectangle round the records of the part.
     pub rect: Rect,
+    /// The mask of their layers, 0 in version 1.
+    pub mask: u64,
+    /// How many they are, 0 in version 1.
+    pub count: u64,
     pub digest: [u8; 32],
 }
 
@@ -22,8 +26,8 @@ impl PrunedEntry {
         Entry {
             level,
             rect: Some(self.rect),
-            mask: 0,
-            count: 0,
+            mask: self.mask,
+            count: self.count,
             digest: self.digest,
         }
     }

@@ -12,11 +12,11 @@ pub enum Rule {
     Short,
     /// The proof does not begin with `MRVO`.
     BadMagic,
-    /// The version is not 1.
+    /// The version is neither 1 nor 2, or it is 1 and the query names a mask, or it is a choice.
     BadVersion,
     /// The proof is of another kind.
     WrongKind,
-    /// The count of records is above 2^20.
+    /// The count of records is above 2^20, or of a pruned part 0.
     BadCount,
     /// The flag is neither 0 nor 1.
     BadFlag,
@@ -32,16 +32,21 @@ pub enum Rule {
     BadRect,
     /// A payload is longer than 200 bytes.
     BadLength,
-    /// A part that is to be opened is pruned: for a query, its rectangle meets the region.
+    /// A part that is to be opened is pruned: for a query, it is in reach.
     Hidden,
-    /// A node that is not to be opened is opened: for a query, its rectangle misses the region.
+    /// A node that is not to be opened is opened: for a query, it is not in reach.
     Needless,
     /// Bytes stand behind the last field.
     Trailing,
     /// The proof is of a map with another root digest than the held one.
     WrongRoot { found: [u8; 32] },
-    /// The squared radius, or that there is none, is not that of the opened records.
+    /// The squared radius, or that there is none, is not that of the opened records that are on the
+    /// layers asked for.
     WrongRadius,
+    /// In version 2, the parts do not have as many records as the head tells of.
+    WrongTally,
+    /// The layer of a record is above 63.
+    BadLayer,
 }
 
 /// A rule that a proof breaks, and the place in bytes from the front of what breaks it.
@@ -75,6 +80,8 @@ impl Rule {
             Rule::Trailing => "Trailing",
             Rule::WrongRoot { found: _ } => "WrongRoot",
             Rule::WrongRadius => "WrongRadius",
+            Rule::WrongTally => "WrongTally",
+            Rule::BadLayer => "BadLayer",
         }
     }
 }

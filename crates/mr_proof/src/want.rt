@@ -10,8 +10,9 @@ use crate::Kind;
 pub enum Want {
     /// The four bytes that each proof begins with.
     Magic,
-    /// The version of the format.
-    Version,
+    /// The version of the format: either, or by `true` the second one alone, as where a mask is
+    /// named, and of a choice.
+    Version(bool),
     /// The letter of the kind.
     Kind(Kind),
     /// The batch of the map.
@@ -34,10 +35,16 @@ pub enum Want {
     Number,
     /// A rectangle.
     Rect,
+    /// The layer of a record.
+    Layer,
     /// The length of a payload.
     Length,
     /// A payload of this length.
     Payload(u8),
+    /// The mask of the layers of a pruned part.
+    Mask,
+    /// The number of records of a pruned part.
+    Tally,
     /// The digest of a pruned part.
     Digest,
 }
@@ -50,9 +57,9 @@ impl Want {
     {
         match self {
             Want::Magic => 4,
-            Want::Version | Want::Kind(_) | Want::Flag | Want::Level | Want::Tag(_) => 1,
-            Want::LeafCount | Want::InnerCount | Want::Length => 1,
-            Want::Batch | Want::Count | Want::Number => 8,
+            Want::Version(_) | Want::Kind(_) | Want::Flag | Want::Level | Want::Tag(_) => 1,
+            Want::LeafCount | Want::InnerCount | Want::Layer | Want::Length => 1,
+            Want::Batch | Want::Count | Want::Number | Want::Mask | Want::Tally => 8,
             Want::Radius | Want::Rect => 16,
             Want::Payload(length) => usize::from(*length),
             Want::Digest => 32,

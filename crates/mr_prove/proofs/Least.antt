@@ -1,20 +1,21 @@
 -- The k least distances, as a heap keeps them.
-use Rattle.std.proofs.Common.{◌≡◌, ℕ, ◌+◌, ◌<◌, ◌≤◌, List, ◌∷◌, length, get_or, min, take, sym, ap, subst, ◌∙◌, arith}
+use Rattle.std.proofs.Common.{◌≡◌, ℕ, ◌+◌, ◌<◌, ◌≤◌, true, false, cond, List, [], ◌∷◌, length, get_or, min, take, sym, ap, subst, ◌∙◌, arith}
 use Rattle.std.specs.Prelude.{Option, Some, None, IsSome, IfSome, IfNone, All, option_copied}
 use Rattle.std.specs.Borrow.{Bor}
 use Rattle.std.specs.BinaryHeap.{IsHeap, IsUpperBound, PopsGreatest}
 use Rattle.std.specs.List.Sorted.{IsPermutation}
 use Rattle.std.specs.Ordering.{nat_cmp}
-use Rattle.std.proofs.lemmas.List.Elements.{All-cons, All-tail, recursion_from_All}
+use Rattle.std.proofs.lemmas.List.{map-append}
+use Rattle.std.proofs.lemmas.List.Elements.{All-cons, All-tail, filter_more, recursion_from_All}
 use Rattle.std.proofs.lemmas.List.Sorted.{All-permutation, length_permutation, le_from_greatest}
-use Rattle.std.proofs.lemmas.List.Sums.{sum_by_more}
-use Rattle.mr_geom.specs.declared.point.Point.{Point}
 use Rattle.mr_record.specs.declared.record.Record.{Record}
+use Rattle.mr_query.specs.Layers.{is_on}
 use Rattle.mr_query.specs.Nearest.{distance, distances}
+use Rattle.mr_query.specs.Scan.{on_layers}
 use Rattle.mr_query.specs.private.Radius.{below, IsRadius}
-use Rattle.mr_query.proofs.Counts.{one_below, below-cons, greatest_gone, greatest_is_radius}
-use Rattle.mr_prove.specs.private.Search.{farthest, Best}
-use Rattle.mr_prove.proofs.Pieces.{sum_by_map}
+use Rattle.mr_query.proofs.Counts.{below-cons, below-append, greatest_gone, greatest_is_radius}
+use Rattle.mr_proof.specs.declared.question.Around.{Around}
+use Rattle.mr_prove.specs.private.Search.{distances_on, farthest, Best}
 
 abbrev Low : ℕ → Type 0
 Low n = n ≤ farthest
@@ -54,16 +55,44 @@ radius_from_peek k ns (Some g) r e some many heap there first greatest =
     (greatest_is_radius k g.now ns some many
     (recursion_from_All (λ n. n ≤ g.now) ns (le_from_greatest g.now ns (greatest heap))) (sym first))
 
--- one record more
-pub taken_more : (p : Point) (k x far : ℕ) (rs : List Record) (i : ℕ) (r : Record) (old mid new : List ℕ)
-    → r ≡ get_or rs i r → i < length rs → far ≡ distance p r
-    → min k (below x mid) ≡ min k (below x old + below x (distances p (take i rs)))
-    → min k (below x new) ≡ min k (below x (far ∷ mid))
-    → min k (below x new) ≡ min k (below x old + below x (distances p (take (i + 1) rs)))
-taken_more p k x far rs i r old mid new is within e before after =
-    let first = below-cons x far mid in
-    let so_far = sum_by_map (one_below x) (distance p) (take i rs) in
-    let now = sum_by_map (one_below x) (distance p) (take (i + 1) rs) in
-    let more = sum_by_more (λ r. one_below x (distance p r)) rs i r within in
-    let here : one_below x far ≡ one_below x (distance p (get_or rs i r)) = ap (one_below x) (e ∙ ap (distance p) is) in
-    omega arith
+-- ---- one record more
+
+module _ (a : Around) (x : ℕ) where
+  abbrev k : ℕ
+  k = a.k
+
+  abbrev counted : List Record → ℕ
+  counted rs = below x (distances_on a rs)
+
+  -- on one of the layers
+  pub taken_one : (r : Record) (far : ℕ) (old new : List ℕ) → is_on a.layers r ≡ true → far ≡ distance a.center r
+      → min k (below x new) ≡ min k (below x (far ∷ old))
+      → min k (below x new) ≡ min k (below x old + counted (r ∷ []))
+  taken_one r far old new on e taken =
+      let one : counted (r ∷ []) ≡ below x (far ∷ []) =
+      ap (λ b. below x (distances a.center (cond b (r ∷ []) []))) on ∙ ap (λ n. below x (n ∷ [])) (sym e) in
+      let alone = below-cons x far [] in
+      let first = below-cons x far old in
+      omega arith
+
+  -- or on none
+  pub taken_none : (r : Record) (old : List ℕ) → is_on a.layers r ≡ false
+      → min k (below x old) ≡ min k (below x old + counted (r ∷ []))
+  taken_none r old off =
+      let none : counted (r ∷ []) ≡ 0 = ap (λ b. below x (distances a.center (cond b (r ∷ []) []))) off in
+      omega arith
+
+  pub taken_more : (rs : List Record) (i : ℕ) (r : Record) (old mid new : List ℕ) → r ≡ get_or rs i r
+      → i < length rs → min k (below x mid) ≡ min k (below x old + counted (take i rs))
+      → min k (below x new) ≡ min k (below x mid + counted (r ∷ []))
+      → min k (below x new) ≡ min k (below x old + counted (take (i + 1) rs))
+  taken_more rs i r old mid new is within before after =
+      let p = a.center in
+      let first = on_layers a.layers (take i rs) in
+      let next = on_layers a.layers (get_or rs i r ∷ []) in
+      let more : counted (take (i + 1) rs) ≡ counted (take i rs) + counted (r ∷ []) =
+      ap (λ (rs : List Record). below x (distances p rs)) (filter_more (is_on a.layers) rs i r within)
+      ∙ ap (below x) (map-append (distance p) first next)
+      ∙ below-append x (distances p first) (distances p next)
+      ∙ ap (λ (r : Record). counted (take i rs) + counted (r ∷ [])) (sym is) in
+      omega arith

@@ -1,3 +1,4 @@
+mod Passing
 mod Pieces
 mod Steps
 mod Whole

@@ -1,5 +1,5 @@
 -- Steps of the walk: what was written and how often was fetched, so far and in all.
-use Rattle.std.proofs.Common.{◌≡◌, ℕ, ◌+◌, ◌<◌, ◌≤◌, true, false, List, [], ◌∷◌, ◌++◌, length, take, drop, get_or, append_assoc, take-append-drop, sym, ap, subst, ◌∙◌, arith}
+use Rattle.std.proofs.Common.{◌≡◌, ℕ, ◌+◌, ◌<◌, ◌≤◌, Bool, true, false, List, [], ◌∷◌, ◌++◌, length, take, drop, get_or, append_assoc, take-append-drop, sym, ap, subst, ◌∙◌, arith}
 use Rattle.std.specs.Prelude.{IsSome, Result, Ok, Err, OnErr}
 use Rattle.std.proofs.Math.Seq.{take-length}
 use Rattle.std.specs.List.{flat_map, sum_by}
@@ -11,14 +11,19 @@ use Rattle.mr_outside.specs.Told.{TakesBytes, TakesFront}
 use Rattle.mr_outside.specs.Faults.{next_count}
 use Rattle.mr_outside.proofs.Taking.{TakesBytes-append}
 use Rattle.mr_tree.specs.Digest.{by}
-use Rattle.mr_tree.specs.View.{Node, children_in, child_entry}
+use Rattle.mr_record.specs.Version.{told as told_by}
+use Rattle.mr_record.specs.declared.version.Version.{Version}
+use Rattle.mr_record.specs.declared.version.Version.TheVariants.{One, Two}
+use Rattle.mr_tree.specs.Limits.{count_limit}
+use Rattle.mr_tree.specs.View.{Node, MayTell, children_in, child_entry}
 use Rattle.mr_tree.specs.Nodes.{MapModel, MayFetch, ShowsNode}
 use Rattle.mr_tree.specs.declared.child.Child.{Child}
 use Rattle.mr_proof.specs.Cut.{pruned_cut}
 use Rattle.mr_proof.specs.Spelling.{cut_bytes}
 use Rattle.mr_proof.specs.declared.way.Way.{Way}
-use Rattle.mr_proof.specs.Tight.{Key, opens_at}
-use Rattle.mr_prove.specs.private.Parts.{node_bytes, part_at, opened_at, child_parts, opened_in}
+use Rattle.mr_query.specs.declared.key.Key.{Key}
+use Rattle.mr_proof.specs.Tight.{is_open, opens_at}
+use Rattle.mr_prove.specs.private.Parts.{child_key, node_bytes, part_at, opened_at, child_parts, opened_in}
 use Rattle.mr_prove.proofs.Pieces.{missed_at, met_at, opened_met_at, opened_one_at}
 
 pub on_err : {T E : Type 0} (r : Result T E) (P : Type 0) → P → OnErr r P
@@ -85,70 +90,96 @@ front_more f xs i x old between new is within a h =
 next_count-≤ : (n : ℕ) → next_count n ≤ n + 1
 next_count-≤ n = omega arith
 
--- ---- one node
+-- ---- what a version may tell of a part fits its item
 
-module _ (hash : List ℕ → List ℕ) (way : Key → Way) (s : MapModel) (c : Child) (may : MayFetch hash s c)
-    (told : IsSome s.tree) where
+pub told_fits : (v : Version) (mask count : ℕ) → MayTell v mask count
+    → (told_by v 1 ≤ told_by v count) × (told_by v count ≤ count_limit)
+told_fits One mask count may = (omega arith, omega arith)
+told_fits Two mask count may = let some = may.counted in let few = may.few in (omega arith, omega arith)
+
+-- ---- what is chosen by the key of a part
+
+pub chosen_by : (way : Key → Way) (key own : Key) (chosen : Way) (tested b : Bool) → key ≡ own → chosen ≡ way key
+    → tested ≡ is_open chosen → tested ≡ b → opens_at way own ≡ b
+chosen_by way key own chosen tested b same by_key is e =
+    sym (ap (λ (k : Key). is_open (way k)) same) ∙ sym (ap is_open by_key) ∙ sym is ∙ e
+
+-- ---- one node, in a map of this version
+
+module _ (hash : List ℕ → List ℕ) (way : Key → Way) (v : Version) (s : MapModel) (same : v ≡ s.version) (c : Child)
+    (may : MayFetch hash s c) (told : IsSome s.tree) where
   abbrev here : List ℕ
   here = part_at (by s.version hash) way (s.node c.id)
 
-  pub pruned_whole : (old new : Sunk) → opens_at way c.rect ≡ false
-      → TakesBytes old new (cut_bytes (pruned_cut (child_entry c))) → TakesBytes old new here
-  pruned_whole old new f taken =
-      subst (TakesBytes old new) (sym (missed_at (by s.version hash) way (s.node c.id) c (may.known told) f)) taken
+  -- whether it is opened
+  abbrev opens : Version → Bool
+  opens v = opens_at way (child_key v c)
 
-  pub pruned_front : (old new : Sunk) → opens_at way c.rect ≡ false
-      → TakesFront old new (cut_bytes (pruned_cut (child_entry c))) → TakesFront old new here
-  pruned_front old new f taken =
-      subst (TakesFront old new) (sym (missed_at (by s.version hash) way (s.node c.id) c (may.known told) f)) taken
+  opens_as : (b : Bool) → opens v ≡ b → opens s.version ≡ b
+  opens_as b e = subst (λ (v : Version). opens v ≡ b) same e
 
-  whole_is : (n : Node) → ShowsNode hash s c n → opens_at way c.rect ≡ true
-      → here ≡ node_bytes n ++ child_parts (by s.version hash) way s (children_in n)
-  whole_is n shows m = met_at (by s.version hash) way s (s.node c.id) c n (may.known told) shows.node m
+  missed_is : opens v ≡ false → cut_bytes v (pruned_cut (child_entry c)) ≡ here
+  missed_is f =
+      ap (λ (v : Version). cut_bytes v (pruned_cut (child_entry c))) same
+      ∙ sym (missed_at (by s.version hash) way (s.node c.id) c (may.known told) (opens_as false f))
 
-  pub node_front : (n : Node) (old new : Sunk) → ShowsNode hash s c n → opens_at way c.rect ≡ true
-      → TakesFront old new (node_bytes n) → TakesFront old new here
+  pub pruned_whole : (old new : Sunk) → opens v ≡ false
+      → TakesBytes old new (cut_bytes v (pruned_cut (child_entry c))) → TakesBytes old new here
+  pruned_whole old new f taken = subst (TakesBytes old new) (missed_is f) taken
+
+  pub pruned_front : (old new : Sunk) → opens v ≡ false
+      → TakesFront old new (cut_bytes v (pruned_cut (child_entry c))) → TakesFront old new here
+  pruned_front old new f taken = subst (TakesFront old new) (missed_is f) taken
+
+  whole_is : (n : Node) → ShowsNode hash s c n → opens v ≡ true
+      → node_bytes v n ++ child_parts (by s.version hash) way s (children_in n) ≡ here
+  whole_is n shows m =
+      ap (λ (v : Version). node_bytes v n ++ child_parts (by s.version hash) way s (children_in n)) same
+      ∙ sym (met_at (by s.version hash) way s (s.node c.id) c n (may.known told) shows.node (opens_as true m))
+
+  pub node_front : (n : Node) (old new : Sunk) → ShowsNode hash s c n → opens v ≡ true
+      → TakesFront old new (node_bytes v n) → TakesFront old new here
   node_front n old new shows m taken =
-      subst (TakesFront old new) (sym (whole_is n shows m))
-      (front_first old new (node_bytes n) (child_parts (by s.version hash) way s (children_in n)) taken)
+      subst (TakesFront old new) (whole_is n shows m)
+      (front_first old new (node_bytes v n) (child_parts (by s.version hash) way s (children_in n)) taken)
 
   pub met_whole : (n : Node) (cs : List Child) (i : ℕ) (old mid new : Sunk) → cs ≡ children_in n → ShowsNode hash s c n
-      → opens_at way c.rect ≡ true → i ≡ length cs → TakesBytes old mid (node_bytes n)
+      → opens v ≡ true → i ≡ length cs → TakesBytes old mid (node_bytes v n)
       → TakesBytes mid new (child_parts (by s.version hash) way s (take i cs)) → TakesBytes old new here
   met_whole n cs i old mid new are shows m end first rest =
       let all : take i cs ≡ children_in n = ap (λ k. take k cs) end ∙ take-length cs ∙ are in
-      subst (TakesBytes old new) (ap (λ ds. node_bytes n ++ child_parts (by s.version hash) way s ds) all ∙ sym
-      (whole_is n
-      shows m))
-      (TakesBytes-append old mid new (node_bytes n) (child_parts (by s.version hash) way s (take i cs)) first rest)
+      subst (TakesBytes old new)
+      (ap (λ ds. node_bytes v n ++ child_parts (by s.version hash) way s ds) all ∙ whole_is n shows m)
+      (TakesBytes-append old mid new (node_bytes v n) (child_parts (by s.version hash) way s (take i cs)) first rest)
 
   pub met_front : (n : Node) (cs : List Child) (i : ℕ) (d : Child) (old mid between new : Sunk) → cs ≡ children_in n
-      → ShowsNode hash s c n → opens_at way c.rect ≡ true → d ≡ get_or cs i d → i < length cs
-      → TakesBytes old mid (node_bytes n) → TakesBytes mid between (child_parts (by s.version hash) way s (take i cs))
+      → ShowsNode hash s c n → opens v ≡ true → d ≡ get_or cs i d → i < length cs
+      → TakesBytes old mid (node_bytes v n) → TakesBytes mid between (child_parts (by s.version hash) way s (take i cs))
       → TakesFront between new (part_at (by s.version hash) way (s.node d.id)) → TakesFront old new here
   met_front n cs i d old mid between new are shows m is within first so_far next =
-      subst (TakesFront old new) (ap (λ ds. node_bytes n ++ child_parts (by s.version hash) way s ds) are ∙ sym
-      (whole_is n shows m))
-      (front_second old mid new (node_bytes n) (child_parts (by s.version hash) way s cs) first
+      subst (TakesFront old new)
+      (ap (λ ds. node_bytes v n ++ child_parts (by s.version hash) way s ds) are ∙ whole_is n shows m)
+      (front_second old mid new (node_bytes v n) (child_parts (by s.version hash) way s cs) first
       (front_more (λ (d : Child). part_at (by s.version hash) way (s.node d.id)) cs i d mid between new is within
       so_far next))
 
   -- the node itself is fetched
-  pub one_fetch : (before now : ℕ) → opens_at way c.rect ≡ true → now ≡ next_count before
+  pub one_fetch : (before now : ℕ) → opens v ≡ true → now ≡ next_count before
       → now ≤ before + opened_at (by s.version hash) way (s.node c.id)
   one_fetch before now m e =
-      let one = opened_one_at (by s.version hash) way (s.node c.id) c (may.known told) m in
+      let one = opened_one_at (by s.version hash) way (s.node c.id) c (may.known told) (opens_as true m) in
       let more = next_count-≤ before in
       omega arith
 
   -- and some of its children
   pub some_fetches : (n : Node) (cs : List Child) (i before mid now : ℕ) → cs ≡ children_in n → ShowsNode hash s c n
-      → opens_at way c.rect ≡ true → mid ≡ next_count before
+      → opens v ≡ true → mid ≡ next_count before
       → now ≤ mid + opened_in (by s.version hash) way s (take i cs)
       → now ≤ before + opened_at (by s.version hash) way (s.node c.id)
   some_fetches n cs i before mid now are shows m e few =
-      let all = opened_met_at (by s.version hash) way s (s.node c.id) c n (may.known told) shows.node m in
-      let same : opened_in (by s.version hash) way s cs ≡ opened_in (by s.version hash) way s (children_in n) =
+      let all = opened_met_at (by s.version hash) way s (s.node c.id) c n (may.known told) shows.node
+      (opens_as true m) in
+      let alike : opened_in (by s.version hash) way s cs ≡ opened_in (by s.version hash) way s (children_in n) =
       ap (opened_in (by s.version hash) way s) are in
       let more = next_count-≤ before in
       let part = sum_by-take-le (λ (d : Child). opened_at (by s.version hash) way (s.node d.id)) cs i in

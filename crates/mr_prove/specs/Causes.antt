@@ -5,7 +5,8 @@ use Rattle.mr_outside.specs.State.{Sunk}
 use Rattle.mr_outside.specs.declared.sink.SinkErr.{SinkErr}
 use Rattle.mr_outside.specs.declared.sink.SinkErr.TheVariants as sink
 use Rattle.mr_query.specs.declared.query.Query.{Query}
-use Rattle.mr_query.specs.declared.query.Query.TheVariants.{Window, Nearest}
+use Rattle.mr_query.specs.declared.query.Shape.{Shape}
+use Rattle.mr_query.specs.declared.query.Shape.TheVariants.{Window, Nearest}
 use Rattle.mr_tree.specs.Nodes.{MapModel, HasSomeCause}
 use Rattle.mr_tree.specs.declared.nodes.NodesErr.{NodesErr}
 use Rattle.mr_tree.specs.declared.nodes.NodesErr.TheVariants as nodes
@@ -48,6 +49,9 @@ IsHandedOn last errors.NoMemory = ⊤
 
 -- how often each node that the proof opens is fetched at most: once, to be written; and for nearest
 -- records once more, to find their distance
+abbrev pub rounds_for : Shape → ℕ
+rounds_for (Window w) = 1
+rounds_for (Nearest p k) = 2
+
 abbrev pub rounds : Query → ℕ
-rounds (Window w) = 1
-rounds (Nearest p k) = 2
+rounds q = rounds_for q.shape

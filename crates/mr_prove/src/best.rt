@@ -1,12 +1,13 @@
 //! The least of the distances that a search has met.
 
-ghost use Rattle.std.specs.Prelude.{◌≡◌, ℕ, ◌+◌, ◌≤◌, ◌∷◌, min, IfSome, OnOk, IsTrue, ◌↔◌};
+ghost use Rattle.std.specs.Prelude.{◌≡◌, ℕ, ◌+◌, ◌≤◌, [], ◌∷◌, min, All, IfSome, OnOk, IsTrue, ◌↔◌};
 ghost use Rattle.std.specs.BinaryHeap.{heap_items};
-ghost use Rattle.mr_query.specs.Nearest.{distances};
+ghost use Rattle.mr_record.specs.Record.{HasLayer};
+ghost use Rattle.mr_record.specs.declared.version.Version.TheVariants.{Two};
 ghost use Rattle.mr_query.specs.private.Radius.{below, IsRadius};
-ghost use Rattle.mr_prove.specs.private.Search.{farthest, Best, IsReached};
+ghost use Rattle.mr_prove.specs.private.Search.{distances_on, farthest, aim, Best, IsReached};
 
-use mr_geom::Point;
+use crate::sought::Sought;
 use mr_record::Record;
 use std::alloc::AllocError;
 use std::collections::BinaryHeap;
@@ -26,20 +27,36 @@ pub(crate) fn offer(best: &mut BinaryHeap<u128>, k: usize, far: u128) -> Result<
     Ok(())
 }
 
-// Takes in the distances of some records.
+// Takes in the distance of a record, if it is on one of the layers.
+fn offer_one(best: &mut BinaryHeap<u128>, sought: &Sought, one: &Record) -> Result<(), AllocError>
+    requires best { Best sought.now.k (heap_items best.old) }
+    requires layer { HasLayer Two one.now }
+    ensures best { OnOk result (Best sought.now.k (heap_items best.new)) }
+    ensures least { OnOk result ((x : ℕ) → min sought.now.k (below x (heap_items best.new)) ≡
+        min sought.now.k (below x (heap_items best.old)
+        + below x (distances_on (aim sought.now) (one.now ∷ [])))) }
+{
+    if !sought.is_on(one) {
+        return Ok(());
+    }
+    offer(best, sought.k, one.rect.dist2(&sought.center))
+}
+
+// Takes in the distances of those of some records that are on one of the layers.
 pub(crate) fn offer_all(
     best: &mut BinaryHeap<u128>,
-    k: usize,
-    center: &Point,
+    sought: &Sought,
     records: &[Record],
 ) -> Result<(), AllocError>
-    requires { Best k (heap_items best.old) }
-    ensures best { OnOk result (Best k (heap_items best.new)) }
-    ensures least { OnOk result ((x : ℕ) → min k (below x (heap_items best.new)) ≡
-        min k (below x (heap_items best.old) + below x (distances center.now records.now))) }
+    requires best { Best sought.now.k (heap_items best.old) }
+    requires layers { All (HasLayer Two) records.now }
+    ensures best { OnOk result (Best sought.now.k (heap_items best.new)) }
+    ensures least { OnOk result ((x : ℕ) → min sought.now.k (below x (heap_items best.new)) ≡
+        min sought.now.k (below x (heap_items best.old)
+        + below x (distances_on (aim sought.now) records.now))) }
 {
     for record in records {
-        offer(best, k, record.rect.dist2(center))?;
+        offer_one(best, sought, record)?;
     }
     Ok(())
 }

@@ -7,6 +7,7 @@ mod fetching;
 mod part;
 mod proving;
 mod search;
+mod sought;
 mod waiting;
 
 pub use error::ProveErr;

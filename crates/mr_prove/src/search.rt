@@ -1,7 +1,8 @@
 //! The kth least distance of a map's records to a point, by a search from node to node, the nearest
-//! first (Hjaltason and Samet 1999).
+//! first (Hjaltason and Samet 1999). Records that are on none of the layers asked for do not count,
+//! and nodes without such records are passed over.
 
-ghost use Rattle.std.specs.Prelude.{◌≡◌, ℕ, ◌+◌, ◌-◌, ◌*◌, ◌^◌, ◌≤◌, ◌++◌, ◌∷◌, Some, OnOk, IfOk, IfErr, IfSome, map, true};
+ghost use Rattle.std.specs.Prelude.{◌≡◌, ◌+◌, ◌-◌, ◌*◌, ◌^◌, ◌≤◌, [], ◌∷◌, ◌++◌, Some, OnOk, IfOk, IfErr, IfSome};
 ghost use Rattle.std.specs.BinaryHeap.{IsHeap, heap_items};
 ghost use Rattle.std.specs.List.Sorted.{IsPermutation};
 ghost use Rattle.mr_outside.specs.Faults.{next_count};
@@ -9,76 +10,81 @@ ghost use Rattle.mr_tree.specs.Tree.{records};
 ghost use Rattle.mr_tree.specs.Digest.{by};
 ghost use Rattle.mr_tree.specs.Nodes.{MayFetch, TellsRefusal};
 ghost use Rattle.mr_tree.specs.declared.tree.Tree.{Tree};
-ghost use Rattle.mr_query.specs.Nearest.{distances, kth_least, is_within};
 ghost use Rattle.mr_query.specs.private.Radius.{IsRadius};
 ghost use Rattle.mr_prove.specs.Causes.{IsHandedOn, of_nodes};
-ghost use Rattle.mr_prove.specs.private.Search.{nearest_first, waiting, farthest, near_opened, Best, Searching, Bounded, IsStart, Visited, SearchCauses};
+ghost use Rattle.mr_prove.specs.private.Search.{aim, distances_on, kth_in, near_opened, IsNear, nearest_first, waiting_of, farthest, Best, Searching, Bounded, IsStart, Visited, SearchCauses};
 
 use crate::ProveErr;
 use crate::best::{is_reached, offer_all, radius_of};
 use crate::fetching::fetched;
+use crate::sought::Sought;
 use crate::waiting::Waiting;
-use mr_geom::Point;
+use mr_proof::Around;
 use mr_tree::{Child, NodeView, Nodes};
 use std::alloc::{AllocError, Global};
 use std::collections::BinaryHeap;
 
-// Puts a node into the queue.
+// Puts a node into the queue, if it may have records on one of the layers.
 fn wait_for(
     queue: &mut BinaryHeap<Waiting>,
-    center: &Point,
+    sought: &Sought,
     child: &Child,
 ) -> Result<(), AllocError>
     requires { IsHeap nearest_first (heap_items queue.old) }
     ensures heap { OnOk result (IsHeap nearest_first (heap_items queue.new)) }
-    ensures joined { OnOk result (IsPermutation (waiting center.now child.now ∷
-        heap_items queue.old) (heap_items queue.new)) }
+    ensures joined { OnOk result (IsPermutation
+        (waiting_of (aim sought.now) sought.now.version (child.now ∷ []) ++ heap_items queue.old)
+        (heap_items queue.new)) }
 {
+    if !sought.has_layer(child) {
+        return Ok(());
+    }
     let one = Waiting {
-        far: child.rect.dist2(center),
+        far: child.rect.dist2(&sought.center),
         child: *child,
     };
     queue.push(one)?;
     Ok(())
 }
 
-// Puts some nodes into the queue.
+// Puts those of some nodes into the queue that may have records on one of the layers.
 fn wait_for_all(
     queue: &mut BinaryHeap<Waiting>,
-    center: &Point,
+    sought: &Sought,
     children: &[Child],
 ) -> Result<(), AllocError>
     requires { IsHeap nearest_first (heap_items queue.old) }
     ensures heap { OnOk result (IsHeap nearest_first (heap_items queue.new)) }
     ensures joined { OnOk result (IsPermutation (heap_items queue.old ++
-        map (waiting center.now) children.now) (heap_items queue.new)) }
+        waiting_of (aim sought.now) sought.now.version children.now) (heap_items queue.new)) }
 {
     for child in children {
-        wait_for(queue, center, child)?;
+        wait_for(queue, sought, child)?;
     }
     Ok(())
 }
 
-// Fetches one node, which has to lie within the kth least distance, and takes in what it shows.
+// Fetches one node, which the honest cut for the kth least distance opens, and takes in what it
+// shows.
 fn visit<N: Nodes>(
     nodes: &mut N,
-    center: &Point,
-    k: usize,
+    sought: &Sought,
     child: &Child,
     queue: &mut BinaryHeap<Waiting>,
     best: &mut BinaryHeap<u128>,
 ) -> Result<(), ProveErr>
+    requires version { sought.now.version ≡ (N.stands nodes.old).version }
     requires may { MayFetch N.Hash.of (N.stands nodes.old) child.now }
-    requires within { IfSome (N.stands nodes.old).tree (λ t. is_within center.now
-        (kth_least k (distances center.now (records t))) child.now.rect ≡ true) }
+    requires near { IfSome (N.stands nodes.old).tree
+        (IsNear (aim sought.now) (N.stands nodes.old) child.now) }
     requires heap { IsHeap nearest_first (heap_items queue.old) }
-    requires best { Best k (heap_items best.old) }
+    requires best { Best sought.now.k (heap_items best.old) }
     ensures kept { N.kept nodes.old nodes.new }
     ensures counted { N.fetches nodes.new ≡ next_count (N.fetches nodes.old) }
     ensures heap { OnOk result (IsHeap nearest_first (heap_items queue.new)) }
-    ensures best { OnOk result (Best k (heap_items best.new)) }
-    ensures visited { OnOk result (Visited N.Hash.of (N.stands nodes.old) center.now child.now k
-        (heap_items queue.old) (heap_items queue.new)
+    ensures best { OnOk result (Best sought.now.k (heap_items best.new)) }
+    ensures visited { OnOk result (Visited N.Hash.of (aim sought.now) (N.stands nodes.old)
+        child.now (heap_items queue.old) (heap_items queue.new)
         (heap_items best.old) (heap_items best.new)) }
     ensures causes { SearchCauses (N.stands nodes.old) (N.faults nodes.old) (N.faults nodes.new)
         result }
@@ -87,93 +93,96 @@ fn visit<N: Nodes>(
 {
     let mut view = NodeView::new();
     fetched(nodes, child, &mut view)?;
-    offer_all(best, k, center, view.records())?;
-    wait_for_all(queue, center, view.children())?;
+    offer_all(best, sought, view.records())?;
+    wait_for_all(queue, sought, view.children())?;
     Ok(())
 }
 
 // Fetches the nearest node that waits, as long as something nearer than the radius can lie in it.
 fn best_first<N: Nodes>(
     nodes: &mut N,
-    center: &Point,
-    k: usize,
+    sought: &Sought,
     queue: &mut BinaryHeap<Waiting>,
     best: &mut BinaryHeap<u128>,
 ) -> Result<Option<u128>, ProveErr>
-    requires some { 1 ≤ k }
+    requires some { 1 ≤ sought.now.k }
+    requires version { sought.now.version ≡ (N.stands nodes.old).version }
     requires heap { IsHeap nearest_first (heap_items queue.old) }
-    requires best { Best k (heap_items best.old) }
-    requires searching { Searching N.Hash.of k center.now (N.stands nodes.old)
+    requires best { Best sought.now.k (heap_items best.old) }
+    requires searching { Searching N.Hash.of (aim sought.now) (N.stands nodes.old)
         (heap_items queue.old) (heap_items best.old) }
-    requires bounded { Bounded N.Hash.of k center.now (N.stands nodes.old) (heap_items queue.old)
-        (N.fetches nodes.old) (N.fetches nodes.old) }
+    requires bounded { Bounded N.Hash.of (aim sought.now) (N.stands nodes.old)
+        (heap_items queue.old) (N.fetches nodes.old) (N.fetches nodes.old) }
     ensures kept { N.kept nodes.old nodes.new }
     ensures radius { IfOk result (λ r. (t : Tree) → (N.stands nodes.old).tree ≡ Some t →
-        IsRadius k (distances center.now (records t)) r) }
+        IsRadius sought.now.k (distances_on (aim sought.now) (records t)) r) }
     ensures low { IfOk result (λ r. IfSome r (λ n. n ≤ farthest)) }
     ensures fetched { IfSome (N.stands nodes.old).tree (λ t. N.fetches nodes.new ≤
         N.fetches nodes.old + near_opened (by (N.stands nodes.old).version N.Hash.of)
-        center.now k t) }
+        (aim sought.now) t) }
     ensures causes { SearchCauses (N.stands nodes.old) (N.faults nodes.old) (N.faults nodes.new)
         result }
     ensures refused { IfErr result (IsHandedOn (N.refusal nodes.new)) }
     ensures answered { TellsRefusal of_nodes (N.refusal nodes.old) (N.refusal nodes.new) result }
 {
     while let Some(next) = queue.pop() {
-        let radius = radius_of(best, k);
+        let radius = radius_of(best, sought.k);
         if is_reached(radius, next.far) {
             return Ok(radius);
         }
-        visit(nodes, center, k, &next.child, queue, best)?;
+        visit(nodes, sought, &next.child, queue, best)?;
     }
-    Ok(radius_of(best, k))
+    Ok(radius_of(best, sought.k))
 }
 
-// The queue with which a search begins: the root alone.
+// The queue with which a search begins: the root alone, if it may have records on one of the
+// layers.
 fn start<N: Nodes>(
     alloc: Global,
     nodes: &N,
-    center: &Point,
+    sought: &Sought,
 ) -> Result<BinaryHeap<Waiting>, AllocError>
+    requires { sought.now.version ≡ (N.stands nodes.now).version }
     ensures heap { IfOk result (λ queue. IsHeap nearest_first (heap_items queue)) }
-    ensures root { IfOk result (λ queue. (k : ℕ) →
-        IsStart N.Hash.of k center.now (N.stands nodes.now) (heap_items queue)) }
+    ensures root { IfOk result (λ queue.
+        IsStart N.Hash.of (aim sought.now) (N.stands nodes.now) (heap_items queue)) }
 {
     let mut queue = BinaryHeap::new(alloc);
     match nodes.top().root {
         None => Ok(queue),
         Some(root) => {
-            wait_for(&mut queue, center, &root)?;
+            wait_for(&mut queue, sought, &root)?;
             Ok(queue)
         }
     }
 }
 
-// The kth least squared distance of a record to the point, in squared map units, or none where
-// there are fewer than k records.
+// The kth least squared distance to the point of a record on one of the layers, in squared map
+// units, or none where there are fewer than k such records.
 //
-// Only nodes that lie within that distance are fetched, each once at most: no more than the honest
-// cut for it opens. The queue and the k least distances are kept in heaps.
+// Only nodes that lie within that distance and may have such records are fetched, each once at
+// most: no more than the honest cut for it opens. The queue and the k least distances are kept in
+// heaps.
 pub(crate) fn kth_distance<N: Nodes>(
     alloc: Global,
     nodes: &mut N,
-    center: &Point,
-    k: u16,
+    around: &Around,
 ) -> Result<Option<u128>, ProveErr>
-    requires { 1 ≤ k }
+    requires { 1 ≤ around.now.k }
     ensures kept { N.kept nodes.old nodes.new }
     ensures radius { IfOk result (λ r. IfSome (N.stands nodes.old).tree (λ t.
-        r ≡ kth_least k (distances center.now (records t)))) }
+        r ≡ kth_in around.now t)) }
     ensures low { IfOk result (λ r. IfSome r (λ n. n ≤ 2 * ((2 ^ 32 - 1) * (2 ^ 32 - 1)))) }
     ensures fetched { IfSome (N.stands nodes.old).tree (λ t. N.fetches nodes.new ≤
         N.fetches nodes.old + near_opened (by (N.stands nodes.old).version N.Hash.of)
-        center.now k t) }
+        around.now t) }
     ensures causes { SearchCauses (N.stands nodes.old) (N.faults nodes.old) (N.faults nodes.new)
         result }
     ensures refused { IfErr result (IsHandedOn (N.refusal nodes.new)) }
     ensures answered { TellsRefusal of_nodes (N.refusal nodes.old) (N.refusal nodes.new) result }
 {
-    let mut queue = start(alloc, nodes, center)?;
+    let sought = Sought::of(around, nodes.top().version);
+    let mut queue = start(alloc, nodes, &sought)?;
     let mut best = BinaryHeap::new(alloc);
-    best_first(nodes, center, usize::from(k), &mut queue, &mut best)
+    best_first(nodes, &sought, &mut queue, &mut best)
 }

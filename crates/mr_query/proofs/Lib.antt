@@ -1,8 +1,11 @@
 pub mod Counts
 pub mod Kth
+pub mod MaskWords
+pub mod Masks
 pub mod Nearest
 pub mod Parts
 pub mod Ranks
+pub mod Reached
 pub mod Scans
 pub mod Scripts
 pub mod Sorting

@@ -1,25 +1,30 @@
 -- A script is read as its queries, and what is read is written so.
-use Rattle.std.proofs.Common.{◌≡◌, ℕ, ◌<◌, ◌≤◌, Bool, true, false, leb, List, [], ◌∷◌, ◌++◌, length, get_or, Result, Ok, Err, refl, sym, ap, subst, ◌∙◌, arith, lit≤}
+use Rattle.std.proofs.Common.{◌≡◌, ℕ, ◌<◌, ◌≤◌, Bool, true, false, leb, List, [], ◌∷◌, ◌++◌, length, get_or, Option, Some, None, Result, Ok, Err, refl, sym, ap, subst, ◌∙◌, inl, inr, arith, lit≤}
 use Rattle.std.specs.Prelude.{IfOk, IfErr, All, flat_map, decimal}
 use Rattle.std.specs.List.{list_all}
 use Rattle.std.specs.Fmt.{signed_decimal}
+use Rattle.std.specs.Int.{w64, to_be_bytes}
 use Rattle.std.specs.Global.{Vec}
-use Rattle.std.proofs.lemmas.Bool.{leb-true}
+use Rattle.std.proofs.lemmas.Bool.{and_parts, or_cases, leb-true}
 use Rattle.std.proofs.lemmas.List.{length-append, length_push, get_or_at}
 use Rattle.std.proofs.lemmas.List.Elements.{All-push, All-get_or, All-cons, All-append, All-weaker, All-nil}
 use Rattle.std.proofs.lemmas.List.Sums.{AllPass-from_list_all}
+use Rattle.hex.specs.Hex.{encode_lower}
 use Rattle.mr_record.specs.declared.text_fault.TextErr.{TextErr}
 use Rattle.mr_record.specs.declared.text_fault.TextErr.TheVariants as errors
 use Rattle.mr_record.specs.Answer.{AnswersText}
+use Rattle.mr_record.specs.RecordText.{is_lower_digit}
 use Rattle.mr_record.specs.Lines.{lines_of}
 use Rattle.mr_record.specs.LineTexts.{text_by, values_after}
 use Rattle.mr_record.proofs.RecordLines.{IsInk, decimal_ink, signed_ink, IsDark, dark_ink, lacks_feed}
 use Rattle.mr_record.proofs.LineTexts.{IsSpelling, line_text, lines_text, spelled_lines, values_written, spelled_again, values_read, first_break}
 use Rattle.mr_query.specs.declared.query.Query.{Query}
-use Rattle.mr_query.specs.declared.query.Query.TheVariants.{Window, Nearest}
+use Rattle.mr_query.specs.declared.query.Shape.{Shape}
+use Rattle.mr_query.specs.declared.query.Shape.TheVariants.{Window, Nearest}
 use Rattle.mr_query.specs.declared.query.QueryFault.{QueryFault}
 use Rattle.mr_query.specs.Script.{script_limit, IsScript, script_of, as_rule, query_lines, queries_of_text, IsScriptRefusal}
-use Rattle.mr_query.specs.Word.{window_word, nearest_word, query_of, IsQuery, word_of}
+use Rattle.mr_query.specs.Word.{window_word, nearest_word, query_of, IsShape, IsQuery, shape_word, mask_word, word_of}
+use Rattle.mr_query.proofs.MaskWords.{mask_digits}
 use Rattle.mr_query.proofs.Words.{query_written, query_read}
 
 -- ---- a word has no line feed
@@ -33,19 +38,40 @@ dark_part : (front rest : List ℕ) → IsInk front → IsDark rest → IsDark (
 dark_part front rest ink dark =
     All-append (λ b. 32 ≤ b) front (44 ∷ rest) (dark_ink front ink) (All-cons (λ b. 32 ≤ b) 44 rest (lit≤ tt) dark)
 
-word_dark : (q : Query) → IsQuery q → IsDark (word_of q)
-unfolding word_of
-word_dark (Window w) is =
+shape_dark : (s : Shape) → IsShape s → IsDark (shape_word s)
+unfolding shape_word
+shape_dark (Window w) is =
     All-append (λ b. 32 ≤ b) window_word _ (dark_word window_word refl)
     (dark_part (signed_decimal w.x0) _ (signed_ink w.x0 is.1.x0)
     (dark_part (signed_decimal w.y0) _ (signed_ink w.y0 is.1.y0)
     (dark_part (signed_decimal w.x1) _ (signed_ink w.x1 is.1.x1)
     (dark_ink (signed_decimal w.y1) (signed_ink w.y1 is.1.y1)))))
-word_dark (Nearest p k) is =
+shape_dark (Nearest p k) is =
     All-append (λ b. 32 ≤ b) nearest_word _ (dark_word nearest_word refl)
     (dark_part (signed_decimal p.x) _ (signed_ink p.x is.0.x)
     (dark_part (signed_decimal p.y) _ (signed_ink p.y is.0.y)
     (dark_ink (decimal k) (decimal_ink k (omega (arith, is.1.1))))))
+
+digits_dark : (text : List ℕ) → list_all is_lower_digit text ≡ true → IsDark text
+digits_dark text e =
+    All-weaker (λ b. is_lower_digit b ≡ true) (λ b. 32 ≤ b) digit_dark text
+    (AllPass-from_list_all is_lower_digit text e)
+  where
+    digit_dark : (b : ℕ) → is_lower_digit b ≡ true → 32 ≤ b
+    digit_dark b e = elim (or_cases _ _ e) [
+      | inl t ↦ let low : 48 ≤ b = leb-true 48 b (and_parts (leb 48 b) (leb b 57) t).0 in omega arith
+      | inr t ↦ let low : 97 ≤ b = leb-true 97 b (and_parts (leb 97 b) (leb b 102) t).0 in omega arith
+    ]
+
+mask_dark : (mask : Option ℕ) → IsDark (mask_word mask)
+mask_dark None = All-nil (λ b. 32 ≤ b)
+mask_dark (Some m) =
+    All-cons (λ b. 32 ≤ b) 47 (encode_lower (to_be_bytes w64 m)) (lit≤ tt)
+    (digits_dark (encode_lower (to_be_bytes w64 m)) (mask_digits m))
+
+word_dark : (q : Query) → IsQuery q → IsDark (word_of q)
+word_dark q is =
+    All-append (λ b. 32 ≤ b) (shape_word q.shape) (mask_word q.mask) (shape_dark q.shape is.shape) (mask_dark q.mask)
 
 -- ---- one line behind others
 

@@ -5,6 +5,8 @@
 mod area;
 mod circle;
 mod comma;
+mod key;
+mod layers;
 mod query;
 mod script;
 mod selection;
@@ -14,7 +16,9 @@ mod write;
 
 pub use area::Area;
 pub use circle::{Circle, Everywhere};
-pub use query::{NEIGHBOUR_LIMIT, Query, QueryFault, is_query};
+pub use key::Key;
+pub use layers::{ALL_LAYERS, share_layer};
+pub use query::{NEIGHBOUR_LIMIT, Query, QueryFault, Shape, is_query};
 pub use script::read_script;
 pub use selection::{answer, rank};
 pub use window::Window;

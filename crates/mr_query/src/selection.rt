@@ -3,13 +3,14 @@
 ghost use Rattle.std.specs.Prelude.{◌≡◌, ◌≤◌, IfOk, OnOk, filter};
 ghost use Rattle.mr_geom.specs.Plane.{touches};
 ghost use Rattle.mr_record.specs.declared.record.Record as types;
+ghost use Rattle.mr_query.specs.Layers.{is_on};
 ghost use Rattle.mr_query.specs.Nearest.{nearest, ranked};
-ghost use Rattle.mr_query.specs.Scan.{by_number, scan};
-ghost use Rattle.mr_query.specs.declared.query.Query.TheVariants as queries;
+ghost use Rattle.mr_query.specs.Scan.{by_number, on_layers, scan_shape, scan};
+ghost use Rattle.mr_query.specs.declared.query.Shape.TheVariants as shapes;
 
-use crate::{Query, Window};
+use crate::{Query, Shape, Window, share_layer};
 use mr_geom::{Point, Rect, Region};
-use mr_record::Record;
+use mr_record::{LAYER_LIMIT, Record};
 use std::alloc::{AllocError, Global};
 
 // ---- a window
@@ -31,9 +32,10 @@ fn sorted(records: &mut Vec<Record>) -> Result<(), AllocError>
     Ok(())
 }
 
-#[tactic(auto, unfolding(crate::specs::Scan::scan))]
+#[tactic(auto, unfolding(crate::specs::Scan::scan_shape))]
 fn answer_window(records: &mut Vec<Record>, window: &Rect) -> Result<(), AllocError>
-    ensures { OnOk result (records.new.items ≡ scan records.old.items (queries.Window window.now)) }
+    ensures { OnOk result (records.new.items ≡ scan_shape records.old.items
+        (shapes.Window window.now)) }
 {
     reached(records, window);
     sorted(records)
@@ -75,16 +77,41 @@ pub fn rank(
 
 // ---- both
 
-/// The answer to the query among these records: for a window those that it meets, in rising number,
-/// of which equal ones keep their order; or the nearest, as `rank` has them.
-#[tactic(auto, unfolding(crate::specs::Scan::scan))]
+// Whether a record is on one of these layers.
+fn is_on(one: &Record, layers: u64) -> bool
+    ensures { result ≡ is_on layers one.now }
+{
+    if one.layer > LAYER_LIMIT {
+        return false;
+    }
+    share_layer(1 << one.layer, layers)
+}
+
+// The records on these layers.
+fn keep_layers(records: &mut Vec<Record>, layers: u64)
+    ensures { records.new.items ≡ on_layers layers records.old.items }
+{
+    records.retain(|r| is_on(r, layers));
+}
+
+#[tactic(auto, unfolding(crate::specs::Scan::scan_shape))]
+fn answer_shape(records: &mut Vec<Record>, shape: &Shape) -> Result<(), AllocError>
+    ensures { OnOk result (records.new.items ≡ scan_shape records.old.items shape.now) }
+{
+    match shape {
+        Shape::Window(window) => answer_window(records, window),
+        Shape::Nearest { center, k } => keep_nearest(records, center, *k),
+    }
+}
+
+/// The answer to the query among those of these records that are on a layer that it asks for: for a
+/// window those that it meets, in rising number, of which equal ones keep their order; or the
+/// nearest, as `rank` has them.
 pub fn answer(records: Vec<Record>, q: &Query) -> Result<Vec<Record>, AllocError>
     ensures { IfOk result (λ v. v.items ≡ scan records.items q.now) }
 {
     let mut records = records;
-    match q {
-        Query::Window(window) => answer_window(&mut records, window)?,
-        Query::Nearest { center, k } => keep_nearest(&mut records, center, *k)?,
-    }
+    keep_layers(&mut records, q.layers());
+    answer_shape(&mut records, &q.shape)?;
     Ok(records)
 }

@@ -83,8 +83,7 @@ const DRAWS: &[Draw] = &[
 ];
 
 // What is asked of a map of version 1 after each batch: of everything, of a part, and of the
-// nearest
-// where there are so many, or are not.
+// nearest where there are so many, or are not.
 const QUERIES: &[&str] = &[
     "window:0,0,20040,20010",
     "window:4000,9000,9000,12000",
@@ -92,7 +91,7 @@ const QUERIES: &[&str] = &[
     "nearest:0,20000,1024",
 ];
 
-// What is asked of a map: nothing of one of version 2, of which there are no proofs.
+// What is asked of a map. Of one of version 2, which has proofs too, none is asked for here.
 fn asked(version: Version) -> &'static [&'static str] {
     match version {
         Version::One => QUERIES,

@@ -13,7 +13,7 @@ use Rattle.mr_record.specs.declared.record.Record.{Record}
 use Rattle.mr_record.specs.declared.text_fault.TextFault.{TextFault}
 use Rattle.mr_record.specs.declared.version.Version.{Version}
 use Rattle.mr_record.specs.declared.version.Version.TheVariants.{One, Two}
-use Rattle.mr_tree.specs.Digest.{by}
+use Rattle.mr_tree.specs.Digest.{Scheme, by}
 use Rattle.mr_tree.specs.Tree.{records}
 use Rattle.mr_tree.specs.WellFormed.{WellFormed, HasLayers}
 use Rattle.mr_tree.specs.declared.tree.Tree.{Tree}
@@ -24,8 +24,10 @@ use Rattle.mr_query.specs.declared.query.Query.{Query}
 use Rattle.mr_proof.specs.declared.rule.Fault.{Fault}
 use Rattle.mr_proof.specs.Clash.{Pair, clash, IsCollision, NoneAnd}
 use Rattle.mr_proof.specs.Headline.{IsHonest}
-use Rattle.mr_proof.specs.Honest.{proof}
+use Rattle.mr_proof.specs.Honest.{honest_head, honest_part, proof, IsProof}
+use Rattle.mr_proof.specs.Spelling.{part_bytes}
 use Rattle.mr_proof.specs.Reading.{verdict}
+use Rattle.mr_proof.specs.Tight.{MayCome, question}
 use Rattle.mr_proof.proofs.PreimageBytes.{IsSized}
 use Rattle.mr_proof.proofs.Complete.{accepts_honest}
 use Rattle.mr_proof.proofs.Completeness.{verdict_from}
@@ -33,6 +35,8 @@ use Rattle.mr_proof.proofs.Halves.{accepts_just}
 use Rattle.mr_proof.proofs.SameNodes.{none_more}
 use Rattle.mr_proof.proofs.NoClash.{honest_quiet}
 use Rattle.mr_proof.proofs.Worth.{headline, accepted_headline}
+use Rattle.mr_check.specs.Versions.{proof_version}
+use Rattle.mr_check.proofs.Versions.{head_version}
 use Rattle.mr_clash.specs.Finding.{finding_of, ShowsCollision}
 use Rattle.mr_clash.specs.declared.finding.Finding.{Finding}
 use Rattle.mr_clash.specs.declared.finding.Finding.TheVariants as findings
@@ -49,13 +53,13 @@ use Rattle.mr_batch.specs.declared.admission.BatchFault.{BatchFault}
 use Rattle.mr_command.specs.Answer.{World, HasStopped, IsWhole}
 use Rattle.mr_command.specs.Ending.{EndsPlan, EndsAsSaid, FindsMap, IsCarriedOut, IsWell, printed_of}
 use Rattle.mr_command.specs.private.Steps.{PrintsEnding}
-use Rattle.mr_plan.specs.First.{first, first_map, pages_by}
+use Rattle.mr_plan.specs.First.{pages_by}
 use Rattle.mr_plan.specs.Found.{Found, ShowsMap}
 use Rattle.mr_plan.specs.Outcome.{Outcome, IsHeld}
 use Rattle.mr_plan.specs.Plan.{Plan, comes, opens, Input, IsInput, LeadsToOutcome}
 use Rattle.mr_plan.specs.Untold.{MaySayApply, MaySayAudit, MaySayServe, MaySayUntold}
 use Rattle.mr_tool.specs.Promises.{HoldsBytes, HoldsRecords, HoldsMap, HoldsProof, HoldsBatch, HoldsScript, HoldsBundle, IsInOrder, CompletesWords, AnswersHonest, PrintsScan, IsWorth, AcceptsHonestOrCollides, DeliversOutcome, SaysWorth, AuditsAccepted, CollidesRightly, IsApplied, AppliesAlike, IsUpgraded, UpgradesAll}
-use Rattle.mr_plan.specs.Say.{at_first, given, given_map, needs, needs_any_map, needs_map, prints, say, say_root_of, say_build_of, say_list_of, say_upgrade, say_upgrade_of, say_admitted, say_batch, say_change, say_apply, say_apply_of, say_prove_of, say_check, say_check_of, say_audit, say_audit_of, say_finding, say_script, say_serve, say_serve_of, given_queries, say_parts, say_parts_of, say_check_all, say_make_of}
+use Rattle.mr_plan.specs.Say.{given, given_map, needs, needs_map, unless_lacking, say_written, prints, say, say_root_of, say_build_of, say_list_of, say_upgrade, say_upgrade_of, say_admitted, say_batch, say_change, say_apply, say_apply_of, say_prove_of, say_check, say_check_of, say_audit, say_audit_of, say_finding, say_script, say_serve, say_serve_of, given_queries, say_parts, say_parts_of, say_check_all, say_make_of}
 use Rattle.mr_plan.specs.Lines.{digest_line, sound_line, collision_lines}
 use Rattle.mr_plan.specs.Words.{IsWord, words_of, SpellsCommand}
 use Rattle.mr_command.specs.declared.ending.Ending.{Ending}
@@ -63,11 +67,11 @@ use Rattle.mr_command.specs.declared.ending.Halt.{Halt}
 use Rattle.mr_command.specs.declared.ending.Halt.TheVariants as halts
 use Rattle.mr_pages.specs.declared.opening.Opened.{Opened}
 use Rattle.mr_plan.specs.declared.status.Status.{Status}
-use Rattle.mr_plan.specs.declared.status.Status.TheVariants.{Done, Refused, BadMap, BadBatch, Collision, NeedsVersion2, Outside, NoMemory}
+use Rattle.mr_plan.specs.declared.status.Status.TheVariants.{Done, Refused, BadMap, BadBatch, Collision, Outside, NoMemory}
 use Rattle.mr_plan.specs.declared.words.Command.{Command}
 use Rattle.mr_plan.specs.declared.words.Command.TheVariants as commands
 use Rattle.mr_command.proofs.Batches.{fits_if_none, says_applied}
-use Rattle.mr_command.proofs.Bundles.{parts_done, served_done}
+use Rattle.mr_command.proofs.Bundles.{lacks_by, lacks_none, parts_done, served_done}
 use Rattle.mr_command.proofs.Going.{version_by}
 use Rattle.mr_command.proofs.Verdicts.{says_verdict, says_finding}
 
@@ -160,7 +164,7 @@ opened_on v hash name held t batch before after status text holds stands next on
 map_on : (v : Version) (hash : List ℕ → List ℕ) (name held : List ℕ) (t : Tree) (batch : ℕ)
     (before after : Option Files) (status : Status) (text : List ℕ) → HoldsBytes before name held
     → IsMapFile hash held (map_in v t batch)
-    → (next : Opened → Plan) → EndsPlan (needs_any_map hash name next) before after status text
+    → (next : Opened → Plan) → EndsPlan (needs_map hash name next) before after status text
     → EndsPlan (next (map_in v t batch)) before after status text
 map_on v hash name held t batch before after status text holds stands next ends =
     opened_on v hash name held t batch before after status text holds stands next
@@ -169,49 +173,58 @@ map_on v hash name held t batch before after status text holds stands next ends 
     (ends_on name held before after status text holds (λ bytes. opens (version_of bytes) hash bytes (given_map next))
     ends))
 
--- one of version 1, which has proofs
-first_on : (hash : List ℕ → List ℕ) (name held : List ℕ) (t : Tree) (batch : ℕ)
-    (before after : Option Files) (status : Status) (text : List ℕ) → HoldsBytes before name held
-    → IsMapFile hash held (first_map t batch)
-    → (next : Opened → Plan) → EndsPlan (needs_map hash name next) before after status text
-    → EndsPlan (next (first_map t batch)) before after status text
-first_on hash name held t batch before after status text holds stands next ends =
-    map_on One hash name held t batch before after status text holds stands (λ m. at_first m.version (next m)) ends
-
 -- ---- a proof beside the map
 
-says_found : (hash : List ℕ → List ℕ) (q : Query) (t : Tree) (batch : ℕ) (bytes : List ℕ)
-    (r : Result (List Record) Fault) (o : Option Pair) → verdict hash (map_root hash (first_map t batch)) q bytes ≡ r
-    → clash (first hash) t batch bytes ≡ o →
-    say_audit_of hash q (first_map t batch) bytes ≡ say_finding (finding_of r o)
-says_found hash q t batch bytes r o e d =
-    sym (says_finding hash q (first_map t batch) bytes (finding_of r o) (λ i. finding_of (sym e i) (sym d i)))
+-- the layers of a map are those of its version
+layers_of : (v : Version) (hash : List ℕ → List ℕ) (held : List ℕ) (t : Tree) (batch : ℕ)
+    → IsMapFile hash held (map_in v t batch) → HasLayers v t
+layers_of v hash held t batch stands = subst (λ u. HasLayers u t) (version_by v) stands.layers
 
-module _ (hash : List ℕ → List ℕ) (before after : Option Files) (status : Status) (text : List ℕ) (map : List ℕ)
-    (q : Query) (name : List ℕ) (t : Tree) (batch : ℕ) (held bytes : List ℕ) (map_held : HoldsBytes before map held)
-    (stands : IsMapFile hash held (first_map t batch)) (name_held : HoldsBytes before name bytes) where
-  audited_ends : EndsAsSaid (say_audit hash map q name) (MaySayAudit hash map q name) before after status text
-      → EndsPlan (comes (say_audit_of hash q (first_map t batch) bytes)) before after status text
-  audited_ends ends =
-      let next : Opened → Plan = λ m. needs name (λ bytes. comes (say_audit_of hash q m bytes)) in
-      let mapped = first_on hash map held t batch before after status text map_held stands next
-      (told_ends before after map held (say_audit hash map q name) (MaySayAudit hash map q name) status text map_held
-      ends) in
-      ends_on name bytes before after status text name_held
-      (λ bytes. comes (say_audit_of hash q (first_map t batch) bytes)) mapped
+-- the version of an accepted proof without a pair, and of the honest one, is the map's
+own_version : (s : Scheme) (t : Tree) (batch : ℕ) (q : Query) (bytes : List ℕ) → IsProof s t batch q bytes
+    → proof_version bytes ≡ s.version
+own_version s t batch q bytes is =
+    ap proof_version is.own
+    ∙ head_version (honest_head s (question q) t batch) (part_bytes s.version (honest_part s (question q) t))
 
-  audit_done : IsSized hash → IsQuery q → bytes ≡ proof (first hash) t batch q
-      → EndsAsSaid (say_audit hash map q name) (MaySayAudit hash map q name) before after status text → status ≡ Done
-  audit_done sized asked own ends =
-      let low = stands.stands.batch_fits in
-      let accepted : verdict hash (map_root hash (first_map t batch)) q bytes ≡ Ok (scan (records t) q) =
-      ap (verdict hash (map_root hash (first_map t batch)) q) own
-      ∙ accepts_honest (first hash) refl sized q asked t batch stands.well stands.layers low in
-      let quiet : clash (first hash) t batch bytes ≡ None =
-      ap (clash (first hash) t batch) own ∙ honest_quiet (first hash) refl sized q asked t batch stands.well
-      stands.layers low in
-      (audited_ends ends).0
-      ∙ ap (λ (o : Outcome). o.status) (says_found hash q t batch bytes (Ok (scan (records t) q)) None accepted quiet)
+module _ (v : Version) (hash : List ℕ → List ℕ) where
+  abbrev scheme : Scheme
+  scheme = by v hash
+
+  says_found : (q : Query) (t : Tree) (batch : ℕ) (bytes : List ℕ)
+      (r : Result (List Record) Fault) (o : Option Pair) → verdict hash (map_root hash (map_in v t batch)) q bytes ≡ r
+      → clash scheme t batch bytes ≡ o →
+      say_audit_of hash q (map_in v t batch) bytes ≡ say_finding (proof_version bytes) (finding_of r o)
+  says_found q t batch bytes r o e d =
+      sym (says_finding hash q (map_in v t batch) bytes (finding_of r o) (λ i. finding_of (sym e i) (sym d i)))
+
+  module _ (before after : Option Files) (status : Status) (text : List ℕ) (map : List ℕ)
+      (q : Query) (name : List ℕ) (t : Tree) (batch : ℕ) (held bytes : List ℕ) (map_held : HoldsBytes before map held)
+      (stands : IsMapFile hash held (map_in v t batch)) (name_held : HoldsBytes before name bytes) where
+    audited_ends : EndsAsSaid (say_audit hash map q name) (MaySayAudit hash map q name) before after status text
+        → EndsPlan (comes (say_audit_of hash q (map_in v t batch) bytes)) before after status text
+    audited_ends ends =
+        let next : Opened → Plan = λ m. needs name (λ bytes. comes (say_audit_of hash q m bytes)) in
+        let mapped = map_on v hash map held t batch before after status text map_held stands next
+        (told_ends before after map held (say_audit hash map q name) (MaySayAudit hash map q name) status text map_held
+        ends) in
+        ends_on name bytes before after status text name_held
+        (λ bytes. comes (say_audit_of hash q (map_in v t batch) bytes)) mapped
+
+    audit_done : IsSized hash → IsQuery q → IsProof scheme t batch q bytes
+        → EndsAsSaid (say_audit hash map q name) (MaySayAudit hash map q name) before after status text
+        → status ≡ Done
+    audit_done sized asked is ends =
+        let low = stands.stands.batch_fits in
+        let layers = layers_of v hash held t batch stands in
+        let accepted : verdict hash (map_root hash (map_in v t batch)) q bytes ≡ Ok (scan (records t) q) =
+        ap (verdict hash (map_root hash (map_in v t batch)) q) is.own
+        ∙ accepts_honest scheme sized q asked t batch is.may_come stands.well layers low in
+        let quiet : clash scheme t batch bytes ≡ None =
+        ap (clash scheme t batch) is.own
+        ∙ honest_quiet scheme sized q asked t batch is.may_come stands.well layers low in
+        (audited_ends ends).0
+        ∙ ap (λ (o : Outcome). o.status) (says_found q t batch bytes (Ok (scan (records t) q)) None accepted quiet)
 
 -- an outcome without a file, to its end
 whole_of : (said : Outcome) (other : Outcome) (before after : World) (status : Status) (text : List ℕ)
@@ -222,32 +235,32 @@ whole_of said other before after status text e on printed =
     subst (λ o. EndsPlan (comes o) before.shelf.files after.shelf.files status text) e on in
     record { status = there.0; printed = subst (TakesBytes before.sink after.sink) there.1 printed; files = there.2 }
 
-module _ (hash : List ℕ → List ℕ) (before after : World) (status : Status) (map : List ℕ)
+module _ (v : Version) (hash : List ℕ → List ℕ) (before after : World) (status : Status) (map : List ℕ)
     (q : Query) (name : List ℕ) (t : Tree) (batch : ℕ) (held bytes : List ℕ) (answer : List Record)
-    (map_held : HoldsBytes before.shelf.files map held) (stands : IsMapFile hash held (first_map t batch))
+    (map_held : HoldsBytes before.shelf.files map held) (stands : IsMapFile hash held (map_in v t batch))
     (name_held : HoldsBytes before.shelf.files name bytes)
-    (accepted : verdict hash (map_root hash (first_map t batch)) q bytes ≡ Ok answer) where
-  delivered : (o : Option Pair) (other : Outcome) → clash (first hash) t batch bytes ≡ o
-      → say_finding (finding_of (Ok answer) o) ≡ other
+    (accepted : verdict hash (map_root hash (map_in v t batch)) q bytes ≡ Ok answer) where
+  delivered : (o : Option Pair) (other : Outcome) → clash (by v hash) t batch bytes ≡ o
+      → say_finding (proof_version bytes) (finding_of (Ok answer) o) ≡ other
       → HasRun (say_audit hash map q name) (MaySayAudit hash map q name) before after status
       ⊎ HasStopped before after status
       → DeliversOutcome other before after status
   delivered o other d e (inr stop) = inr stop
   delivered o other d e (inl run) =
-      inl (whole_of (say_audit_of hash q (first_map t batch) bytes) other before after status run.text
-      (says_found hash q t batch bytes (Ok answer) o accepted d ∙ e)
-      (audited_ends hash before.shelf.files after.shelf.files status run.text map q name t batch held bytes map_held
+      inl (whole_of (say_audit_of hash q (map_in v t batch) bytes) other before after status run.text
+      (says_found v hash q t batch bytes (Ok answer) o accepted d ∙ e)
+      (audited_ends v hash before.shelf.files after.shelf.files status run.text map q name t batch held bytes map_held
       stands name_held run.ends) run.printed)
 
-  says_worth : (o : Option Pair) → clash (first hash) t batch bytes ≡ o
-      → NoneAnd hash o (IsHonest (first hash) t batch q bytes answer)
+  says_worth : (o : Option Pair) → clash (by v hash) t batch bytes ≡ o
+      → NoneAnd hash o (IsHonest (by v hash) t batch q bytes answer)
       → HasRun (say_audit hash map q name) (MaySayAudit hash map q name) before after status
       ⊎ HasStopped before after status
-      → SaysWorth hash t batch q bytes o before after status
+      → SaysWorth (by v hash) t batch q bytes o before after status
   says_worth None d own run = (
     own.own,
-    delivered None (prints (sound_line ++ text_of One (scan (records t) q))) d
-        (ap (λ rs. prints (sound_line ++ text_of One rs)) own.complete) run,
+    delivered None (prints (sound_line ++ text_of v (scan (records t) q))) d
+        (λ i. prints (sound_line ++ text_of (own_version (by v hash) t batch q bytes own.own i) (own.complete i))) run,
   )
   says_worth (Some p) d collides run = (collides, delivered (Some p) _ d refl run)
 
@@ -263,31 +276,32 @@ record Shown (hash : List ℕ → List ℕ) (text : List ℕ) : Type 0 where
   collides : IsCollision hash pair
   is : text ≡ collision_lines pair.owned pair.shown
 
-module _ (hash : List ℕ → List ℕ) (sized : IsSized hash) (q : Query) (may : IsQuery q) (t : Tree) (batch : ℕ)
-    (bytes : List ℕ) (well : WellFormed t) (layers : HasLayers One t) (low : batch < 2 ^ 64) (all : AreBytes bytes)
-    (before after : Option Files) (status : Status) (text : List ℕ) where
+module _ (v : Version) (hash : List ℕ → List ℕ) (sized : IsSized hash) (q : Query) (may : IsQuery q) (t : Tree)
+    (batch : ℕ) (bytes : List ℕ) (well : WellFormed t) (layers : HasLayers v t) (low : batch < 2 ^ 64)
+    (all : AreBytes bytes) (before after : Option Files) (status : Status) (text : List ℕ) where
   shown_by : (r : Result (List Record) Fault) (o : Option Pair)
-      → verdict hash (map_root hash (first_map t batch)) q bytes ≡ r → clash (first hash) t batch bytes ≡ o
+      → verdict hash (map_root hash (map_in v t batch)) q bytes ≡ r → clash (by v hash) t batch bytes ≡ o
       → status ≡ Collision
-      → EndsPlan (comes (say_finding (finding_of r o))) before after status text → Shown hash text
+      → EndsPlan (comes (say_finding (proof_version bytes) (finding_of r o))) before after status text
+      → Shown hash text
   shown_by (Err f) o e d is ends = other_status status Refused is ends.0 (λ c. cc)
   shown_by (Ok answer) None e d is ends = other_status status Done is ends.0 (λ c. cc)
   shown_by (Ok answer) (Some p) e d is ends = record {
     pair = p;
-    collides = subst (λ o. NoneAnd hash o (IsHonest (first hash) t batch q bytes answer)) d
-        (accepted_headline (first hash) sized q bytes may (from_bytes bytes all) t batch answer well layers low e);
+    collides = subst (λ o. NoneAnd hash o (IsHonest (by v hash) t batch q bytes answer)) d
+        (accepted_headline (by v hash) sized q bytes may (from_bytes bytes all) t batch answer well layers low e);
     is = ends.1;
   }
 
-  shown_of : status ≡ Collision → EndsPlan (comes (say_audit_of hash q (first_map t batch) bytes)) before after
+  shown_of : status ≡ Collision → EndsPlan (comes (say_audit_of hash q (map_in v t batch) bytes)) before after
       status text
       → Shown hash text
   shown_of is ends =
-      let r = verdict hash (map_root hash (first_map t batch)) q bytes in
-      let o = clash (first hash) t batch bytes in
+      let r = verdict hash (map_root hash (map_in v t batch)) q bytes in
+      let o = clash (by v hash) t batch bytes in
       shown_by r o refl refl is
       (subst (λ said. EndsPlan (comes said) before after status text)
-      (says_found hash q t batch bytes r o refl refl) ends)
+      (says_found v hash q t batch bytes r o refl refl) ends)
 
 module _ (hash : List ℕ → List ℕ) (sized : IsSized hash) (q : Query) (may : IsQuery q) (name : List ℕ)
     (before after : Option Files) (status : Status) (text : List ℕ) (is : status ≡ Collision) where
@@ -295,43 +309,36 @@ module _ (hash : List ℕ → List ℕ) (sized : IsSized hash) (q : Query) (may 
   abbrev proof_plan : Opened → Plan
   proof_plan m = needs name (λ bytes. comes (say_audit_of hash q m bytes))
 
-  shown_with : (m : Opened) → WellFormed m.tree → HasLayers One m.tree → m.batch < 2 ^ 64 → (input : Input)
+  shown_with : (m : Opened) → WellFormed m.tree → HasLayers m.version m.tree → m.batch < 2 ^ 64 → (input : Input)
       → IfSome input AreBytes
       → EndsPlan (given name (λ bytes. comes (say_audit_of hash q m bytes)) input) before after status text
       → Shown hash text
-  unfolding say_audit_of
   shown_with m well layers low None taken ends = other_status status Outside is ends.0 (λ c. cc)
   shown_with m well layers low (Some bytes) taken ends =
-      shown_of hash sized q may m.tree m.batch bytes well layers low taken before after status text is ends
-
-  -- of a map of version 2 it is said that it has no proofs
-  shown_at : (m : Opened) → WellFormed m.tree → m.batch < 2 ^ 64 → (v : Version) → m.version ≡ v
-      → HasLayers v m.tree → EndsPlan (at_first v (proof_plan m)) before after status text → Shown hash text
-  shown_at m well low One e layers ends = shown_with m well layers low ends.0 ends.2 ends.3
-  shown_at m well low Two e layers ends = other_status status NeedsVersion2 is ends.0 (λ c. cc)
+      shown_of m.version hash sized q may m.tree m.batch bytes well layers low taken before after status text is ends
 
   shown_found : (v : Version) (held : List ℕ) (found : Found) → ShowsMap v hash held found → IsWell found
-      → EndsPlan (given_map (λ m. at_first m.version (proof_plan m)) found) before after status text → Shown hash text
+      → EndsPlan (given_map proof_plan found) before after status text → Shown hash text
   shown_found v held (Ok m) shows well ends =
-      shown_at m well.0 well.1 m.version refl
-      (subst (λ u. HasLayers u m.tree) (version_by v ∙ sym shows.0) shows.1.layers) ends
+      shown_with m well.0 (subst (λ u. HasLayers u m.tree) (version_by v ∙ sym shows.0) shows.1.layers) well.1
+      ends.0 ends.2 ends.3
   shown_found v held (Err fault) shows well ends = other_status status BadMap is ends.0 (λ c. cc)
 
   shown_opened : (map : List ℕ) (input : Input)
-      → EndsPlan (given map (λ bytes. opens (version_of bytes) hash bytes
-      (given_map (λ m. at_first m.version (proof_plan m)))) input) before after status text
+      → EndsPlan (given map (λ bytes. opens (version_of bytes) hash bytes (given_map proof_plan)) input) before after
+      status text
       → Shown hash text
   shown_opened map None ends = other_status status Outside is ends.0 (λ c. cc)
   shown_opened map (Some bytes) ends = shown_found (version_of bytes) bytes ends.0 ends.1.0 ends.2 ends.3
 
   -- over files that are not told, by what was found
-  shown_finding : (f : Finding) (said : Outcome) → ShowsCollision hash f → said ≡ say_finding f → status ≡ said.status
-      → text ≡ said.printed → Shown hash text
-  shown_finding (findings.Refused fault) said collides e st tx =
+  shown_finding : (v : Version) (f : Finding) (said : Outcome) → ShowsCollision hash f → said ≡ say_finding v f
+      → status ≡ said.status → text ≡ said.printed → Shown hash text
+  shown_finding v (findings.Refused fault) said collides e st tx =
       other_status status Refused is (st ∙ ap (λ (o : Outcome). o.status) e) (λ c. cc)
-  shown_finding (findings.Sound answer) said collides e st tx =
+  shown_finding v (findings.Sound answer) said collides e st tx =
       other_status status Done is (st ∙ ap (λ (o : Outcome). o.status) e) (λ c. cc)
-  shown_finding (findings.Collision owned shown) said collides e st tx = record {
+  shown_finding v (findings.Collision owned shown) said collides e st tx = record {
     pair = record { owned = owned; shown = shown };
     collides = collides;
     is = tx ∙ ap (λ (o : Outcome). o.printed) e;
@@ -344,10 +351,9 @@ module _ (hash : List ℕ → List ℕ) (sized : IsSized hash) (q : Query) (may 
   shown_untold map said (inl (inr bad)) st tx =
       other_status status BadMap is (st ∙ ap (λ (o : Outcome). o.status) bad.2) (λ c. cc)
   shown_untold map said (inr (inl e)) st tx =
-      other_status status NeedsVersion2 is (st ∙ ap (λ (o : Outcome). o.status) e) (λ c. cc)
-  shown_untold map said (inr (inr (inl e))) st tx =
       other_status status Outside is (st ∙ ap (λ (o : Outcome). o.status) e) (λ c. cc)
-  shown_untold map said (inr (inr (inr found))) st tx = shown_finding found.0 said found.1.collides found.2 st tx
+  shown_untold map said (inr (inr found)) st tx =
+      shown_finding (proof_version found.0) found.1 said found.2.collides found.3 st tx
 
   shown_audit : (map : List ℕ)
       → EndsAsSaid (say_audit hash map q name) (MaySayAudit hash map q name) before after status text
@@ -376,10 +382,12 @@ not_bad status done bad = absurd (cc)
 
 -- ---- inputs that are in order
 
-prove_done : (hash : List ℕ → List ℕ) (q : Query) (name : List ℕ) (map : Opened)
+prove_done : (hash : List ℕ → List ℕ) (q : Query) (name : List ℕ) (map : Opened) → MayCome (question q) map.version
     → (say_prove_of hash q name map).status ≡ Done
 unfolding say_prove_of
-prove_done hash q name map = refl
+prove_done hash q name map may =
+    ap (λ b. (unless_lacking b (say_written name (proof (by map.version hash) map.tree map.batch q))).status)
+    (lacks_by map.version q may)
 
 make_done : (count seed : ℕ) (records : List ℕ) → (say_make_of count seed records).status ≡ Done
 unfolding say_make_of
@@ -398,11 +406,11 @@ module _ (hash : List ℕ → List ℕ) (before after : Option Files) (status : 
       on.0 ∙ ap (λ r. (said r).status) holds.right ∙ done holds.list
 
   map_done : (v : Version) (name : List ℕ) (next : Opened → Plan) (may : Outcome → Type 0)
-      → (holds : HoldsMap v hash before name) → EndsAsSaid (needs_any_map hash name next) may before after status text
+      → (holds : HoldsMap v hash before name) → EndsAsSaid (needs_map hash name next) may before after status text
       → EndsPlan (next (map_in v holds.tree holds.batch)) before after status text
   map_done v name next may holds ends =
       map_on v hash name holds.bytes holds.tree holds.batch before after status text holds.held holds.stands next
-      (told_ends before after name holds.bytes (needs_any_map hash name next) may status text holds.held ends)
+      (told_ends before after name holds.bytes (needs_map hash name next) may status text holds.held ends)
 
   -- what `apply` came to, by the map and the batch
   applied_ends : (old name new : List ℕ) (v : Version) (t : Tree) (batch : ℕ) (bytes beside : List ℕ) (b : Changes)
@@ -482,16 +490,17 @@ module _ (hash : List ℕ → List ℕ) (before after : Option Files) (status : 
       → EndsAsSaid (say_serve hash map script bundle) (MaySayServe hash map script bundle) before after status text
       → status ≡ Done
   serve_done map script bundle holds ends =
-      let held = first_map holds.on.tree holds.on.batch in
+      let v = holds.version in
+      let held = map_in v holds.on.tree holds.on.batch in
       let next = say_script hash script bundle in
       let said : List ℕ → Outcome = λ text. say_serve_of hash bundle held (queries_of_text text) in
-      let mapped = first_on hash map holds.on.bytes holds.on.tree holds.on.batch before after status text
+      let mapped = map_on v hash map holds.on.bytes holds.on.tree holds.on.batch before after status text
       holds.on.held holds.on.stands
       next (told_ends before after map holds.on.bytes (say_serve hash map script bundle)
       (MaySayServe hash map script bundle) status text holds.on.held ends) in
       let last = ends_on script holds.text before after status text holds.beside (λ text. comes (said text)) mapped in
       last.0 ∙ ap (λ r. (say_serve_of hash bundle held r).status) holds.right
-      ∙ served_done hash bundle held holds.queries
+      ∙ served_done hash bundle held holds.queries (lacks_none v holds.queries holds.may)
 
   check_all_done : (root script bundle : List ℕ) (may : Outcome → Type 0) → HoldsBundle hash before root script bundle
       → EndsAsSaid (say_check_all hash root script bundle) may before after status text → status ≡ Done
@@ -531,15 +540,14 @@ module _ (hash : List ℕ → List ℕ) (before after : Option Files) (status : 
       (may_be hash (commands.Upgrade old new)) holds.1 ends).0
   done sized (commands.Apply old name new) each holds ends = apply_done old.now name.now new.now holds ends
   done sized (commands.Prove map q name) each holds ends =
-      (map_done One map.now (λ m. at_first m.version (comes (say_prove_of hash q name.now m)))
-      (may_be hash (commands.Prove map q name)) holds ends).0
-      ∙ prove_done hash q name.now (first_map holds.tree holds.batch)
+      (map_done holds.version map.now (λ m. comes (say_prove_of hash q name.now m))
+      (may_be hash (commands.Prove map q name)) holds.on ends).0
+      ∙ prove_done hash q name.now (map_in holds.version holds.on.tree holds.on.batch) holds.may
   done sized (commands.Check root q name) each holds ends =
       check_done root q name.now (may_be hash (commands.Check root q name)) each.1.1.0 holds ends
   done sized (commands.Audit map q name) each holds ends =
-      audit_done hash before after status text map.now q name.now holds.on.tree holds.on.batch holds.on.bytes
-      (proof (first hash) holds.on.tree holds.on.batch q) holds.on.held holds.on.stands holds.own sized
-      each.1.1.0 refl ends
+      audit_done holds.version hash before after status text map.now q name.now holds.on.tree holds.on.batch
+      holds.on.bytes holds.bytes holds.on.held holds.on.stands holds.beside sized each.1.1.0 holds.own ends
   done sized (commands.Serve map script bundle) each holds ends =
       serve_done map.now script.now bundle.now holds ends
   done sized (commands.CheckAll root script bundle) each holds ends =
@@ -560,25 +568,28 @@ not_stopped before after status done (inr failed) =
 not_refused : {A : Type 0} (status : Status) → status ≡ Done → status ≡ Refused → A
 not_refused status done refused = absurd (cc)
 
-module _ (hash : List ℕ → List ℕ) (sized : IsSized hash) (before after : World) (status : Status)
-    (t : Tree) (batch : ℕ) (root : List ℕ) (q : Query) (name : List ℕ) (well : WellFormed t)
-    (layers : HasLayers One t) (low : batch < 2 ^ 64)
-    (is_root : root ≡ map_root hash (first_map t batch)) (asked : IsQuery q)
+module _ (v : Version) (hash : List ℕ → List ℕ) (sized : IsSized hash) (before after : World) (status : Status)
+    (t : Tree) (batch : ℕ) (root : List ℕ) (q : Query) (name : List ℕ) (bytes : List ℕ) (well : WellFormed t)
+    (layers : HasLayers v t) (low : batch < 2 ^ 64)
+    (is_root : root ≡ map_root hash (map_in v t batch)) (asked : IsQuery q)
+    (honest : IsProof (by v hash) t batch q bytes)
     (run : HasRun (say_check hash root q name) (LeadsToOutcome (say_check hash root q name) None) before after
     status) where
-  says_honest : say_check_of hash root q (proof (first hash) t batch q) ≡ prints (text_of One (scan (records t) q))
-  says_honest = says_verdict hash root q (proof (first hash) t batch q) (Ok (scan (records t) q))
-      (subst (λ held. verdict hash held q (proof (first hash) t batch q) ≡ Ok (scan (records t) q)) (sym is_root)
-      (accepts_honest (first hash) refl sized q asked t batch well layers low))
+  says_honest : say_check_of hash root q bytes ≡ prints (text_of v (scan (records t) q))
+  says_honest =
+      says_verdict hash root q bytes (Ok (scan (records t) q))
+      ((λ i. verdict hash (is_root i) q (honest.own i))
+      ∙ accepts_honest (by v hash) sized q asked t batch honest.may_come well layers low)
+      ∙ ap (λ v. prints (text_of v (scan (records t) q))) (own_version (by v hash) t batch q bytes honest)
 
-  whole_honest : HoldsBytes before.shelf.files name (proof (first hash) t batch q)
-      → IsWhole (prints (text_of One (scan (records t) q))) before after status
+  whole_honest : HoldsBytes before.shelf.files name bytes
+      → IsWhole (prints (text_of v (scan (records t) q))) before after status
   whole_honest held =
-      let on = ends_on name (proof (first hash) t batch q) before.shelf.files after.shelf.files status run.text held
+      let on = ends_on name bytes before.shelf.files after.shelf.files status run.text held
       (λ bytes. comes (say_check_of hash root q bytes))
-      (told_ends before.shelf.files after.shelf.files name (proof (first hash) t batch q) (say_check hash root q name)
+      (told_ends before.shelf.files after.shelf.files name bytes (say_check hash root q name)
       (LeadsToOutcome (say_check hash root q name) None) status run.text held run.ends) in
-      let said : EndsPlan (comes (prints (text_of One (scan (records t) q)))) before.shelf.files after.shelf.files
+      let said : EndsPlan (comes (prints (text_of v (scan (records t) q)))) before.shelf.files after.shelf.files
       status
       run.text =
       subst (λ o. EndsPlan (comes o) before.shelf.files after.shelf.files status run.text) says_honest on in
@@ -615,8 +626,9 @@ module _ (v : Version) (hash : List ℕ → List ℕ) (sized : IsSized hash) (be
             well layers low accepted)
             (λ own. record {
               own = own.own;
-              printed = subst (TakesBytes before.sink after.sink) (on.1 ∙ said ∙ ap (text_of One) own.complete)
-                  run.printed;
+              printed = subst (TakesBytes before.sink after.sink)
+                  (on.1 ∙ said
+                  ∙ (λ i. text_of (own_version (by v hash) t batch q bytes own.own i) (own.complete i))) run.printed;
             });
       }
 
@@ -648,10 +660,10 @@ module _ (hash : List ℕ → List ℕ) (words : List (List ℕ)) (before after 
   ]
 
   pub honest_answered : IsSized hash → AnswersHonest hash words before after status
-  honest_answered sized t batch root q name well layers low is_root spells held =
+  honest_answered sized v t batch root q name bytes well layers low is_root spells held own =
       elim (ran_as (commands.Check root q name) spells) [
-        | inl run ↦ inl (whole_honest hash sized before after status t batch root q name.now well layers low is_root
-            spells.each.1.1.0 run held)
+        | inl run ↦ inl (whole_honest v hash sized before after status t batch root q name.now bytes well layers low
+            is_root spells.each.1.1.0 own run held)
         | inr stop ↦ inr stop
       ]
 
@@ -664,12 +676,12 @@ module _ (hash : List ℕ → List ℕ) (words : List (List ℕ)) (before after 
       ]
 
   pub accepted_audited : IsSized hash → AuditsAccepted hash words before after status
-  accepted_audited sized t batch map q name held bytes answer spells map_held stands name_held proves =
-      says_worth hash before after status map.now q name.now t batch held bytes answer map_held stands name_held
-      (verdict_from hash (map_root hash (first_map t batch)) q bytes answer spells.each.1.1.0 proves)
-      (clash (first hash) t batch bytes) refl
-      (headline (first hash) sized q bytes spells.each.1.1.0 t batch answer stands.well stands.layers
-      stands.stands.batch_fits proves)
+  accepted_audited sized v t batch map q name held bytes answer spells map_held stands name_held proves =
+      says_worth v hash before after status map.now q name.now t batch held bytes answer map_held stands name_held
+      (verdict_from hash (map_root hash (map_in v t batch)) q bytes answer spells.each.1.1.0 proves)
+      (clash (by v hash) t batch bytes) refl
+      (headline (by v hash) sized q bytes spells.each.1.1.0 t batch answer stands.well
+      (layers_of v hash held t batch stands) stands.stands.batch_fits proves)
       (ran_as (commands.Audit map q name) spells)
 
   pub applied_alike : AppliesAlike hash words before after status

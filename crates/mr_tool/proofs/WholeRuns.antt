@@ -112,11 +112,11 @@ module _ (hash : List ℕ → List ℕ) (words : List (List ℕ)) (before after 
     quiet = quiet_words same ended.printed;
     reads = reads;
     complete = λ command spells order. absurd (none command spells);
-    honest = λ t batch root q name well layers low is_root spells held. absurd
+    honest = λ v t batch root q name bytes well layers low is_root spells held own. absurd
         (none (commands.Check root q name) spells);
     worth = λ v t batch root q name bytes well layers low is_root spells held done.
         absurd (none (commands.Check root q name) spells);
-    audited = λ t batch map q name held bytes answer spells map_held stands name_held proves.
+    audited = λ v t batch map q name held bytes answer spells map_held stands name_held proves.
         absurd (none (commands.Audit map q name) spells);
     collides = λ map q name spells is. absurd (none (commands.Audit map q name) spells);
     alike = λ v t held old batch new bytes text b spells there stands beside right done.

@@ -24,11 +24,12 @@ use Rattle.mr_query.specs.Script.{queries_of_text}
 use Rattle.mr_query.specs.declared.query.Query.{Query}
 use Rattle.mr_proof.specs.Accepted.{ProvesAnswer}
 use Rattle.mr_proof.specs.Clash.{Pair, clash, IsCollision, NoneAnd}
-use Rattle.mr_proof.specs.Honest as honest
+use Rattle.mr_proof.specs.Honest.{IsProof}
+use Rattle.mr_proof.specs.Tight.{MayCome, question}
 use Rattle.mr_bundle.specs.Bundle.{parts}
+use Rattle.mr_bundle.specs.Proofs.{HasProofs}
 use Rattle.mr_bundle.specs.Verdicts.{verdicts}
 use Rattle.mr_command.specs.Answer.{World, IsWhole, HasStopped}
-use Rattle.mr_plan.specs.First.{first, first_map}
 use Rattle.mr_plan.specs.Judged.{IsAccepted}
 use Rattle.mr_plan.specs.Outcome.{Outcome}
 use Rattle.mr_plan.specs.Lines.{digest_line, sound_line, collision_lines}
@@ -72,11 +73,21 @@ pub record HoldsProof (hash : List ℕ → List ℕ) (told : Option Files) (root
   pub answer : List Record
   pub proves : ProvesAnswer hash root q bytes answer
 
--- a map of version 1, and the honest proof of the answer to a query on it
+-- a map that has a proof for the query: one of version 2, or the query names no mask
+pub record HoldsProvable (hash : List ℕ → List ℕ) (told : Option Files) (map : List ℕ) (q : Query)
+    : Type 0 where
+  pub version : Version
+  pub on : HoldsMap version hash told map
+  pub may : MayCome (question q) version
+
+-- a map of either version, and the honest proof of the answer to a query on it
 pub record HoldsHonest (hash : List ℕ → List ℕ) (told : Option Files) (map : List ℕ) (q : Query)
     (name : List ℕ) : Type 0 where
-  pub on : HoldsMap One hash told map
-  pub own : HoldsBytes told name (honest.proof (first hash) on.tree on.batch q)
+  pub version : Version
+  pub on : HoldsMap version hash told map
+  pub bytes : List ℕ
+  pub beside : HoldsBytes told name bytes
+  pub own : IsProof (by version hash) on.tree on.batch q bytes
 
 -- a map of either version, and a text of a batch without a fault in that version, which may be
 -- applied to it
@@ -90,14 +101,17 @@ pub record HoldsBatch (hash : List ℕ → List ℕ) (told : Option Files) (map 
   pub right : batch_of_text version text ≡ Ok changes
   pub may : IsAdmissible (records on.tree) on.batch changes
 
--- a map of version 1, and a script without a fault
+-- a script without a fault, and a map that has a proof for each of its queries: one of version 2,
+-- or they name no mask
 pub record HoldsScript (hash : List ℕ → List ℕ) (told : Option Files) (map : List ℕ)
     (name : List ℕ) : Type 0 where
-  pub on : HoldsMap One hash told map
+  pub version : Version
+  pub on : HoldsMap version hash told map
   pub text : List ℕ
   pub beside : HoldsBytes told name text
   pub queries : List Query
   pub right : queries_of_text text ≡ Ok queries
+  pub may : HasProofs version queries
 
 -- a script without a fault, and a bundle for its queries that is not broken, each part of which is
 -- accepted
@@ -113,8 +127,7 @@ pub record HoldsBundle (hash : List ℕ → List ℕ) (told : Option Files) (roo
   pub accepted : All IsAccepted
       (verdicts hash root queries bytes (parts bytes (length queries)).list)
 
--- the inputs of a command are there, and each is in order; a map that is proved or audited is of
--- version 1, since version 2 has no proofs yet
+-- the inputs of a command are there, and each is in order
 abbrev pub IsInOrder : (List ℕ → List ℕ) → Option Files → Command → Type 0
 IsInOrder hash told (commands.Root name) = HoldsRecords One told name.now
 IsInOrder hash told (commands.Root2 name) = HoldsRecords Two told name.now
@@ -123,7 +136,7 @@ IsInOrder hash told (commands.Build2 map name) = HoldsRecords Two told name.now
 IsInOrder hash told (commands.List map) = HoldsAnyMap hash told map.now
 IsInOrder hash told (commands.Upgrade old new) = HoldsAnyMap hash told old.now
 IsInOrder hash told (commands.Apply old batch new) = HoldsBatch hash told old.now batch.now
-IsInOrder hash told (commands.Prove map q proof) = HoldsMap One hash told map.now
+IsInOrder hash told (commands.Prove map q proof) = HoldsProvable hash told map.now q
 IsInOrder hash told (commands.Check root q proof) = HoldsProof hash told root q proof.now
 IsInOrder hash told (commands.Audit map q proof) = HoldsHonest hash told map.now q proof.now
 IsInOrder hash told (commands.Serve map script bundle) =
@@ -146,21 +159,24 @@ DeliversOutcome said before after status = IsWhole said before after status
     ⊎ HasStopped before after status
 
 -- `check` of the proof that an honest server gives, against the root digest of its map, prints
--- what a scan of the map's records gives; for every query and map of the first version.
+-- what a scan of the map's records gives, in lines of the map's version; for every map of either
+-- version, and every query that has such a proof.
 abbrev pub AnswersHonest : (List ℕ → List ℕ) → List (List ℕ) → World → World → Status → Type 0
 AnswersHonest hash words before after status =
-    (t : Tree) (batch : ℕ) (root : List ℕ) (q : Query) (proof : Bor (List ℕ))
-    → WellFormed t → HasLayers One t → batch < 2 ^ 64
-    → root ≡ map_root hash (first_map t batch) → SpellsCommand words (commands.Check root q proof)
-    → HoldsBytes before.shelf.files proof.now (honest.proof (first hash) t batch q)
-    → DeliversOutcome (prints (text_of One (scan (records t) q))) before after status
+    (v : Version) (t : Tree) (batch : ℕ) (root : List ℕ) (q : Query) (proof : Bor (List ℕ))
+    (bytes : List ℕ)
+    → WellFormed t → HasLayers v t → batch < 2 ^ 64 → root ≡ map_root hash (map_in v t batch)
+    → SpellsCommand words (commands.Check root q proof) → HoldsBytes before.shelf.files
+    proof.now bytes
+    → IsProof (by v hash) t batch q bytes
+    → DeliversOutcome (prints (text_of v (scan (records t) q))) before after status
 
 -- the bytes are those that an honest server gives, and what was printed is what a scan of the map's
--- records gives
+-- records gives, in lines of the map's version
 pub record PrintsScan (s : Scheme) (t : Tree) (batch : ℕ) (q : Query)
     (bytes : List ℕ) (before after : World) : Type 0 where
-  pub own : bytes ≡ honest.proof s t batch q
-  pub printed : TakesBytes before.sink after.sink (text_of One (scan (records t) q))
+  pub own : IsProof s t batch q bytes
+  pub printed : TakesBytes before.sink after.sink (text_of s.version (scan (records t) q))
 
 -- the bytes prove an answer; and no two strings stand at one place of the map and of the bytes and
 -- differ, the bytes are the honest proof and what was printed is the scan, or the first two that do
@@ -185,25 +201,25 @@ AcceptsHonestOrCollides hash words before after status =
 
 -- What `audit` says of accepted bytes, by the first two strings that differ: that they are the
 -- honest proof, and the scan; or the two strings, which have one hash.
-abbrev pub SaysWorth : (List ℕ → List ℕ) → Tree → (batch : ℕ) → Query → List ℕ → Option Pair
+abbrev pub SaysWorth : Scheme → Tree → (batch : ℕ) → Query → List ℕ → Option Pair
     → World → World → Status → Type 0
-SaysWorth hash t batch q bytes None before after status =
-    (bytes ≡ honest.proof (first hash) t batch q)
-    × DeliversOutcome (prints (sound_line ++ text_of One (scan (records t) q))) before after status
-SaysWorth hash t batch q bytes (Some p) before after status =
-    IsCollision hash p
+SaysWorth s t batch q bytes None before after status = IsProof s t batch q bytes
+    × DeliversOutcome (prints (sound_line ++ text_of s.version (scan (records t) q))) before after
+    status
+SaysWorth s t batch q bytes (Some p) before after status =
+    IsCollision s.of p
     × DeliversOutcome (ends Collision (collision_lines p.owned p.shown)) before after status
 
--- So it says of each proof that is accepted against the root digest of the map of version 1 that a
--- file stands for.
+-- So it says of each proof that is accepted against the root digest of the map, of either version,
+-- that a file stands for.
 abbrev pub AuditsAccepted : (List ℕ → List ℕ) → List (List ℕ) → World → World → Status → Type 0
 AuditsAccepted hash words before after status =
-    (t : Tree) (batch : ℕ) (map : Bor (List ℕ)) (q : Query) (proof : Bor (List ℕ))
+    (v : Version) (t : Tree) (batch : ℕ) (map : Bor (List ℕ)) (q : Query) (proof : Bor (List ℕ))
     (held bytes : List ℕ) (answer : List Record)
     → SpellsCommand words (commands.Audit map q proof) → HoldsBytes before.shelf.files map.now held
-    → IsMapFile hash held (first_map t batch) → HoldsBytes before.shelf.files proof.now bytes
-    → ProvesAnswer hash (map_root hash (first_map t batch)) q bytes answer
-    → SaysWorth hash t batch q bytes (clash (first hash) t batch bytes) before after status
+    → IsMapFile hash held (map_in v t batch) → HoldsBytes before.shelf.files proof.now bytes
+    → ProvesAnswer hash (map_root hash (map_in v t batch)) q bytes answer
+    → SaysWorth (by v hash) t batch q bytes (clash (by v hash) t batch bytes) before after status
 
 -- Two strings that `audit` shows as a collision differ and have one hash, whether files are told or
 -- not; that they are the printed ones is known where the sink tells what it takes.

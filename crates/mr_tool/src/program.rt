@@ -181,12 +181,13 @@ pub fn run<H: Hash32, S: Shelf, W: Sink, G: Gate, R: Threads + Sync>(
         ReadsFewWords H.of (map string_bytes words.now) before after }
     // Words that spell no command leave the shelf alone.
     ensures unspoken { IsSpelled (map string_bytes words.now) None → result.1 ≡ shelf }
-    // Inputs that are in order are dealt with to the end. A map that is proved or audited is in
-    // order where it is of version 1.
+    // Inputs that are in order are dealt with to the end. A map that is proved is in order where it
+    // is of version 2, or the queries name no mask.
     ensures complete { let before = world (S.state shelf) (W.state out.old) in
         let after = world (S.state result.1) (W.state out.new) in
         CompletesWords H.of (map string_bytes words.now) before after result.0 }
-    // The proof that an honest server gives is accepted, with the answer of a scan of the map.
+    // The proof that an honest server gives is accepted, with the answer of a scan of the map, in
+    // lines of its version.
     ensures honest { let before = world (S.state shelf) (W.state out.old) in
         let after = world (S.state result.1) (W.state out.new) in
         AnswersHonest H.of (map string_bytes words.now) before after result.0 }

@@ -20,7 +20,22 @@ const CALLS: &str = "Flag = 1 bytes\n\
     InnerTag 78 = tag 78\n\
     InnerTag 76 = BadTag\n\
     Length 200 = 200\n\
-    Length 201 = BadLength";
+    Length 201 = BadLength\n\
+    Version 0 = BadVersion\n\
+    Version 1 = 1\n\
+    Version 2 = 2\n\
+    Version 3 = BadVersion\n\
+    Second 1 = BadVersion\n\
+    Second 2 = 2\n\
+    Layer 63 = 63\n\
+    Layer 64 = BadLayer\n\
+    Mask = 8 bytes\n\
+    Mask 0 0 0 0 0 0 0 0 = 0\n\
+    Mask 255 255 255 255 255 255 255 255 = 18446744073709551615\n\
+    Tally 0 0 0 0 0 0 0 0 = BadCount\n\
+    Tally 0 0 0 0 0 0 0 1 = 1\n\
+    Tally 0 0 0 0 0 16 0 0 = 1048576\n\
+    Tally 0 0 0 0 0 16 0 1 = BadCount";
 
 fn want_of(name: &str) -> Want {
     match name {
@@ -29,6 +44,11 @@ fn want_of(name: &str) -> Want {
         "InnerCount" => Want::InnerCount,
         "LeafTag" => Want::Tag(0),
         "InnerTag" => Want::Tag(1),
+        "Version" => Want::Version(false),
+        "Second" => Want::Version(true),
+        "Layer" => Want::Layer,
+        "Mask" => Want::Mask,
+        "Tally" => Want::Tally,
         _ => Want::Length,
     }
 }

@@ -4,7 +4,7 @@
 ghost use Rattle.mr_query.specs.Word.{IsAskable};
 
 use crate::assertions::{all_hold, all_hold_in_memory};
-use crate::made::{are_first, digest};
+use crate::made::{are_of, digest};
 use mr_check::{CheckErr, Fed, Judge, check};
 use mr_outside::MemSink;
 use mr_proof::{Fault, Rule};
@@ -70,6 +70,37 @@ const DEEPER: &[u8] = b"MRVO\x01W\0\0\0\0\0\0\0\0\0\0\0\0\0\0\0\x02\x02N\x01N\x0
     \0\0\0\0\0\0\0\0\0\0\0\0\0\0\0\0\0\0\0\0\0\0\0\0\0\0\0\0\0\0\0\x11\
     L\x01\0\0\0\0\0\0\0\x07\0\0\0\0\0\0\0\0\0\0\0\0\0\0\0\0\0";
 
+// Version 2: a window's proof on the map of record 7 at layer 5 that opens its leaf; the same with
+// layer 64; one that prunes the leaf; and the same with another count.
+const LAYERED: &[u8] = b"MRVO\x02W\0\0\0\0\0\0\0\0\0\0\0\0\0\0\0\x01\0\
+    L\x01\0\0\0\0\0\0\0\x07\0\0\0\0\0\0\0\0\0\0\0\0\0\0\0\0\x05\0";
+
+const LAYER_64: &[u8] = b"MRVO\x02W\0\0\0\0\0\0\0\0\0\0\0\0\0\0\0\x01\0\
+    L\x01\0\0\0\0\0\0\0\x07\0\0\0\0\0\0\0\0\0\0\0\0\0\0\0\0\x40\0";
+
+const MASKED: &[u8] = b"MRVO\x02W\0\0\0\0\0\0\0\0\0\0\0\0\0\0\0\x01\0\
+    P\0\0\0\0\0\0\0\0\0\0\0\0\0\0\0\0\
+    \0\0\0\0\0\0\0\x20\0\0\0\0\0\0\0\x01\
+    \0\0\0\0\0\0\0\0\0\0\0\0\0\0\0\0\0\0\0\0\0\0\0\0\0\0\0\0\0\0\0\x4f";
+
+const MISCOUNTED: &[u8] = b"MRVO\x02W\0\0\0\0\0\0\0\0\0\0\0\0\0\0\0\x01\0\
+    P\0\0\0\0\0\0\0\0\0\0\0\0\0\0\0\0\
+    \0\0\0\0\0\0\0\x20\0\0\0\0\0\0\0\x02\
+    \0\0\0\0\0\0\0\0\0\0\0\0\0\0\0\0\0\0\0\0\0\0\0\0\0\0\0\0\0\0\0\x4f";
+
+// Records 1 at (1, 0) on layer 0 and 2 at (2, 0) on layer 1, with a squared radius of 4.
+const FARTHER_LAYER: &[u8] = b"MRVO\x02K\0\0\0\0\0\0\0\0\0\0\0\0\0\0\0\x02\
+    \x01\0\0\0\0\0\0\0\0\0\0\0\0\0\0\0\x04\0L\x02\
+    \0\0\0\0\0\0\0\x01\0\0\0\x01\0\0\0\0\0\0\0\x01\0\0\0\0\0\0\
+    \0\0\0\0\0\0\0\x02\0\0\0\x02\0\0\0\0\0\0\0\x02\0\0\0\0\x01\0";
+
+// On a map of level 1 two records on layers 0 and 1 that are pruned, and that leaf with record 7.
+const INNER_LAYERS: &[u8] = b"MRVO\x02W\0\0\0\0\0\0\0\0\0\0\0\0\0\0\0\x03\x01N\x02\
+    P\0\0\0\x05\0\0\0\x05\0\0\0\x06\0\0\0\x06\
+    \0\0\0\0\0\0\0\x03\0\0\0\0\0\0\0\x02\
+    \0\0\0\0\0\0\0\0\0\0\0\0\0\0\0\0\0\0\0\0\0\0\0\0\0\0\0\0\0\0\0\x11\
+    L\x01\0\0\0\0\0\0\0\x07\0\0\0\0\0\0\0\0\0\0\0\0\0\0\0\0\x05\0";
+
 // A proof for the query of a word, by its name; the last byte of a held root digest under the
 // exclusive or; the records that are handed out, as lines of a text; and the rule that is broken
 // and its place, if any is.
@@ -94,7 +125,13 @@ const AWAY: &str = "window:1,1,2,2";
 
 const NEAREST: &str = "nearest:0,0,1";
 
+const ON_LAYER_0: &str = "window:0,0,0,0/0000000000000001";
+
+const ON_LAYER_5: &str = "window:0,0,0,0/0000000000000020";
+
 const SEVEN: &str = "7 0 0 0 0 -\n";
+
+const SEVEN_ON_5: &str = "7 0 0 0 0 5 -\n";
 
 const FIRST_THREE: &str = "1 1 0 1 0 -\n3 3 0 3 0 -\n2 0 2 0 2 -\n";
 
@@ -227,6 +264,102 @@ const ROWS: &[Row] = &[
         found: SEVEN,
         broken: None,
     },
+    Row {
+        name: "a record on the layer",
+        word: ON_LAYER_5,
+        proof: LAYERED,
+        root: 0x3e,
+        found: SEVEN_ON_5,
+        broken: None,
+    },
+    Row {
+        name: "all layers",
+        word: HERE,
+        proof: LAYERED,
+        root: 0x3e,
+        found: SEVEN_ON_5,
+        broken: None,
+    },
+    Row {
+        name: "a part without the layer is pruned",
+        word: ON_LAYER_0,
+        proof: MASKED,
+        root: 0x3e,
+        found: "",
+        broken: None,
+    },
+    Row {
+        name: "a leaf without the layer is opened",
+        word: ON_LAYER_0,
+        proof: LAYERED,
+        root: 0x3e,
+        found: "",
+        broken: Some((Rule::Needless, 50)),
+    },
+    Row {
+        name: "a pruned part with the layer",
+        word: ON_LAYER_5,
+        proof: MASKED,
+        root: 0x3e,
+        found: "",
+        broken: Some((Rule::Hidden, 40)),
+    },
+    Row {
+        name: "another count than the head's",
+        word: ON_LAYER_0,
+        proof: MISCOUNTED,
+        root: 0x3e,
+        found: "",
+        broken: Some((Rule::WrongTally, 88)),
+    },
+    Row {
+        name: "a layer too high",
+        word: ON_LAYER_5,
+        proof: LAYER_64,
+        root: 0x3e,
+        found: "",
+        broken: Some((Rule::BadLayer, 49)),
+    },
+    Row {
+        name: "version 1 for a named mask",
+        word: "window:0,0,0,0/ffffffffffffffff",
+        proof: OPENED,
+        root: 0x18,
+        found: "",
+        broken: Some((Rule::BadVersion, 4)),
+    },
+    Row {
+        name: "the nearest on a layer",
+        word: "nearest:0,0,1/0000000000000002",
+        proof: FARTHER_LAYER,
+        root: 0x1e,
+        found: "2 2 0 2 0 1 -\n",
+        broken: None,
+    },
+    Row {
+        name: "that radius for all layers",
+        word: NEAREST,
+        proof: FARTHER_LAYER,
+        root: 0x1e,
+        found: "1 1 0 1 0 0 -\n2 2 0 2 0 1 -\n",
+        broken: Some((Rule::WrongRadius, 94)),
+    },
+    Row {
+        name: "an inner node of version 2",
+        word: "window:0,0,9,9/0000000000000020",
+        proof: INNER_LAYERS,
+        root: 0x42,
+        found: SEVEN_ON_5,
+        broken: None,
+    },
+    Row {
+        name: "a child on the layer is pruned",
+        word: "window:0,0,9,9/0000000000000021",
+        proof: INNER_LAYERS,
+        root: 0x42,
+        found: "",
+        broken: Some((Rule::Hidden, 42)),
+    },
 ];
 
 // The root digest of the map of record 7 by SHA-256: that of its 67 bytes, which end in the digest
@@ -269,13 +402,21 @@ fn feed<H: Hash32>(
     Ok(())
 }
 
-// These records as lines of a text.
-fn lines(alloc: Global, records: &[Record]) -> Result<Vec<u8>, AllocError> {
+// These records as lines of a text of this version.
+fn lines(alloc: Global, version: Version, records: &[Record]) -> Result<Vec<u8>, AllocError> {
     let mut out = MemSink::new(alloc, Vec::new(alloc));
-    if are_first(records) {
-        let _ = write_lines(&mut out, Version::One, records);
+    if are_of(version, records) {
+        let _ = write_lines(&mut out, version, records);
     }
     out.bytes().to_vec(alloc)
+}
+
+// The version that a proof says.
+fn version_in(proof: &[u8]) -> Version {
+    match proof {
+        [_, _, _, _, 2, ..] => Version::Two,
+        _ => Version::One,
+    }
 }
 
 // The lines of the records that are handed out, and the verdict, of a proof that is cut at this
@@ -297,7 +438,7 @@ fn judged<H: Hash32>(
     for piece in back.chunks(size.max(1)) {
         feed(&mut judge, piece, &mut found)?;
     }
-    Ok((lines(alloc, &found)?, judge.end().err()))
+    Ok((lines(alloc, version_in(proof), &found)?, judge.end().err()))
 }
 
 // The fault of a whole proof.

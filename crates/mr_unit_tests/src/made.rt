@@ -9,7 +9,7 @@ ghost use Rattle.mr_tree.specs.WellFormed.{WellFormed, HasLayers};
 use mr_batch::Directory;
 use mr_geom::Rect;
 use mr_pack::pack;
-use mr_record::{Payload, Record, read_line, read_lines};
+use mr_record::{LAYER_LIMIT, Payload, Record, Version, read_line, read_lines};
 use mr_tree::{Tree, records_of as list_of};
 use std::alloc::Global;
 
@@ -44,6 +44,23 @@ pub fn are_first(list: &[Record]) -> bool
     ensures second { result ≡ true → All (HasLayer Two) list.now }
 {
     list.iter().all(|one| one.layer == 0)
+}
+
+/// Whether each of these records has a layer that there is in version 2.
+pub fn are_second(list: &[Record]) -> bool
+    ensures { result ≡ true → All (HasLayer Two) list.now }
+{
+    list.iter().all(|one| one.layer <= LAYER_LIMIT)
+}
+
+/// Whether each of these records has a layer of this version.
+pub fn are_of(version: Version, list: &[Record]) -> bool
+    ensures { result ≡ true → All (HasLayer version) list.now }
+{
+    match version {
+        Version::One => are_first(list),
+        Version::Two => are_second(list),
+    }
 }
 
 /// Whether a tree is known to be one of version 1.
@@ -94,7 +111,8 @@ fn packed(alloc: Global, list: Vec<Record>) -> Option<Tree>
     requires first { All (HasLayer One) list.items }
     requires second { All (HasLayer Two) list.items }
     ensures well_formed { IfSome result WellFormed }
-    ensures layers { IfSome result (HasLayers One) }
+    ensures first { IfSome result (HasLayers One) }
+    ensures second { IfSome result (HasLayers Two) }
 {
     match pack(alloc, list) {
         Ok(tree) => Some(tree),
@@ -106,7 +124,8 @@ fn packed(alloc: Global, list: Vec<Record>) -> Option<Tree>
 /// there is no memory.
 pub fn tree_of(alloc: Global, list: Vec<Record>) -> Option<Tree>
     ensures well_formed { IfSome result WellFormed }
-    ensures layers { IfSome result (HasLayers One) }
+    ensures first { IfSome result (HasLayers One) }
+    ensures second { IfSome result (HasLayers Two) }
 {
     if list.len() > 1 << 20 {
         return None;

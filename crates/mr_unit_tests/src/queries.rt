@@ -7,14 +7,15 @@ use mr_batch::generate_queries;
 use mr_geom::{Point, Region};
 use mr_outside::{MemSink, Sink};
 use mr_query::{
-    Area, Circle, Everywhere, Query, QueryFault, Window, answer as answer_to, rank, read_query,
-    write_query,
+    Area, Circle, Everywhere, Key, Query, QueryFault, Shape, Window, answer as answer_to, rank,
+    read_query, write_query,
 };
 use mr_record::Record;
 use std::alloc::{AllocError, Global};
 
-// Of a word that is no query the first fault counts. A region meets what touches its border: here
-// the squared distance of the rectangle from (0, 0) is 25.
+// Of a word that is no query the first fault counts: what stands before its first `/` goes before
+// the mask. A region meets what touches its border: here the squared distance of the rectangle from
+// (0, 0) is 25. The area of a query is asked of a part with layers 0 and 5.
 const WORDS: &str = "read window:-2147483648,-1,0,2147483647 = window -2147483648 -1 0 2147483647\n\
     read nearest:-2147483648,2147483647,1024 = nearest -2147483648 2147483647 1024\n\
     read nearest:-2147483648,2147483647,1 = nearest -2147483648 2147483647 1\n\
@@ -36,8 +37,22 @@ const WORDS: &str = "read window:-2147483648,-1,0,2147483647 = window -214748364
     read nearest:0,0,+1 = Number 3\n\
     read nearest:0,0,01 = Number 3\n\
     read nearest:0,0,18446744073709551616 = Number 3\n\
+    read window:0,0,1,1/0000000000000020 = window 0 0 1 1 of 32\n\
+    read nearest:0,0,1/ffffffffffffffff = nearest 0 0 1 of 18446744073709551615\n\
+    read window:0,0,1,1/0000000000000000 = window 0 0 1 1 of 0\n\
+    read window:0,0,1,1/ = Mask\n\
+    read window:0,0,1,1/000000000000002 = Mask\n\
+    read window:0,0,1,1/00000000000000020 = Mask\n\
+    read window:0,0,1,1/00000000000000AF = Mask\n\
+    read window:0,0,1,1/0000000000000020/ = Mask\n\
+    read window:0,0,1/ = Parts\n\
+    read window/0000000000000020 = Kind\n\
+    read /0000000000000020 = Kind\n\
     written window:-2147483648,-1,0,2147483647 = window:-2147483648,-1,0,2147483647\n\
     written nearest:-7,2147483647,1024 = nearest:-7,2147483647,1024\n\
+    written window:-2147483648,-2147483648,-2147483647,-2147483647/fedcba9876543210 = \
+    window:-2147483648,-2147483648,-2147483647,-2147483647/fedcba9876543210\n\
+    written nearest:0,0,1/0000000000000001 = nearest:0,0,1/0000000000000001\n\
     generated 2 = window:791033,550767,811033,570767 nearest:398634,282036,10 ";
 
 const REGIONS: &str = "window 0 0 2 2 2 2 3 3 = true\n\
@@ -51,17 +66,32 @@ const REGIONS: &str = "window 0 0 2 2 2 2 3 3 = true\n\
     area window:0,0,3,4 none 3 4 5 6 = true\n\
     area window:0,0,3,4 none 4 0 5 6 = false\n\
     area window:0,0,3,4 0 3 4 5 6 = true\n\
-    area window:0,0,3,4 0 4 0 5 6 = false";
+    area window:0,0,3,4 0 4 0 5 6 = false\n\
+    area window:0,0,3,4/0000000000000020 3 4 5 6 = true\n\
+    area window:0,0,3,4/ffffffffffffffde 3 4 5 6 = false\n\
+    area window:0,0,3,4/0000000000000001 4 0 5 6 = false\n\
+    area nearest:0,0,1/0000000000000000 none 3 4 5 6 = false\n\
+    area nearest:0,0,1/0000000000000003 25 3 4 5 6 = true\n\
+    area nearest:0,0,1/0000000000000002 25 3 4 5 6 = false";
 
-// Points by their number and their left side: (9, 1) is nearest to (0, 0), the others are equally
-// near to it, and two of those have one number.
+// Points by their number, their left side and their layer: (9, 1) is nearest to (0, 0), the others
+// are equally near to it, and two of those have one number. To rank them no layer counts.
 const ANSWERS: &str = "ranked 4 = 9:1 2:3 2:-3 5:3 \n\
     ranked 5 = 9:1 2:3 2:-3 5:3 \n\
     ranked 1 = 9:1 \n\
     answered window:-3,0,2,0 = 2:-3 9:1 \n\
-    answered nearest:0,0,2 = 9:1 2:3 ";
+    answered nearest:0,0,2 = 9:1 2:3 \n\
+    answered window:-3,0,2,0/0000000000000020 = 9:1 \n\
+    answered window:-3,0,2,0/0000000000000002 = \n\
+    answered nearest:0,0,2/0000000000000001 = 2:-3 5:3 \n\
+    answered nearest:0,0,1/0000000000000001 = 2:-3 \n\
+    answered nearest:0,0,3/0000000000000020 = 9:1 2:3 \n\
+    answered nearest:0,0,1/0000000000000000 = ";
 
-const POINTS: &[(u64, i32)] = &[(5, 3), (2, 3), (2, -3), (9, 1)];
+const POINTS: &[(u64, i32, u8)] = &[(5, 3, 0), (2, 3, 5), (2, -3, 0), (9, 1, 5)];
+
+// The layers of the part that an area is asked of.
+const LAYERS: u64 = 0b10_0001;
 
 fn fault_of(alloc: Global, fault: QueryFault) -> Result<String, AllocError> {
     match fault {
@@ -69,20 +99,29 @@ fn fault_of(alloc: Global, fault: QueryFault) -> Result<String, AllocError> {
         QueryFault::Parts => String::from_str(alloc, "Parts"),
         QueryFault::Number { part } => format!(in alloc; "Number {part}"),
         QueryFault::Order => String::from_str(alloc, "Order"),
+        QueryFault::Mask => String::from_str(alloc, "Mask"),
     }
 }
 
-// A query's parts.
-fn parts_of(alloc: Global, query: &Query) -> Result<String, AllocError> {
-    match query {
-        Query::Window(rect) => {
+fn shape_of(alloc: Global, shape: &Shape) -> Result<String, AllocError> {
+    match shape {
+        Shape::Window(rect) => {
             let sides = sides_of(alloc, rect)?;
             format!(in alloc; "window {sides}")
         }
-        Query::Nearest { center, k } => {
+        Shape::Nearest { center, k } => {
             let (x, y) = (center.x, center.y);
             format!(in alloc; "nearest {x} {y} {k}")
         }
+    }
+}
+
+// A query's parts, and its mask where it names one.
+fn parts_of(alloc: Global, query: &Query) -> Result<String, AllocError> {
+    let shape = shape_of(alloc, &query.shape)?;
+    match query.mask {
+        Some(mask) => format!(in alloc; "{shape} of {mask}"),
+        None => Ok(shape),
     }
 }
 
@@ -140,7 +179,11 @@ fn is_met_by_area(word: &str, all: &[i32]) -> Option<bool> {
         [r2, sides @ ..] if sides.len() == 4 => (u128::try_from(*r2).ok(), sides),
         _ => (None, all),
     };
-    Some(Area { query, radius }.meets(&rect_in(sides)?))
+    let part = Key {
+        rect: rect_in(sides)?,
+        mask: LAYERS,
+    };
+    Some(Area { query, radius }.reaches(&part))
 }
 
 fn met(alloc: Global, call: &str, words: &str) -> Result<String, AllocError> {
@@ -161,9 +204,12 @@ fn met(alloc: Global, call: &str, words: &str) -> Result<String, AllocError> {
 
 fn points(alloc: Global) -> Result<Vec<Record>, AllocError> {
     let mut list = Vec::new(alloc);
-    for (number, x) in POINTS {
+    for (number, x, layer) in POINTS {
         if let Some(record) = record_at(*number, (*x, 0, *x, 0)) {
-            list.push(record)?;
+            list.push(Record {
+                layer: *layer,
+                ..record
+            })?;
         }
     }
     Ok(list)

@@ -2,6 +2,7 @@
 
 ghost use Rattle.std.specs.Prelude.{◌≡◌, ◌<◌, ◌^◌, IfSome};
 ghost use Rattle.mr_tree.specs.WellFormed.{WellFormed};
+ghost use Rattle.mr_record.specs.declared.version.Version.TheVariants.{Two};
 ghost use Rattle.mr_proof.specs.Tight.{IsLawful};
 ghost use Rattle.mr_unit_tests.specs.Outside.{outside};
 
@@ -14,6 +15,7 @@ use mr_geom::Rect;
 use mr_outside::MemSink;
 use mr_proof::{Around, AsQuestion, Fault, Kind, Way};
 use mr_prove::prove_question;
+use mr_query::{Area, Key, Query, Shape};
 use mr_tree::{Snapshot, XorHash};
 use std::alloc::{AllocError, Global};
 
@@ -35,8 +37,16 @@ impl AsQuestion for Outside {
         None
     }
 
-    fn way(&self, _radius: Option<u128>, rect: &Rect) -> Way {
-        if self.window.meets(rect) {
+    fn two_only(&self) -> bool {
+        true
+    }
+
+    fn way(&self, _radius: Option<u128>, part: &Key) -> Way {
+        let area = Area {
+            query: Query::of(Shape::Window(self.window)),
+            radius: None,
+        };
+        if area.reaches(part) {
             Way::Open
         } else {
             Way::Whole
@@ -62,9 +72,11 @@ const ROW: &str = "1 1 0 1 0 -\n2 2 0 2 0 -\n3 3 0 3 0 -\n4 4 0 4 0 -\n5 5 0 5 0
     7 7 0 7 0 -\n8 8 0 8 0 -\n9 9 0 9 0 -\n10 10 0 10 0 -\n11 11 0 11 0 -\n12 12 0 12 0 -\n\
     13 13 0 13 0 -\n14 14 0 14 0 -\n15 15 0 15 0 -\n16 16 0 16 0 -\n17 17 0 17 0 -\n";
 
-fn map_of(alloc: Global) -> Option<Snapshot<XorHash>> {
+fn map_of(alloc: Global) -> Option<Snapshot<XorHash>>
+    ensures { IfSome result (λ map. map.top.version ≡ Two) }
+{
     let tree = tree_of(alloc, records_of(alloc, ROW)?)?;
-    match Snapshot::of(alloc, &tree, 0) {
+    match Snapshot::of2(alloc, &tree, 0) {
         Ok(map) => Some(map),
         Err(_) => None,
     }
@@ -77,7 +89,9 @@ fn asked(letter: u8, corners: Corners) -> Option<Outside> {
     })
 }
 
-fn proof_of(alloc: Global, map: &Snapshot<XorHash>, q: &Outside) -> Option<Vec<u8>> {
+fn proof_of(alloc: Global, map: &Snapshot<XorHash>, q: &Outside) -> Option<Vec<u8>>
+    requires { map.now.top.version ≡ Two }
+{
     let mut out = MemSink::new(alloc, Vec::new(alloc));
     match (
         prove_question(&mut map.reader(), q, &mut out),
@@ -91,7 +105,7 @@ fn proof_of(alloc: Global, map: &Snapshot<XorHash>, q: &Outside) -> Option<Vec<u
 // The root digest of the map under the exclusive or of all bytes.
 const ROOT: [u8; 32] = [
     0, 0, 0, 0, 0, 0, 0, 0, 0, 0, 0, 0, 0, 0, 0, 0, 0, 0, 0, 0, 0, 0, 0, 0, 0, 0, 0, 0, 0, 0, 0,
-    0x0f,
+    0x0c,
 ];
 
 // The letter and the window of a question that is proved, those of the one that the proof is
@@ -107,27 +121,27 @@ struct Check<'a> {
 // The first leaf is opened, and the second one told by its entry: 17 records from (1, 0) to (17,
 // 0). A letter that queries have is as good as another. A proof is refused for another letter, at
 // the byte of the kind, and where the window meets a part that is told by its entry alone, at its
-// rectangle.
+// mask.
 const CHECKS: &[Check<'static>] = &[
     Check {
         proved: (b'A', (2, 0, 3, 0)),
         asked: (b'A', (2, 0, 3, 0)),
-        said: "276 bytes: 8 of 17 in 1 0 17 0",
+        said: "300 bytes: 8 of 17 in 1 0 17 0",
     },
     Check {
         proved: (b'K', (2, 0, 3, 0)),
         asked: (b'K', (2, 0, 3, 0)),
-        said: "276 bytes: 8 of 17 in 1 0 17 0",
+        said: "300 bytes: 8 of 17 in 1 0 17 0",
     },
     Check {
         proved: (b'A', (2, 0, 3, 0)),
         asked: (b'B', (2, 0, 3, 0)),
-        said: "276 bytes: WrongKind at 5",
+        said: "300 bytes: WrongKind at 5",
     },
     Check {
         proved: (b'A', (2, 0, 3, 0)),
         asked: (b'A', (2, 0, 9, 0)),
-        said: "276 bytes: Hidden at 228",
+        said: "300 bytes: Hidden at 252",
     },
 ];
 
@@ -205,11 +219,11 @@ fn is_audited(alloc: Global) -> Option<bool> {
     let q = asked(b'A', (2, 0, 3, 0))?;
     let mut proof = proof_of(alloc, &map, &q)?;
     let honest = is_honest(&audited(alloc, &map, &q, &proof));
-    if proof.len() < 77 {
+    if proof.len() < 79 {
         return None;
     }
-    for i in 27..52 {
-        proof.swap(i, i + 25);
+    for i in 27..53 {
+        proof.swap(i, i + 26);
     }
     let outcome = audited(alloc, &map, &q, &proof);
     Some(honest && matches!(outcome, Some(QuestionFinding::Collision(_, _))))

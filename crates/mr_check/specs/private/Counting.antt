@@ -3,6 +3,7 @@ use Rattle.std.specs.Prelude.{◌≡◌, ℕ, ◌-◌, ◌^◌, min, Bool, false
 use Rattle.std.specs.List.{count_by}
 use Rattle.mr_record.specs.declared.record.Record.{Record}
 use Rattle.mr_query.specs.Nearest.{distance}
+use Rattle.mr_proof.specs.Refused.{is_other_radius}
 use Rattle.mr_proof.specs.declared.question.Around.{Around}
 use Rattle.mr_check.specs.declared.radius_counts.RadiusCounts.{RadiusCounts}
 
@@ -26,3 +27,9 @@ pub record CountsRecords (x : Option Around) (radius : Option ℕ) (rs : List Re
   pub found : t.found ≡ min (length rs) (2 ^ 64 - 1)
   pub nearer : t.nearer ≡ min (count_by (is_near x radius) rs) (2 ^ 64 - 1)
   pub within : t.within ≡ min (count_by (is_in x radius) rs) (2 ^ 64 - 1)
+
+-- Whether the squared radius is another than that of these records, if heads have one. All of them
+-- are on the layers that it is of, as those that are handed out are.
+abbrev pub other_radius : Option Around → Option ℕ → List Record → Bool
+other_radius None radius rs = false
+other_radius (Some x) radius rs = is_other_radius x radius rs

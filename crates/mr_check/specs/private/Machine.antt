@@ -5,6 +5,9 @@ use Rattle.std.specs.Prelude.{◌≡◌, ℕ, zero, suc, ◌+◌, ◌-◌, ◌<�
 use Rattle.std.specs.List.{flat_map}
 use Rattle.mr_geom.specs.Rectangle.{Rectangle}
 use Rattle.mr_record.specs.declared.record.Record.{Record}
+use Rattle.mr_record.specs.declared.version.Version.{Version}
+use Rattle.mr_record.specs.declared.version.Version.TheVariants.{One, Two}
+use Rattle.mr_record.specs.Version.{told}
 use Rattle.mr_tree.specs.Tree.{first_level}
 use Rattle.mr_tree.specs.Digest.{Scheme, by, leaf_tag, inner_tag, no_entry, root_preimage}
 use Rattle.mr_tree.specs.HasHashed.{Piece, of_record, of_entry}
@@ -13,16 +16,17 @@ use Rattle.mr_proof.specs.declared.way.Way.{Way}
 use Rattle.mr_proof.specs.declared.head.Kind.{Kind}
 use Rattle.mr_proof.specs.declared.head.Head.{Head}
 use Rattle.mr_proof.specs.declared.rule.Rule.{Rule}
-use Rattle.mr_proof.specs.declared.rule.Rule.TheVariants as rule
 use Rattle.mr_proof.specs.declared.want.Want.{Want}
 use Rattle.mr_proof.specs.declared.want.Want.TheVariants as want
 use Rattle.mr_proof.specs.declared.field.Field.{Field}
-use Rattle.mr_proof.specs.Fields.{version, pruned_tag}
+use Rattle.mr_proof.specs.Fields.{pruned_tag}
 use Rattle.mr_proof.specs.Cut.{Cut, Cuts, Pruned, Leaf, Inner, first, entry, records}
-use Rattle.mr_proof.specs.Spelling.{Parsed, said, version_of, opened_records}
-use Rattle.mr_proof.specs.Tight.{Key, opens_at, keeps_at, Question}
+use Rattle.mr_proof.specs.Spelling.{Parsed, said, opened_records}
+use Rattle.mr_query.specs.declared.key.Key.{Key}
+use Rattle.mr_proof.specs.Tight.{Question, key_at, keeps_record}
+use Rattle.mr_proof.specs.Refused.{is_other_count}
 use Rattle.mr_proof.specs.Accepted.{proof_preimage}
-use Rattle.mr_proof.specs.Grammar.{Grammar, must, opens, done, reads, notes, number_in, wide_in, tag_in, rect_in, bytes_in, payload, some_records, opened, leaf, some_items, inner, pruned, item, radius, level, part}
+use Rattle.mr_proof.specs.Grammar.{Grammar, opens, done, reads, notes, number_in, version_in, wide_in, tag_in, rect_in, bytes_in, payload, layer, some_records, opened, leaf, some_items, inner, unopened, layers_and_count, pruned, item, radius, level, part}
 use Rattle.mr_check.specs.declared.frame.Frame.{Frame}
 use Rattle.mr_check.specs.declared.stage.HeadField.{HeadField}
 use Rattle.mr_check.specs.declared.stage.HeadField.TheVariants as field
@@ -55,55 +59,62 @@ abbrev pub ways_at : Question → Head → Key → Way
 ways_at q h = q.way h.radius
 
 abbrev pub is_handed_out : Question → Head → Record → Bool
-is_handed_out q h r = keeps_at (q.way h.radius) r.rect
+is_handed_out q h r = keeps_record (q.way h.radius) r
 
 -- what follows a node of this level below these open nodes, its parent first
 abbrev pub after : (Key → Way) → Head → ℕ → List Open → Cut → Grammar Parsed
 after way h level [] P = done (said h (Some P))
 after way h level (o ∷ os) P =
-    some_items (item way level) o.left (λ Ps.
-    opened way (Inner (with_front o.front (first P Ps))) (after way h (level + 1) os))
+    some_items (item h.version way level) o.left (λ Ps.
+    opened h.version way (Inner (with_front o.front (first P Ps))) (after way h (level + 1) os))
 
 -- what follows a record of a leaf, behind these and with so many more to come
 abbrev pub after_record : (Key → Way) → Head → ℕ → List Open → List Record → Record → Grammar Parsed
 after_record way h left os rs r =
-    notes (opens r (keeps_at way r.rect)) (some_records way left (λ ts.
-    opened way (Leaf (rs ++ r ∷ ts)) (after way h 0 os)))
+    notes (opens r (keeps_record way r)) (some_records h.version way left (λ ts.
+    opened h.version way (Leaf (rs ++ r ∷ ts)) (after way h 0 os)))
 
 -- ---- what follows the field under way
 
-abbrev pub head_so : Kind → ℕ → ℕ → Option ℕ → ℕ → Head
-head_so k b c r l = record { kind = k; batch = b; count = c; radius = r; level = l }
+abbrev pub head_so : Version → Kind → ℕ → ℕ → Option ℕ → ℕ → Head
+head_so v k b c r l =
+    record { version = v; kind = k; batch = b; count = c; radius = r; level = l }
 
-abbrev pub after_radius : (Option ℕ → Key → Way) → Kind → ℕ → ℕ → Option ℕ → Grammar Parsed
-after_radius way k b c r = level c (λ l. part way (head_so k b c r l))
+abbrev pub after_radius : (Option ℕ → Key → Way) → Version → Kind → ℕ → ℕ → Option ℕ
+    → Grammar Parsed
+after_radius way v k b c r = level c (λ l. part way (head_so v k b c r l))
 
-abbrev pub after_count : (Option ℕ → Key → Way) → Kind → ℕ → ℕ → Grammar Parsed
-after_count way k b c = radius k (λ r. after_radius way k b c r)
+abbrev pub after_count : (Option ℕ → Key → Way) → Version → Kind → ℕ → ℕ → Grammar Parsed
+after_count way v k b c = radius k (λ r. after_radius way v k b c r)
 
-abbrev pub after_kind : (Option ℕ → Key → Way) → Kind → Grammar Parsed
-after_kind way k =
-    reads want.Batch (λ b. reads want.Count (λ c. after_count way k (number_in b) (number_in c)))
+abbrev pub after_kind : (Option ℕ → Key → Way) → Version → Kind → Grammar Parsed
+after_kind way v k =
+    reads want.Batch (λ b. reads want.Count (λ c. after_count way v k (number_in b) (number_in c)))
+
+abbrev pub after_version : (Option ℕ → Key → Way) → Version → Kind → Grammar Parsed
+after_version way v k = reads (want.Kind k) (λ _. after_kind way v k)
 
 abbrev pub head_next : (Option ℕ → Key → Way) → Head → HeadField → Field → Grammar Parsed
-head_next way h field.Magic v =
-    reads want.Version (λ _. reads (want.Kind h.kind) (λ _. after_kind way h.kind))
-head_next way h field.Version v = reads (want.Kind h.kind) (λ _. after_kind way h.kind)
-head_next way h field.Kind v = after_kind way h.kind
-head_next way h field.Batch v =
-    reads want.Count (λ c. after_count way h.kind (number_in v) (number_in c))
-head_next way h field.Count v = after_count way h.kind h.batch (number_in v)
-head_next way h field.Flag v =
-    if number_in v == 0 then after_radius way h.kind h.batch h.count None
-    else reads want.Radius (λ r. after_radius way h.kind h.batch h.count (Some (wide_in r)))
-head_next way h field.Radius v = after_radius way h.kind h.batch h.count (Some (wide_in v))
-head_next way h field.Level v =
-    part way (head_so h.kind h.batch h.count h.radius (number_in v))
+head_next way h (field.Magic two_only) f =
+    reads (want.Version two_only) (λ v. after_version way (version_in v) h.kind)
+head_next way h (field.Version two_only) f = after_version way (version_in f) h.kind
+head_next way h field.Kind f = after_kind way h.version h.kind
+head_next way h field.Batch f =
+    reads want.Count (λ c. after_count way h.version h.kind (number_in f) (number_in c))
+head_next way h field.Count f = after_count way h.version h.kind h.batch (number_in f)
+head_next way h field.Flag f =
+    if number_in f == 0 then after_radius way h.version h.kind h.batch h.count None
+    else reads want.Radius
+    (λ r. after_radius way h.version h.kind h.batch h.count (Some (wide_in r)))
+head_next way h field.Radius f =
+    after_radius way h.version h.kind h.batch h.count (Some (wide_in f))
+head_next way h field.Level f =
+    part way (head_so h.version h.kind h.batch h.count h.radius (number_in f))
 
 -- an opened node behind its tag
-abbrev pub opened_item : (Key → Way) → ℕ → (Cut → Grammar Parsed) → Grammar Parsed
-opened_item way zero next = leaf way next
-opened_item way (suc w) next = inner way (item way w) next
+abbrev pub opened_item : Version → (Key → Way) → ℕ → (Cut → Grammar Parsed) → Grammar Parsed
+opened_item v way zero next = leaf v way next
+opened_item v way (suc w) next = inner v way (item v way w) next
 
 -- the stage behind a tag
 abbrev pub stage_of : ℕ → ℕ → Stage
@@ -111,26 +122,43 @@ stage_of level t =
     if t == pruned_tag then stage.Shown level else if level == 0 then stage.Records
     else stage.Entries (level - 1)
 
-abbrev pub node_next : (Key → Way) → ℕ → (Cut → Grammar Parsed) → ℕ → Grammar Parsed
-node_next way v next t =
-    if t == pruned_tag then pruned way next else opened_item way v next
+abbrev pub node_next : Version → (Key → Way) → ℕ → (Cut → Grammar Parsed) → ℕ → Grammar Parsed
+node_next v way w next t =
+    if t == pruned_tag then pruned v way next else opened_item v way w next
 
--- a pruned part behind its rectangle
-abbrev pub shown_next : (Key → Way) → (Cut → Grammar Parsed) → Rectangle → Grammar Parsed
-shown_next way next r =
-    notes (must rule.Hidden (not (opens_at way r))) (reads want.Digest (λ d.
-    next (Pruned (record { rect = r; digest = bytes_in d }))))
+-- a pruned part behind its rectangle, mask and count; without its count; and without its mask
+abbrev pub behind_tally : (Cut → Grammar Parsed) → Rectangle → (mask count : ℕ) → Grammar Parsed
+behind_tally next r m c =
+    reads want.Digest (λ d.
+    next (Pruned (record { rect = r; mask = m; count = c; digest = bytes_in d })))
 
--- a record behind its number, behind its rectangle too, and behind its length too
-abbrev pub behind_length : (Record → Grammar Parsed) → ℕ → Rectangle → ℕ → Grammar Parsed
-behind_length next n r l =
-    payload l (λ p. next (record { number = n; rect = r; layer = 0; payload = p }))
+abbrev pub behind_mask : (Key → Way) → (Cut → Grammar Parsed) → Rectangle → ℕ → Grammar Parsed
+behind_mask way next r m =
+    unopened way (key_at Two m r) (reads want.Tally (λ c. behind_tally next r m (number_in c)))
 
-abbrev pub behind_sides : (Record → Grammar Parsed) → ℕ → Rectangle → Grammar Parsed
-behind_sides next n r = reads want.Length (λ l. behind_length next n r (number_in l))
+abbrev pub shown_next : Version → (Key → Way) → (Cut → Grammar Parsed) → Rectangle
+    → Grammar Parsed
+shown_next v way next r = layers_and_count v way r (λ m c. behind_tally next r m c)
 
-abbrev pub behind_number : (Record → Grammar Parsed) → ℕ → Grammar Parsed
-behind_number next n = reads want.Rect (λ r. behind_sides next n (rect_in r))
+-- a record behind its number, rectangle, layer and length; without its length; without its layer;
+-- and without its rectangle
+abbrev pub behind_length : (Record → Grammar Parsed) → ℕ → Rectangle → ℕ → ℕ → Grammar Parsed
+behind_length next n r i l =
+    payload l (λ p. next (record { number = n; rect = r; layer = i; payload = p }))
+
+abbrev pub behind_layer : (Record → Grammar Parsed) → ℕ → Rectangle → ℕ → Grammar Parsed
+behind_layer next n r i = reads want.Length (λ l. behind_length next n r i (number_in l))
+
+abbrev pub behind_sides : Version → (Record → Grammar Parsed) → ℕ → Rectangle → Grammar Parsed
+behind_sides v next n r = layer v (λ i. behind_layer next n r i)
+
+abbrev pub behind_number : Version → (Record → Grammar Parsed) → ℕ → Grammar Parsed
+behind_number v next n = reads want.Rect (λ r. behind_sides v next n (rect_in r))
+
+-- the stage behind the rectangle of a record
+abbrev pub behind_rect : Version → ℕ → Rectangle → Stage
+behind_rect One n r = stage.Length n r 0
+behind_rect Two n r = stage.Layer n r
 
 -- what is open above the field under way: the inner nodes, and the records of a leaf that were read
 pub record Above : Type 0 where
@@ -141,26 +169,33 @@ pub record Above : Type 0 where
 abbrev pub next_at : (Option ℕ → Key → Way) → Head → ℕ → Above → Stage → Field → Grammar Parsed
 next_at way h left a (stage.Head f) v = head_next way h f v
 next_at way h left a (stage.Tag l) v =
-    node_next (way h.radius) l (after (way h.radius) h l a.nodes) (tag_in v)
+    node_next h.version (way h.radius) l (after (way h.radius) h l a.nodes) (tag_in v)
 next_at way h left a (stage.Shown l) v =
-    shown_next (way h.radius) (after (way h.radius) h l a.nodes) (rect_in v)
-next_at way h left a (stage.Digest l r) v =
-    after (way h.radius) h l a.nodes (Pruned (record { rect = r; digest = bytes_in v }))
+    shown_next h.version (way h.radius) (after (way h.radius) h l a.nodes) (rect_in v)
+next_at way h left a (stage.Mask l r) v =
+    behind_mask (way h.radius) (after (way h.radius) h l a.nodes) r (number_in v)
+next_at way h left a (stage.Tally l r m) v =
+    behind_tally (after (way h.radius) h l a.nodes) r m (number_in v)
+next_at way h left a (stage.Digest l r m c) v =
+    after (way h.radius) h l a.nodes (Pruned (record
+    { rect = r; mask = m; count = c; digest = bytes_in v }))
 next_at way h left a (stage.Entries w) v =
-    some_items (item (way h.radius) w) (number_in v)
-    (λ Ps. opened (way h.radius) (Inner Ps) (after (way h.radius) h (w + 1) a.nodes))
+    some_items (item h.version (way h.radius) w) (number_in v)
+    (λ Ps. opened h.version (way h.radius) (Inner Ps) (after (way h.radius) h (w + 1) a.nodes))
 next_at way h left a stage.Records v =
-    some_records (way h.radius) (number_in v)
-    (λ rs. opened (way h.radius) (Leaf rs) (after (way h.radius) h 0 a.nodes))
+    some_records h.version (way h.radius) (number_in v)
+    (λ rs. opened h.version (way h.radius) (Leaf rs) (after (way h.radius) h 0 a.nodes))
 next_at way h left a stage.Number v =
-    behind_number (after_record (way h.radius) h left a.nodes a.records) (number_in v)
+    behind_number h.version (after_record (way h.radius) h left a.nodes a.records) (number_in v)
 next_at way h left a (stage.Sides n) v =
-    behind_sides (after_record (way h.radius) h left a.nodes a.records) n (rect_in v)
-next_at way h left a (stage.Length n r) v =
-    behind_length (after_record (way h.radius) h left a.nodes a.records) n r (number_in v)
-next_at way h left a (stage.Payload n r l) v =
+    behind_sides h.version (after_record (way h.radius) h left a.nodes a.records) n (rect_in v)
+next_at way h left a (stage.Layer n r) v =
+    behind_layer (after_record (way h.radius) h left a.nodes a.records) n r (number_in v)
+next_at way h left a (stage.Length n r i) v =
+    behind_length (after_record (way h.radius) h left a.nodes a.records) n r i (number_in v)
+next_at way h left a (stage.Payload n r i l) v =
     after_record (way h.radius) h left a.nodes a.records (record
-    { number = n; rect = r; layer = 0; payload = bytes_in v })
+    { number = n; rect = r; layer = i; payload = bytes_in v })
 next_at way h left a (stage.End node) v = done (said h None)
 
 -- what is still to be read
@@ -175,9 +210,18 @@ left_at way h left a whole (Some w) s = reads w (next_at way h left a s)
 abbrev pub frames_of : {H : Type 0} → Machine H → List (Frame H)
 frames_of m = reverse m.frames.list.items
 
+-- how many records these nodes count so far
+abbrev pub counts_of : {H : Type 0} → List (Frame H) → ℕ
+counts_of [] = 0
+counts_of (f ∷ fs) = f.node.count + counts_of fs
+
+-- how many all open nodes do
+abbrev pub counted_so_far : {H : Type 0} → Machine H → ℕ
+counted_so_far m = counts_of (frames_of m) + m.leaf.node.count
+
 -- the scheme of a proof with this head
 abbrev pub scheme : (List ℕ → List ℕ) → Head → Scheme
-scheme hash h = by (version_of h) hash
+scheme hash h = by h.version hash
 
 -- what is said of some children, and their pieces of the preimage
 abbrev pub said_of : Scheme → ℕ → List Cut → List Entry
@@ -207,9 +251,10 @@ AreFrames s holds w (f ∷ fs) (o ∷ os) =
     IsFrame s holds w f o × AreFrames s holds (w + 1) fs os
 
 -- the frame is that of an open leaf with these records so far, and one under way
-abbrev pub IsLeaf : {H : Type 0} → (H → List ℕ → Type 0) → Frame H → List Record → Type 0
-IsLeaf holds f rs =
-    Gathered holds f.node (leaf_tag ∷ (length rs + (f.left + 1)) ∷ []) (map (of_record version) rs)
+abbrev pub IsLeaf : {H : Type 0} → Version → (H → List ℕ → Type 0) → Frame H → List Record
+    → Type 0
+IsLeaf v holds f rs =
+    Gathered holds f.node (leaf_tag ∷ (length rs + (f.left + 1)) ∷ []) (map (of_record v) rs)
 
 -- the records of the children that were read, in reading order
 abbrev pub so_far : List Open → List Record
@@ -224,7 +269,7 @@ pub record LeafRead {H : Type 0} (hash : List ℕ → List ℕ) (holds : H → L
     (a : Above)
     (r : Record) : Type 0 where
   pub gathers : Gathered holds leaf.node (leaf_tag ∷ length (a.records ++ r ∷ []) ∷ [])
-      (map (of_record version) (a.records ++ r ∷ []))
+      (map (of_record h.version) (a.records ++ r ∷ []))
   pub depth : length a.nodes ≡ h.level
   pub frames : AreFrames (scheme hash h) holds 0 fs a.nodes
   pub kept : given ≡ filter (is_handed_out q h) (so_far a.nodes ++ (a.records ++ r ∷ []))
@@ -248,12 +293,18 @@ pub record InHead {H : Type 0} (q : Question) (h : Head) (fs : List (Frame H)) (
   pub nothing : given ≡ []
   pub tally : (radius : Option ℕ) → CountsRecords q.around radius [] t
 
+-- whether another number of records is said of the root node than of the map, as the version tells
+-- it
+abbrev pub is_other_tally : Head → Entry → Bool
+is_other_tally h node = not (node.count == told h.version h.count)
+
 -- behind the last field
 pub record AtEnd (hash : List ℕ → List ℕ) (q : Question) (h : Head) (t : RadiusCounts)
     (node : Entry)
     (given : List Record) (whole : Option Cut) : Type 0 where
-  pub root : root_preimage (version_of h) h.batch h.count node ≡ proof_preimage hash h whole
+  pub root : root_preimage h.version h.batch h.count node ≡ proof_preimage hash h whole
   pub rect : node.rect ≡ rect_round whole
+  pub counted : is_other_tally h node ≡ is_other_count h whole
   pub kept : given ≡ filter (is_handed_out q h) (opened_records whole)
   pub tally : CountsRecords q.around h.radius given t
 
@@ -264,7 +315,11 @@ IsOpen hash holds q m (stage.Tag v) given a whole =
     (a.records ≡ []) × InTree hash holds q m.head (frames_of m) m.tally v given a
 IsOpen hash holds q m (stage.Shown v) given a whole =
     (a.records ≡ []) × InTree hash holds q m.head (frames_of m) m.tally v given a
-IsOpen hash holds q m (stage.Digest v r) given a whole =
+IsOpen hash holds q m (stage.Mask v r) given a whole =
+    (a.records ≡ []) × InTree hash holds q m.head (frames_of m) m.tally v given a
+IsOpen hash holds q m (stage.Tally v r n) given a whole =
+    (a.records ≡ []) × InTree hash holds q m.head (frames_of m) m.tally v given a
+IsOpen hash holds q m (stage.Digest v r n c) given a whole =
     (a.records ≡ []) × InTree hash holds q m.head (frames_of m) m.tally v given a
 IsOpen hash holds q m (stage.Entries w) given a whole =
     (a.records ≡ []) × InTree hash holds q m.head (frames_of m) m.tally (w + 1) given a
@@ -272,7 +327,7 @@ IsOpen hash holds q m stage.Records given a whole =
     (a.records ≡ []) × InTree hash holds q m.head (frames_of m) m.tally 0 given a
 IsOpen hash holds q m (stage.End node) given a whole = AtEnd hash q m.head m.tally node given whole
 IsOpen hash holds q m _ given a whole =
-    IsLeaf holds m.leaf a.records × InTree hash holds q m.head (frames_of m) m.tally 0 given a
+    IsLeaf m.head.version holds m.leaf a.records × InTree hash holds q m.head (frames_of m) m.tally 0 given a
 
 -- ---- the machine
 

@@ -1,18 +1,18 @@
 -- What a reader of bytes stands for. This serves private functions and proofs: the relation that it
 -- defines is known by what contracts say of it.
-use Rattle.std.specs.Prelude.{◌≡◌, ◌≢◌, ◌⊎◌, Bool, true, false, ◌==◌, if◌then◌else◌, Result, Ok, Err, ℕ, ◌-◌, ◌+◌, ◌<◌, ◌≤◌, ⊤, List, [], ◌∷◌, ◌++◌, length, take, drop, vec_len, Option, Some, None}
+use Rattle.std.specs.Prelude.{◌≡◌, ◌≢◌, ◌⊎◌, Bool, true, false, ◌==◌, if◌then◌else◌, Result, Ok, Err, ℕ, ◌-◌, ◌+◌, ◌*◌, ◌<◌, ◌≤◌, ⊤, List, [], ◌∷◌, ◌++◌, length, take, drop, vec_len, Option, Some, None}
 use Rattle.mr_record.specs.Record.{IsRecord, HasLayer, record_bytes}
-use Rattle.mr_proof.specs.Fields.{version}
 use Rattle.mr_record.specs.declared.record.Record.{Record}
+use Rattle.mr_record.specs.declared.version.Version.{Version}
+use Rattle.mr_record.specs.RecordField.{length_place}
 use Rattle.mr_tree.specs.Digest.{root_preimage}
 use Rattle.mr_proof.specs.Tight.{Question}
 use Rattle.mr_proof.specs.declared.rule.Rule.TheVariants as rule
-use Rattle.mr_proof.specs.Refused.{has_other_radius}
 use Rattle.mr_proof.specs.declared.rule.Fault.{Fault}
 use Rattle.mr_proof.specs.declared.head.Head.{Head}
 use Rattle.mr_proof.specs.declared.want.Want.{Want}
-use Rattle.mr_proof.specs.Limits.{place_limit}
-use Rattle.mr_proof.specs.Spelling.{Parsed, version_of}
+use Rattle.mr_proof.specs.Limits.{count_limit, place_limit}
+use Rattle.mr_proof.specs.Spelling.{Parsed}
 use Rattle.mr_proof.specs.Grammar.{Grammar}
 use Rattle.mr_proof.specs.Layout.{fault}
 use Rattle.mr_check.specs.declared.stage.Stage.TheVariants as stage
@@ -27,18 +27,23 @@ use Rattle.mr_proof.specs.Feeding.{CompletesRecord}
 use Rattle.mr_check.specs.private.Stops.{waits, fails, stop, cursor_at, stop_of}
 use Rattle.mr_check.specs.private.Stages.{want_at, size_in, room_in, FitsStage}
 use Rattle.mr_tree.specs.declared.entry.Entry.{Entry}
-use Rattle.mr_check.specs.private.Counting.{CountsRecords}
-use Rattle.mr_check.specs.private.Machine.{WaitsForField}
+use Rattle.mr_check.specs.private.Counting.{CountsRecords, other_radius}
+use Rattle.mr_check.specs.private.Machine.{WaitsForField, counted_so_far, is_other_tally}
 
 -- the field under way of a reader, if any is
 abbrev pub want_of : {H : Type 0} → Reader H → Option Want
 want_of r = want_at r.machine.head.kind r.machine.stage
+
+-- no more records are counted so far than one part could count at each byte
+abbrev pub IsCounted : {H : Type 0} → Reader H → Type 0
+IsCounted r = counted_so_far r.machine ≤ r.at * count_limit
 
 -- fewer bytes are held than the field has, and it does not end past the limit
 pub record FitsReader {H : Type 0} (r : Reader H) : Type 0 where
   pub stage : FitsStage r.machine.head.kind r.machine.stage (vec_len r.machine.frames.list)
   pub held : length r.held < room_in (want_of r)
   pub place : r.at + size_in (want_of r) ≤ place_limit
+  pub counted : IsCounted r
 
 -- the reader stands where the reading of these bytes waits
 pub record StandsAt {H : Type 0} (hash : List ℕ → List ℕ) (holds : H → List ℕ → Type 0)
@@ -143,33 +148,37 @@ pub record IsWhole {H : Type 0} (r : Reader H) (piece : List ℕ) (one : Record)
   pub stage : r.machine.stage ≡ stage.Number
   pub held : r.held ≡ []
   pub is_record : IsRecord one
-  pub layer : HasLayer version one
-  pub bytes : piece ≡ record_bytes version one ++ drop size piece
-  pub sized : size ≡ length (record_bytes version one)
+  pub layer : HasLayer r.machine.head.version one
+  pub bytes : piece ≡ record_bytes r.machine.head.version one ++ drop size piece
+  pub sized : size ≡ length (record_bytes r.machine.head.version one)
   pub place : r.at + size ≤ place_limit
 
 -- the place of the last field of a record at this place: its payload, or without one its length
-abbrev pub last_field : ℕ → Record → ℕ
-last_field at r = if length r.payload == 0 then at + 24 else at + 25
+abbrev pub last_field : Version → ℕ → Record → ℕ
+last_field v at r =
+    if length r.payload == 0 then at + length_place v else (at + length_place v) + 1
 
 -- what is found as the root digest, by the head and what is said of the root node
 abbrev pub found_at : (List ℕ → List ℕ) → Head → Entry → List ℕ
-found_at hash h node = hash (root_preimage (version_of h) h.batch h.count node)
+found_at hash h node = hash (root_preimage h.version h.batch h.count node)
 
 -- whether the radius is another than that of these records is this
 abbrev pub OtherRadius : {H : Type 0} → Question → Reader H → Bool → Type 0
 OtherRadius q r is =
     (rs : List Record) → CountsRecords q.around r.machine.head.radius rs r.machine.tally
-    → has_other_radius q.around r.machine.head.radius rs ≡ is
+    → other_radius q.around r.machine.head.radius rs ≡ is
 
 -- what is answered behind the last field, where this is said of the root node
 abbrev pub EndsAt : {H : Type 0} → (List ℕ → List ℕ) → List ℕ → Question → Reader H → Entry
     → Result Outline Fault → Type 0
 EndsAt hash root q r node (Ok o) =
     (found_at hash r.machine.head node ≡ root) × OtherRadius q r false
+    × (is_other_tally r.machine.head node ≡ false)
     × (o ≡ record { head = r.machine.head; rect = node.rect })
 EndsAt hash root q r node (Err f) =
     ((f ≡ fault (rule.WrongRoot (found_at hash r.machine.head node)) r.at)
     × (found_at hash r.machine.head node ≢ root))
-    ⊎ ((f ≡ fault rule.WrongRadius r.at) × (found_at hash r.machine.head node ≡ root)
+    ⊎ (((f ≡ fault rule.WrongRadius r.at) × (found_at hash r.machine.head node ≡ root)
     × OtherRadius q r true)
+    ⊎ ((f ≡ fault rule.WrongTally r.at) × (found_at hash r.machine.head node ≡ root)
+    × OtherRadius q r false × (is_other_tally r.machine.head node ≡ true)))

@@ -67,4 +67,4 @@ noted (notes (opens r met) next) = if met then r ∷ noted next else noted next
 
 -- where the reading of these bytes as a proof of what is asked stops
 unfoldable pub stop_of : Question → List ℕ → Stop Parsed
-stop_of q bytes = stop (whole q.kind q.way) (start bytes)
+stop_of q bytes = stop (whole q.kind q.two_only q.way) (start bytes)

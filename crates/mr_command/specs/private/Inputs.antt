@@ -9,7 +9,6 @@ use Rattle.mr_record.specs.Answer.{RefusesText}
 use Rattle.mr_record.specs.declared.text_fault.TextErr.{TextErr}
 use Rattle.mr_record.specs.declared.text_fault.TextErr.TheVariants as texts
 use Rattle.mr_record.specs.declared.text_fault.TextFault.{TextFault}
-use Rattle.mr_record.specs.declared.version.Version.TheVariants.{Two}
 use Rattle.mr_tree.specs.Nodes.{MapModel}
 use Rattle.mr_pages.specs.File.{form_at}
 use Rattle.mr_pages.specs.Opening.{pages_in}
@@ -18,13 +17,13 @@ use Rattle.mr_store.specs.Opening.{RefusesMap, TellsMap}
 use Rattle.mr_command.specs.Counting.{pieces_of, reads_taken}
 use Rattle.mr_command.specs.Ending.{AreJudged, RunsPlan, IsEndingOrHalt}
 use Rattle.mr_command.specs.private.Steps.{ReadsInput, SaysRefusal}
-use Rattle.mr_plan.specs.Lines.{bad_text_line, needs_version_2_line}
+use Rattle.mr_plan.specs.Lines.{bad_text_line}
 use Rattle.mr_plan.specs.Plan.{Input, Plan, comes}
 use Rattle.mr_plan.specs.Say.{ends, needs}
 use Rattle.mr_command.specs.declared.ending.Ending.{Ending}
 use Rattle.mr_command.specs.declared.ending.Halt.{Halt}
 use Rattle.mr_command.specs.declared.ending.Halt.TheVariants as halts
-use Rattle.mr_plan.specs.declared.status.Status.TheVariants.{BadText, NeedsVersion2}
+use Rattle.mr_plan.specs.declared.status.Status.TheVariants.{BadText}
 
 -- What a command comes to behind what the step gave is what its plan comes to; where the step gave
 -- nothing, the command has come to its end.
@@ -95,17 +94,3 @@ pub record WasOpened (hash : List ℕ → List ℕ) (name : List ℕ) (before af
   pub quiet : after.faults ≡ before.faults
   pub more : before.reads ≤ after.reads
   pub reads : OfFile before.files name ⊥ (λ bytes. after.reads ≤ before.reads + pages_in bytes)
-
--- a map was opened that is of version 2, and what the command comes to says so
-pub record HasNoProofs (hash : List ℕ → List ℕ) (name : List ℕ) (before after : Shelved)
-    (came : Result Ending Halt) : Type 0 where
-  pub stands : MapModel
-  pub second : stands.version ≡ Two
-  pub opened : WasOpened hash name before after stands
-  pub says : IsEndingOrHalt (ends NeedsVersion2 needs_version_2_line) came
-
--- no map is opened that has proofs
-abbrev pub IsUnprovable : (List ℕ → List ℕ) → List ℕ → Shelved → Shelved → Result Ending Halt
-    → Type 0
-IsUnprovable hash name before after came =
-    IsUnopened hash name before after came ⊎ HasNoProofs hash name before after came

@@ -10,8 +10,8 @@ use Rattle.mr_outside.specs.declared.shelf.ShelfErr.TheVariants as shelf
 use Rattle.mr_record.specs.private.Bytes.{AreBytes}
 use Rattle.mr_record.specs.Record.{HasLayer}
 use Rattle.mr_record.specs.declared.version.Version.{Version}
-use Rattle.mr_record.specs.declared.version.Version.TheVariants.{One}
-use Rattle.mr_pages.specs.PageBytes.{form_by}
+use Rattle.mr_tree.specs.Digest.{Scheme, by}
+use Rattle.mr_pages.specs.File.{form_at, version_of}
 use Rattle.mr_pages.specs.Opening.{pages_in, of_nodes}
 use Rattle.mr_pages.specs.Law.{AgreesWithFault, map_in}
 use Rattle.mr_command.specs.Answer.{IsSettled}
@@ -31,9 +31,8 @@ use Rattle.mr_plan.specs.Found.{bad_map_line}
 use Rattle.mr_plan.specs.Lines.{bad_words_line, shelf_fault_line}
 use Rattle.mr_plan.specs.Outcome.{Outcome, Content, File, LeavesWritten, MayLeave}
 use Rattle.mr_command.specs.Counting.{pieces_of, opened_beside}
-use Rattle.mr_plan.specs.First.{first}
 use Rattle.mr_plan.specs.Plan.{Plan, comes, Input, IsInput, IsAbsent}
-use Rattle.mr_plan.specs.Say.{ends, needs_map_in, says_missing, say_written}
+use Rattle.mr_plan.specs.Say.{ends, needs_map, says_missing, say_written}
 use Rattle.mr_command.specs.declared.ending.Ending.{Ending}
 use Rattle.mr_command.specs.declared.ending.RecordsOut.{RecordsOut}
 use Rattle.mr_command.specs.declared.ending.Halt.{Halt}
@@ -48,12 +47,11 @@ use Rattle.mr_command.specs.Ending.{printed_of, IsEndingOrHalt, NoneFalls, WasFo
 abbrev pub HasLines : Version → RecordsOut → Type 0
 HasLines v s = All (HasLayer v) (kept_in s)
 
--- the records of an answer that is sound have the layer of the first version, whose lines do not
--- spell it
-abbrev pub HasPlainAnswer : Finding → Type 0
-HasPlainAnswer (findings.Refused fault) = ⊤
-HasPlainAnswer (findings.Sound answer) = All (HasLayer One) answer
-HasPlainAnswer (findings.Collision owned shown) = ⊤
+-- the layers of an answer that is sound are those of the version in whose lines it is printed
+abbrev pub HasAnswerLines : Version → Finding → Type 0
+HasAnswerLines v (findings.Refused fault) = ⊤
+HasAnswerLines v (findings.Sound answer) = All (HasLayer v) answer
+HasAnswerLines v (findings.Collision owned shown) = ⊤
 
 -- the line on a missing file, or memory ran out
 abbrev pub SaysMissing : List ℕ → Result Ending Halt → Type 0
@@ -130,26 +128,24 @@ ReadsPages name before after = OfFile before.files name (after.reads ≡ before.
 abbrev pub map_at : MapModel → Tree → Opened
 map_at s t = map_in s.version t s.batch
 
--- behind an opened map of version 1 nothing is read, or of a large one the nodes that the bytes of
--- a proof open
+-- behind an opened map nothing is read, or of a large one the nodes that the bytes of a proof open
 abbrev pub ReadsOpened : (List ℕ → List ℕ) → Query → MapModel → (pages : ℕ) → List ℕ → Shelved
     → Shelved → Type 0
 ReadsOpened hash q s pages bytes before after = IfSome s.tree (λ t.
     (after.reads ≡ before.reads) ⊎ ((room + 1 < pages)
-    × (after.reads ≤ before.reads + opened_accepted (first hash) t s.batch q bytes)))
+    × (after.reads ≤ before.reads + opened_accepted (by s.version hash) t s.batch q bytes)))
 
 -- the pieces of a proof, and of a large map the nodes that it opens
-abbrev pub IsBeside : (List ℕ → List ℕ) → Tree → (batch : ℕ) → Query → (pages : ℕ) → Input
+abbrev pub IsBeside : Scheme → Tree → (batch : ℕ) → Query → (pages : ℕ) → Input
     → (before after : ℕ) → Type 0
-IsBeside hash t batch q pages proof before after = (after ≤ before + pieces_of proof)
-    ⊎ ((room + 1 < pages)
-    × (after ≤ before + pieces_of proof + opened_beside hash t batch q proof))
+IsBeside s t batch q pages proof before after = (after ≤ before + pieces_of proof)
+    ⊎ ((room + 1 < pages) × (after ≤ before + pieces_of proof + opened_beside s t batch q proof))
 
 -- so many are read of the file of a proof and of the map
 abbrev pub ReadsBeside : (List ℕ → List ℕ) → Query → MapModel → (pages : ℕ) → List ℕ → Shelved
     → Shelved → Type 0
 ReadsBeside hash q s pages proof before after = IfSome s.tree (λ t. OfFiles before.files (λ files.
-    IsBeside hash t s.batch q pages (file files proof) before.reads after.reads))
+    IsBeside (by s.version hash) t s.batch q pages (file files proof) before.reads after.reads))
 
 -- an input that has to be there was read, or the command ends without it
 pub record ReadsInput (name : List ℕ) (before after : Shelved)
@@ -159,16 +155,14 @@ pub record ReadsInput (name : List ℕ) (before after : Shelved)
   pub read : Read name before after result
   pub once : ReadsFileOnce name before after
 
--- whatever bytes may be there, they stand for one map or have one fault, read in the version that
--- goes by them
-abbrev pub IsJudged : (List ℕ → Version) → (List ℕ → List ℕ) → Option Files → List ℕ → Type 0
-IsJudged version hash told name =
-    (bytes : List ℕ) → IsInput told name (Some bytes) → AgreesWithFault (form_by (version bytes))
-    hash bytes
+-- whatever bytes may be there, they stand for one map or have one fault
+abbrev pub IsJudged : (List ℕ → List ℕ) → Option Files → List ℕ → Type 0
+IsJudged hash told name = (bytes : List ℕ) → IsInput told name (Some bytes)
+    → AgreesWithFault (form_at bytes) hash bytes
 
 -- a file was read that stands for this map
-pub record HasReadMap (version : List ℕ → Version) (hash : List ℕ → List ℕ) (name : List ℕ)
-    (before after : Shelved) (map : Opened) : Type 0 where
+pub record HasReadMap (hash : List ℕ → List ℕ) (name : List ℕ) (before after : Shelved)
+    (map : Opened) : Type 0 where
   pub counts : NoneFalls before after
   pub files : after.files ≡ before.files
   pub quiet : after.faults ≡ before.faults
@@ -176,8 +170,8 @@ pub record HasReadMap (version : List ℕ → Version) (hash : List ℕ → List
   pub bytes : List ℕ
   pub input : IsInput before.files name (Some bytes)
   pub are : AreBytes bytes
-  pub judged : IsJudged version hash before.files name
-  pub found : WasFound before.files (version bytes) hash bytes (Ok map)
+  pub judged : IsJudged hash before.files name
+  pub found : WasFound before.files (version_of bytes) hash bytes (Ok map)
   pub well : WellFormed map.tree
   pub layers : HasLayers map.version map.tree
   pub low : map.batch < 2 ^ 64
@@ -187,13 +181,11 @@ abbrev pub GoesOn : (Opened → Plan) → Option Files → Type 0
 GoesOn next told = (map : Opened) → AreJudged (next map) told
 
 -- a map was read, or the command comes to its end without it
-abbrev pub OpensMapOrEnds : (List ℕ → Version) → (List ℕ → List ℕ) → List ℕ → Shelved → Shelved
+abbrev pub OpensMapOrEnds : (List ℕ → List ℕ) → List ℕ → Shelved → Shelved
     → Result Opened (Result Ending Halt) → Type 0
-OpensMapOrEnds version hash name before after (Ok map) = HasReadMap version hash name before
-    after map
-OpensMapOrEnds version hash name before after (Err came) =
-    (next : Opened → Plan) → GoesOn next before.files
-    → RunsPlan (needs_map_in version hash name next) before after came
+OpensMapOrEnds hash name before after (Ok map) = HasReadMap hash name before after map
+OpensMapOrEnds hash name before after (Err came) = (next : Opened → Plan) → GoesOn next before.files
+    → RunsPlan (needs_map hash name next) before after came
 
 -- what a save leaves: the content, or what stands where it stopped
 abbrev pub Saved : List ℕ → Content → Shelved → Shelved → Result Unit Halt → Type 0

@@ -6,12 +6,14 @@ use Rattle.mr_outside.specs.State.{Shelved}
 use Rattle.mr_outside.specs.Told.{OfFile, OfFiles, MayMiss}
 use Rattle.mr_record.specs.private.Bytes.{AreBytes}
 use Rattle.mr_record.specs.declared.record.Record.{Record}
+use Rattle.mr_record.specs.declared.version.Version.{Version}
 use Rattle.mr_tree.specs.declared.hash.Hashes.{Ghosts}
 use Rattle.mr_query.specs.declared.query.Query.{Query}
 use Rattle.mr_proof.specs.declared.rule.Fault.{Fault}
 use Rattle.mr_proof.specs.Feeding.{IsUnsettled}
 use Rattle.mr_proof.specs.Tight.{question}
 use Rattle.mr_proof.specs.Reading.{verdict}
+use Rattle.mr_check.specs.Versions.{proof_version}
 use Rattle.mr_check.specs.Judged.{IsTaken}
 use Rattle.mr_check.specs.declared.piece_check.PieceCheck.{PieceCheck}
 use Rattle.mr_command.specs.Counting.{pieces_of, IsToFault}
@@ -106,10 +108,11 @@ ReadsToFault hash root q told name before after = OfFiles told (λ files. (n : �
     × (after ≤ before + n) × (n ≤ pieces_of (file files name))
     × IsToFault hash root q (file files name) n)
 
--- what the proof in a file proves, or its fault
+-- what the proof in a file proves, beside its version; or its fault
 abbrev pub JudgesFile : (List ℕ → List ℕ) → List ℕ → Query → Option Files → List ℕ
-    → Result (Vec Record) Stop → Type 0
-JudgesFile hash root q told name (Ok answer) = HasVerdict hash root q told name (Ok answer.items)
+    → Result (Version × Vec Record) Stop → Type 0
+JudgesFile hash root q told name (Ok a) =
+    (is : HasVerdict hash root q told name (Ok a.1.items)) × (a.0 ≡ proof_version is.bytes)
 JudgesFile hash root q told name (Err e) = StopsFile hash root q told name e
 
 -- why it has none, where the shelf refused

@@ -3,9 +3,9 @@
 use Rattle.std.specs.Prelude.{◌≡◌, ℕ, pos, nat_eq, nat_le, Bool, true, false, not, ◌&&◌, if◌then◌else◌, List, [], ◌∷◌, length, map, replicate, bytes_eq, string_bytes, Option, Some, None, is_some, is_ok, unwrap_or}
 use Rattle.std.specs.Result.{result_unwrap_or}
 use Rattle.mr_record.specs.Decimal.{u64_of}
-use Rattle.mr_query.specs.Word.{query_of}
+use Rattle.mr_query.specs.Word.{asks, query_of}
 use Rattle.mr_query.specs.declared.query.Query.{Query}
-use Rattle.mr_query.specs.declared.query.Query.TheVariants as queries
+use Rattle.mr_query.specs.declared.query.Shape.TheVariants as shapes
 use Rattle.mr_plan.specs.private.Asking.{digest_of_word}
 use Rattle.mr_plan.specs.Words.{Word, key, file, digest, query, number, spelled, words_of}
 use Rattle.mr_plan.specs.declared.reader.Reader.{Reader}
@@ -116,7 +116,7 @@ fits (number_word least most) word last earlier = is_some (within least most (u6
 
 -- what stands where a word is no query
 abbrev pub no_query : Query
-no_query = queries.Nearest (record { x = pos 0; y = pos 0 }) 1
+no_query = asks (shapes.Nearest (record { x = pos 0; y = pos 0 }) 1) None
 
 -- what the word is read as; this means nothing where it is not what it has to be
 abbrev pub word_in : Kind → List ℕ → Word

@@ -15,19 +15,25 @@ use Rattle.mr_proof.specs.Fields.{inner_tag}
 use Rattle.mr_proof.specs.Cut.{Leaf, opened_nodes}
 use Rattle.mr_proof.specs.Spelling.{cut_bytes}
 use Rattle.mr_proof.specs.declared.way.Way.{Way}
-use Rattle.mr_proof.specs.Tight.{Key, Question, radius_by}
+use Rattle.mr_proof.specs.Tight.{key_at, Question, radius_by}
+use Rattle.mr_query.specs.declared.key.Key.{Key}
+use Rattle.mr_record.specs.declared.version.Version.{Version}
 use Rattle.mr_proof.specs.Honest.{honest_cut, proof_for, opened_for}
 
+-- what is seen of the node of which the child is the entry
+abbrev pub child_key : Version → Child → Key
+child_key v c = key_at v c.mask c.rect
+
 -- the bytes of the item of an opened node
-abbrev pub node_bytes : Node → List ℕ
-node_bytes node.Empty = []
-node_bytes (node.Leaf records) = cut_bytes (Leaf records)
-node_bytes (node.Inner children) = inner_tag ∷ length children ∷ []
+abbrev pub node_bytes : Version → Node → List ℕ
+node_bytes v node.Empty = []
+node_bytes v (node.Leaf records) = cut_bytes v (Leaf records)
+node_bytes v (node.Inner children) = inner_tag ∷ length children ∷ []
 
 -- the bytes of the honest cut of a tree that is told
 unfoldable pub part_at : Scheme → (Key → Way) → Option Tree → List ℕ
 part_at scheme way None = []
-part_at scheme way (Some t) = cut_bytes (honest_cut scheme way t)
+part_at scheme way (Some t) = cut_bytes scheme.version (honest_cut scheme way t)
 
 -- the number of nodes that it opens
 unfoldable pub opened_at : Scheme → (Key → Way) → Option Tree → ℕ
@@ -55,6 +61,7 @@ opened_in scheme way s children =
 -- the head, by what the nodes say of the map, with this squared radius
 abbrev pub head_by : Top → Question → Option ℕ → Head
 head_by top q radius = record {
+  version = top.version;
   kind = q.kind;
   batch = top.batch;
   count = top.count;

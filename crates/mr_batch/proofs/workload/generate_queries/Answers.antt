@@ -1,7 +1,8 @@
-use Rattle.std.proofs.Common.{sym, ap, subst, All, length, length-append, arith}
+use Rattle.std.proofs.Common.{◌∙◌, None, sym, ap, subst, All, length, length-append, arith}
 use Rattle.std.proofs.lemmas.List.Elements.{All-nil, All-push}
 use Rattle.mr_query.specs.declared.query.Query.{Query}
-use Rattle.mr_query.specs.Word.{IsAskable}
+use Rattle.mr_query.specs.declared.query.Shape.{Shape}
+use Rattle.mr_query.specs.Word.{asks, IsAskable}
 use Rattle.mr_batch.specs.Workload.{query_of_word}
 use Rattle.mr_batch.proofs.Workloads.{one_more, all_made, no_query_made}
 use Rattle.mr_batch.proofs.workload.generate_queries.Goals as goal
@@ -23,9 +24,10 @@ loop-place-preserved c =
     record {
       exact = one_more query_of_word _ _ _ _ c.loop-place.place c.args.n c.loop-place.place c.loop-place.generator
           c.next_word-word.result c.next_word-word.new.generator c.loop-place-test.true c.next_word-word.ensures
-          c.query_of.ensures.value pushed c.loop-place.invariant.exact;
+          (c.of.ensures ∙ ap (λ (s : Shape). asks s None) c.shape_of.ensures.value) pushed c.loop-place.invariant.exact;
       each = subst (All IsAskable) (sym pushed)
-          (All-push IsAskable _ _ c.loop-place.invariant.each c.query_of.ensures.askable);
+          (All-push IsAskable _ _ c.loop-place.invariant.each
+          (subst IsAskable (sym c.of.ensures) c.shape_of.ensures.counted));
       count = omega (arith, ap length pushed, length-append {A = Query});
       len = omega arith;
       room = omega arith;

@@ -5,8 +5,8 @@ use Rattle.mr_check.proofs.Differing.{one_answer}
 use Rattle.mr_check.proofs.arranging.arrange_window.Goals as goal
 
 pub returns-then-branch-clause-same : goal.returns-then-branch-clause-same
-returns-then-branch-clause-same c =
-    one_answer c.args.window.now c.args.records.now.items c.sort.new.records.items c.sort.ensures.permutation
+returns-then-branch-clause-same c = λ layers.
+    one_answer c.args.window.now layers c.args.records.now.items c.sort.new.records.items c.sort.ensures.permutation
     (subst EachOnce c.deref.ensures.value (c.in_ok-differ.ensures.each_once c.if-branch.true))
 
 pub returns-else-branch-clause-in_order : goal.returns-else-branch-clause-in_order

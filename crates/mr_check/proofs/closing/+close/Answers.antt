@@ -1,6 +1,7 @@
-use Rattle.std.proofs.Common.{List, reverse, sym, arith, ◌∙◌, subst}
+use Rattle.std.proofs.Common.{◌-◌, ◌+◌, ◌<◌, ◌≤◌, ◌^◌, vec_len, List, reverse, sym, arith, rules, ◌∙◌, subst}
 use Rattle.mr_check.specs.declared.frame.Frame.{Frame}
-use Rattle.mr_check.specs.private.Machine.{HasReadCut}
+use Rattle.mr_check.specs.private.Machine.{frames_of, counts_of, HasReadCut}
+use Rattle.mr_check.proofs.Counted.{counts_popped, counts_none}
 use Rattle.mr_check.proofs.Nodes.{closed_root, closed_child, missed_parent, closed_parent}
 use Rattle.mr_check.proofs.closing.+close.Goals as goal
 
@@ -16,7 +17,7 @@ pub returns-then-frame-gt0-clause-closes : goal.returns-then-frame-gt0-clause-cl
 returns-then-frame-gt0-clause-closes g t c = λ given os P r.
     closed_child g.H.Hashes.of g.H.Hashes.holds (g.A.AsQuestion.question c.args.q.now) c.args.m.now c.push.new.stack
     c.in-Some.frame
-    c.add_entry.new.self (reverse c.pop.new.stack.list.items) c.args.node.now given os P c.add_entry.ensures
+    c.add_entry.new.self (reverse c.pop.new.stack.list.items) c.args.node.now given os P c.add_entry.ensures.gathers
     c.if-frame-gt0.true c.push.ensures.items
     (subst (λ (fs : List (Frame _)). HasReadCut g.H.Hashes.of g.H.Hashes.holds (g.A.AsQuestion.question c.args.q.now)
     c.args.m.now.head fs
@@ -27,7 +28,7 @@ returns-then-not-is_to_be_opened-clause-closes g t c = λ given os P r.
     missed_parent g.H.Hashes.of g.H.Hashes.holds (g.A.AsQuestion.question c.args.q.now) c.args.m.now.head
     c.args.m.now.tally c.in-Some.frame
     c.add_entry.new.self (reverse c.pop.new.stack.list.items) c.args.node.now c.close-parent.result given os P
-    c.add_entry.ensures (omega (arith, c.if-frame-gt0.false))
+    c.add_entry.ensures.gathers (omega (arith, c.if-frame-gt0.false))
     (record {
       level = c.close-parent.ensures.level;
       rect = c.close-parent.ensures.rect;
@@ -46,7 +47,7 @@ returns-else-not-is_to_be_opened-clause-closes g t c = λ given os P r.
     closed_parent g.H.Hashes.of g.H.Hashes.holds (g.A.AsQuestion.question c.args.q.now) c.args.m.now.head
     c.args.m.now.tally c.close.new.m
     c.in-Some.frame c.add_entry.new.self (reverse c.pop.new.stack.list.items) c.args.node.now c.close-parent.result
-    given c.close.result os P c.add_entry.ensures (omega (arith, c.if-frame-gt0.false))
+    given c.close.result os P c.add_entry.ensures.gathers (omega (arith, c.if-frame-gt0.false))
     (record {
       level = c.close-parent.ensures.level;
       rect = c.close-parent.ensures.rect;
@@ -59,3 +60,56 @@ returns-else-not-is_to_be_opened-clause-closes g t c = λ given os P r.
     (subst (λ (fs : List (Frame _)). HasReadCut g.H.Hashes.of g.H.Hashes.holds (g.A.AsQuestion.question c.args.q.now)
     c.args.m.now.head fs
     c.args.m.now.tally c.args.node.now given os P) c.in-Some.ensures.0 r)
+
+-- ---- how many records are counted
+
+pub add_entry-requires : goal.add_entry-requires
+add_entry-requires g t c = record {
+  few = omega (
+    arith,
+    c.requires.few,
+    counts_popped (frames_of c.args.m.now) (reverse c.pop.new.stack.list.items) c.in-Some.frame c.in-Some.ensures.0,
+  );
+}
+
+pub returns-in-None-clause-few : goal.returns-in-None-clause-few
+returns-in-None-clause-few g t c = omega (arith, counts_none (reverse c.pop.new.stack.list.items) c.in-None.ensures.1)
+
+pub returns-then-frame-gt0-clause-few : goal.returns-then-frame-gt0-clause-few
+returns-then-frame-gt0-clause-few g t c = omega (
+  arith,
+  c.add_entry.ensures.counted,
+  counts_popped (frames_of c.args.m.now) (reverse c.pop.new.stack.list.items) c.in-Some.frame c.in-Some.ensures.0,
+  counts_popped (reverse c.push.new.stack.list.items) (reverse c.pop.new.stack.list.items)
+      (record { node = c.add_entry.new.self; left = c.in-Some.frame.left - 1 }) c.push.ensures.items,
+)
+
+pub returns-then-not-is_to_be_opened-clause-few : goal.returns-then-not-is_to_be_opened-clause-few
+returns-then-not-is_to_be_opened-clause-few g t c = omega (
+  arith,
+  counts_popped (frames_of c.args.m.now) (reverse c.pop.new.stack.list.items) c.in-Some.frame c.in-Some.ensures.0,
+)
+
+pub close-requires : goal.close-requires
+close-requires g t c κs within =
+    let smaller : vec_len c.pop.new.stack.list < t = omega (arith, c.decreases, c.in-Some.ensures.1) in
+    let deep : vec_len c.pop.new.stack.list + c.close-parent.result.level ≤ 7 = omega
+    (arith, c.requires.deep, c.in-Some.ensures.1, c.close-parent.ensures.level) in
+    let few : (counts_of (reverse c.pop.new.stack.list.items) + c.args.m.now.leaf.node.count)
+    + c.close-parent.result.count < 2 ^ 64 = omega (
+      arith,
+      c.requires.few,
+      c.close-parent.ensures.count,
+      c.add_entry.ensures.counted,
+      counts_popped (frames_of c.args.m.now) (reverse c.pop.new.stack.list.items) c.in-Some.frame c.in-Some.ensures.0,
+    ) in
+    (smaller, (search rules, (search rules, (deep, few))))
+
+pub returns-else-not-is_to_be_opened-clause-few : goal.returns-else-not-is_to_be_opened-clause-few
+returns-else-not-is_to_be_opened-clause-few g t c = omega (
+  arith,
+  c.close.ensures.few,
+  c.close-parent.ensures.count,
+  c.add_entry.ensures.counted,
+  counts_popped (frames_of c.args.m.now) (reverse c.pop.new.stack.list.items) c.in-Some.frame c.in-Some.ensures.0,
+)

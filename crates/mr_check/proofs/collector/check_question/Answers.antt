@@ -20,8 +20,8 @@ returns-clause-accepted g c = λ v.
     c.accepted_matches_honest.ensures v (g.A.AsQuestion.question c.args.q.now) c.requires
 
 pub returns-clause-complete : goal.returns-clause-complete
-returns-clause-complete g c =
-    c.honest_proof_is_accepted.ensures.accepted (g.A.AsQuestion.question c.args.q.now) c.requires
+returns-clause-complete g c = λ v.
+    c.honest_proof_is_accepted.ensures.accepted v (g.A.AsQuestion.question c.args.q.now) c.requires
 
 pub returns-clause-longer : goal.returns-clause-longer
 returns-clause-longer g c =

@@ -22,7 +22,7 @@ returns-then-not-is_to_be_opened-clause-steps g c = λ given a is_met is.
     c.args.m.now.head
     (frames_of c.args.m.now)
     c.args.m.now.tally f (plus c.args.handed_on given c.args.m.now.latest) a c.args.m.now.latest)
-    (sym c.taken-leaf.ensures)
+    (sym c.taken-leaf.ensures.taken)
     is)
 
 pub returns-clause-steps : goal.returns-clause-steps
@@ -46,5 +46,5 @@ returns-clause-steps g c = λ given a is_met is.
     c.args.m.now.head
     (frames_of c.args.m.now)
     c.args.m.now.tally f (plus c.args.handed_on given c.args.m.now.latest) a c.args.m.now.latest)
-    (sym c.taken-leaf.ensures)
+    (sym c.taken-leaf.ensures.taken)
     is))

@@ -10,7 +10,7 @@ returns-then-m-eq0-clause-steps g c = λ given a leaf is.
     c.args.m.now.tally
     c.counted-handed_on.new.tally c.args.m.now.leaf c.add_record.new.self c.counted-handed_on.result c.args.m.now.latest
     given a
-    c.add_record.ensures c.if-m-eq0.true c.counted-handed_on.ensures.handed_on
+    c.add_record.ensures.gathers c.if-m-eq0.true c.counted-handed_on.ensures.handed_on
     (c.counted-handed_on.ensures.tally given is.tally) leaf is in
     rw c.if-m-eq0.true (c.last.ensures.steps given a c.counted-handed_on.ensures.handed_on read)
 
@@ -19,5 +19,5 @@ returns-clause-steps g c = λ given a leaf is.
     rw c.found.ensures (record_on g.H.Hashes.of g.H.Hashes.holds (g.A.AsQuestion.question c.args.q.now) c.args.m.now
     c.add_record.new.self
     c.counted-handed_on.new.tally
-    c.counted-handed_on.result given a c.add_record.ensures
+    c.counted-handed_on.result given a c.add_record.ensures.gathers
     (omega arith) c.counted-handed_on.ensures.handed_on (c.counted-handed_on.ensures.tally given is.tally) leaf is)

@@ -1,7 +1,6 @@
 use Rattle.std.proofs.Common.{length, drop, ap, sym, arith}
 use Rattle.std.proofs.lemmas.List.{length-append}
 use Rattle.mr_record.specs.Record.{record_bytes}
-use Rattle.mr_proof.specs.Fields.{version}
 use Rattle.mr_check.specs.private.Machine.{after_record, ways_at}
 use Rattle.mr_check.proofs.Whole.{record_long}
 use Rattle.mr_check.proofs.Turning.{turn_record, takes_some}
@@ -9,17 +8,17 @@ use Rattle.mr_check.proofs.reader.behind_record.Goals as goal
 
 pub last_field-last-requires : goal.last_field-last-requires
 last_field-last-requires g c =
-    omega (arith, record_long c.args.one.now, c.requires.whole.sized, c.requires.whole.place)
+    omega (arith, record_long c.args.r.now.machine.head.version c.args.one.now, c.requires.whole.sized, c.requires.whole.place)
 
 pub returns-clause-takes : goal.returns-clause-takes
 returns-clause-takes g c =
     takes_some c.args.size (length c.args.piece.now) c.behind.result c.behind.ensures.takes
-    (omega (arith, record_long c.args.one.now, c.requires.whole.sized))
+    (omega (arith, record_long c.args.r.now.machine.head.version c.args.one.now, c.requires.whole.sized))
     (omega (
       arith,
       c.requires.whole.sized,
       ap length c.requires.whole.bytes,
-      length-append (record_bytes version c.args.one.now) (drop c.args.size c.args.piece.now),
+      length-append (record_bytes c.args.r.now.machine.head.version c.args.one.now) (drop c.args.size c.args.piece.now),
     ))
 
 pub returns-clause-turns : goal.returns-clause-turns
@@ -32,3 +31,12 @@ returns-clause-turns g c = λ s at.
     (after_record (ways_at (g.A.AsQuestion.question c.args.q.now) c.args.r.now.machine.head) c.args.r.now.machine.head
     c.args.r.now.machine.leaf.left a.nodes a.records c.args.one.now)
     (c.record-stepped.ensures.steps given a is.0 is.1))) at
+
+pub behind-requires-clause-counted : goal.behind-requires-clause-counted
+behind-requires-clause-counted g c = omega (
+  arith,
+  c.record-stepped.ensures.few,
+  c.requires.fits.counted,
+  record_long c.args.r.now.machine.head.version c.args.one.now,
+  c.requires.whole.sized,
+)

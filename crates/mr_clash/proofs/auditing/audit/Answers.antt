@@ -1,6 +1,5 @@
 use Rattle.std.proofs.Common.{arith}
 use Rattle.mr_record.proofs.Encodings.{IsBytes}
-use Rattle.mr_record.specs.declared.version.Version.TheVariants.{One}
 use Rattle.mr_tree.specs.Digest.{by}
 use Rattle.mr_clash.proofs.Whole.{told_from, judged_from, fetched_from, few_from, finding_collides, honest_told}
 use Rattle.mr_clash.proofs.auditing.audit.Goals as goal
@@ -14,13 +13,13 @@ returns-clause-told g c =
     c.in_ok-finding_of.ensures
 
 pub returns-clause-honest : goal.returns-clause-honest
-returns-clause-honest g c = λ one.
+returns-clause-honest g c =
     let s = g.N.Nodes.stands c.args.nodes.now in
     let fits : IsBytes c.args.proof.now = λ i. omega (arith, c.type_inv.proof i) in
     honest_told g.N.Hash.Hashes.of c.args.q.now c.args.proof.now s c.top-top.result c.in_ok-finding_of.field-0
-    c.top-top.ensures c.are_words.ensures.batch c.honest_is_accepted.ensures.accepted
-    (c.accepted_is_honest.ensures.accepted One) c.accepted_is_honest.ensures.quiet one
-    (g.met.N.Nodes.well_formed c.args.nodes.now)
+    c.top-top.ensures c.are_words.ensures.batch (c.honest_is_accepted.ensures.accepted s.version)
+    (c.accepted_is_honest.ensures.accepted s.version) (c.accepted_is_honest.ensures.quiet s.version)
+    (g.met.N.Nodes.well_formed c.args.nodes.now) (g.met.N.Nodes.layered c.args.nodes.now)
     (told_from c.args.q.now c.args.proof.now c.is_query.ensures fits (by s.version g.N.Hash.Hashes.of) s.tree s.batch
     c.in_ok-question_finding.question_finding c.in_ok-finding_of.field-0 c.in_ok-question_finding.ensures.told
     c.in_ok-finding_of.ensures)

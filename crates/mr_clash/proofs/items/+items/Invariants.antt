@@ -1,4 +1,6 @@
-use Rattle.std.proofs.Common.{◌≡◌, ℕ, List, ◌++◌, ◌+◌, ◌*◌, length}
+use Rattle.std.proofs.Common.{◌≡◌, ℕ, List, ◌++◌, ◌+◌, ◌*◌, ◌≤◌, length}
+use Rattle.mr_tree.specs.Digest.{by}
+use Rattle.mr_tree.specs.Limits.{level_limit}
 use Rattle.mr_proof.specs.Cut.{Cuts, number_of_cuts}
 use Rattle.mr_proof.specs.Spelling.{cuts_bytes, FitCuts}
 use Rattle.mr_clash.specs.private.Steps.{left}
@@ -17,8 +19,8 @@ decreases-pass_items g l = 3 * l.level + 2
 -- so many items were passed over
 abbrev pub invariant-pass_items-loop : goal.invariant-pass_items-loop
 invariant-pass_items-loop g l = record {
-  passed : (Ps : Cuts) (rest : List ℕ) → FitCuts l.level Ps → number_of_cuts Ps ≡ l.count
-      → left l.initial.from ≡ cuts_bytes Ps ++ rest
-      → PassedSome g.H.Hashes.of l.level Ps rest l.counter l.list.items (left l.from);
+  passed : (Ps : Cuts) (rest : List ℕ) → l.level ≤ level_limit → FitCuts l.version l.level Ps
+      → number_of_cuts Ps ≡ l.count → left l.initial.from ≡ cuts_bytes l.version Ps ++ rest
+      → PassedSome (by l.version g.H.Hashes.of) l.level Ps rest l.counter l.list.items (left l.from);
   few : length l.list.items ≡ l.counter;
 }

@@ -1,10 +1,9 @@
 use Rattle.std.proofs.Common.{◌≡◌, ◌∷◌, length, take}
 use Rattle.std.specs.List.{flat_map}
 use Rattle.mr_tree.specs.Digest.{inner_tag, entry_bytes}
-use Rattle.mr_proof.specs.Fields.{version}
 use Rattle.mr_clash.proofs.strings.inner_string.Given as goal
 
 -- the children so far stand in the string
 abbrev pub invariant-loop-child : goal.invariant-loop-child
 invariant-loop-child l = l.string.items
-    ≡ inner_tag ∷ l.level ∷ length l.children ∷ flat_map (entry_bytes version) (take l.child-index l.children)
+    ≡ inner_tag ∷ l.level ∷ length l.children ∷ flat_map (entry_bytes l.version) (take l.child-index l.children)

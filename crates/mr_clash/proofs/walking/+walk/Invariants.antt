@@ -1,5 +1,6 @@
 use Rattle.std.proofs.Common.{◌≡◌, ℕ, List, ◌++◌, ◌+◌, ◌*◌, ◌≤◌, length}
 use Rattle.std.specs.Prelude.{option_map}
+use Rattle.mr_tree.specs.Digest.{by}
 use Rattle.mr_proof.specs.Cut.{Cuts, number_of_cuts, all_opened}
 use Rattle.mr_proof.specs.Spelling.{cuts_bytes, FitCuts}
 use Rattle.mr_clash.specs.private.Steps.{left, pair_of}
@@ -22,13 +23,14 @@ invariant-walk_all-loop-child g l = record {
   kept : g.N.Nodes.kept l.fn.nodes l.nodes;
   still : g.N.Nodes.faults l.nodes ≡ g.N.Nodes.faults l.fn.nodes;
   unrefused : g.N.Nodes.refusal l.nodes ≡ g.N.Nodes.refusal l.fn.nodes;
-  fetched : (Ps : Cuts) (rest : List ℕ) → FitCuts l.level Ps → number_of_cuts Ps ≡ length l.children
-      → left l.initial.from ≡ cuts_bytes Ps ++ rest
+  fetched : (Ps : Cuts) (rest : List ℕ) → FitCuts l.version l.level Ps → number_of_cuts Ps ≡ length l.children
+      → left l.initial.from ≡ cuts_bytes l.version Ps ++ rest
       → g.N.Nodes.fetches l.nodes + all_opened (drop_cuts l.child-index Ps)
       ≤ g.N.Nodes.fetches l.fn.nodes + all_opened Ps;
   count : length l.entries.items ≡ l.child-index;
-  some : (Ps : Cuts) (rest : List ℕ) → FitCuts l.level Ps → number_of_cuts Ps ≡ length l.children
-      → left l.initial.from ≡ cuts_bytes Ps ++ rest
-      → WalkedSome g.N.Hash.Hashes.of (g.N.Nodes.stands l.fn.nodes) l.level l.children Ps rest l.child-index
+  some : (Ps : Cuts) (rest : List ℕ) → FitCuts l.version l.level Ps → number_of_cuts Ps ≡ length l.children
+      → left l.initial.from ≡ cuts_bytes l.version Ps ++ rest
+      → WalkedSome (by l.version g.N.Hash.Hashes.of) (g.N.Nodes.stands l.fn.nodes)
+      l.level l.children Ps rest l.child-index
       l.entries.items (option_map pair_of l.clash) (left l.from);
 }

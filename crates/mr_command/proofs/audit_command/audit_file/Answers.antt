@@ -3,17 +3,11 @@ use Rattle.std.specs.Prelude.{IfSome, Err}
 use Rattle.mr_tree.specs.Nodes.{MapModel}
 use Rattle.mr_pages.specs.declared.head.MapHead.{MapHead}
 use Rattle.mr_store.specs.Paged.{shelved, stands_for}
-use Rattle.mr_record.specs.declared.version.Version.TheVariants.{One}
 use Rattle.mr_command.specs.private.Steps.{map_at, ComesBut, ReadsOpened}
 use Rattle.mr_plan.specs.Plan.{comes}
 use Rattle.mr_plan.specs.Say.{say_audit_of}
 use Rattle.mr_command.proofs.Audits.{read_told, read_untold, unread_told, unread_untold, read_beside, alone_beside, same_stands}
 use Rattle.mr_command.proofs.audit_command.audit_file.Goals as goal
-
-pub audit_bytes-requires-clause-first : goal.audit_bytes-requires-clause-first
-audit_bytes-requires-clause-first g c κs within =
-    subst (λ (s : MapModel). s.version ≡ One)
-    (same_stands c.args.paged.now c.needed_beside.new.paged c.in-Ok.ensures.same) c.requires.first
 
 pub returns-in-Ok-clause-told : goal.returns-in-Ok-clause-told
 returns-in-Ok-clause-told g c =

@@ -1,4 +1,4 @@
-use Rattle.std.proofs.Common.{◌≡◌, ℕ, List, length, sym, ap, subst, inl, inr}
+use Rattle.std.proofs.Common.{◌≡◌, ℕ, List, length, sym, ap, subst, inl}
 use Rattle.mr_store.specs.Paged.{shelved}
 use Rattle.mr_command.specs.Counting.{AllowsAudit}
 use Rattle.mr_command.specs.Ending.{IsCarriedOut}
@@ -8,7 +8,7 @@ use Rattle.mr_plan.specs.Untold.{MaySayAudit}
 use Rattle.mr_plan.specs.declared.words.Command.TheVariants as commands
 use Rattle.mr_command.proofs.Audits.{audited, auditing_unopened}
 use Rattle.mr_command.proofs.Going.{judged_needs}
-use Rattle.mr_command.proofs.Pages.{unprovable}
+use Rattle.mr_command.proofs.Pages.{unopened_map}
 use Rattle.mr_command.proofs.audit_command.audit_query.Given
 use Rattle.mr_command.proofs.audit_command.audit_query.Goals as goal
 
@@ -23,10 +23,10 @@ returns-in-Err g c =
     let proof = c.args.proof.now in
     let before = g.S.Shelf.state c.args.shelf in
     let after = g.S.Shelf.state c.in-Err.ended.1 in
-    unprovable hash (sized g) map before (MaySayAudit hash map q proof) (AllowsAudit hash map q proof)
+    unopened_map hash (sized g) map before (MaySayAudit hash map q proof) (AllowsAudit hash map q proof)
     (λ m. needs proof (λ bytes. comes (say_audit_of hash q m bytes)))
-    (λ m. judged_needs proof (say_audit_of hash q m) before.files) (λ said is. inl is) (λ said is. inr (inl is)) after
-    c.in-Err.ended.0 c.in-Err.ensures.opened (auditing_unopened hash map q proof before after)
+    (λ m. judged_needs proof (say_audit_of hash q m) before.files) (λ said is. inl is) after
+    c.in-Err.ended.0 c.in-Err.ensures (auditing_unopened hash map q proof before after)
 
 pub returns-in-Ok : goal.returns-in-Ok
 returns-in-Ok g c =
@@ -37,5 +37,5 @@ returns-in-Ok g c =
     subst (λ w. IsCarriedOut hash (commands.Audit c.args.map c.args.query.now c.args.proof) before w
     c.audit_file-came.result) (sym (ap g.S.Shelf.state c.close.ensures))
     (audited hash (sized g) c.args.map.now c.args.query.now c.args.proof.now before
-    (shelved c.audit_file-came.new.paged) c.in-Ok.paged o.opened o.first e.counts (e.reads_at_most o.opened.none)
+    (shelved c.audit_file-came.new.paged) c.in-Ok.paged o e.counts (e.reads_at_most o.none)
     c.audit_file-came.result e.told e.untold)

@@ -4,9 +4,9 @@ use Rattle.std.specs.Global.{Vec}
 use Rattle.mr_record.specs.private.Bytes.{AreBytes}
 use Rattle.mr_bundle.specs.Verdicts.{verdicts}
 use Rattle.mr_bundle.specs.Bundle.{parts}
-use Rattle.mr_plan.specs.Judged.{IsPlain, bundle_text, bundle_status}
+use Rattle.mr_plan.specs.Judged.{HasLines, bundle_text, bundle_status}
 use Rattle.mr_command.proofs.Bundles.{gives_parts, verdicts_few}
-use Rattle.mr_command.proofs.Plain.{verdicts_plain}
+use Rattle.mr_command.proofs.Plain.{verdicts_lines}
 use Rattle.mr_command.proofs.check_all_command.check_bytes.Goals as goal
 
 pub judged_text-requires-clause-few : goal.judged_text-requires-clause-few
@@ -14,11 +14,11 @@ judged_text-requires-clause-few g c =
     subst (λ l. length l ≤ length c.args.queries.now) (sym (c.deref-5.ensures.value ∙ c.in_ok-list.ensures))
     (verdicts_few g.H.Hashes.of c.args.root.now c.args.queries.now c.deref-3.result.now c.as_slice.result.now)
 
-pub judged_text-requires-clause-plain : goal.judged_text-requires-clause-plain
-judged_text-requires-clause-plain g c =
+pub judged_text-requires-clause-lines : goal.judged_text-requires-clause-lines
+judged_text-requires-clause-lines g c =
     let are = subst AreBytes (c.deref.ensures.value ∙ sym c.deref-3.ensures.value) c.are_bytes.ensures in
-    subst (All IsPlain) (sym (c.deref-5.ensures.value ∙ c.in_ok-list.ensures))
-    (verdicts_plain g.H.Hashes.of c.args.root.now c.deref-3.result.now are c.args.queries.now c.as_slice.result.now)
+    subst (All HasLines) (sym (c.deref-5.ensures.value ∙ c.in_ok-list.ensures))
+    (verdicts_lines g.H.Hashes.of c.args.root.now c.deref-3.result.now are c.args.queries.now c.as_slice.result.now)
 
 pub returns : goal.returns
 returns g c =

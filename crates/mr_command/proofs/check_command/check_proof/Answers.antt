@@ -1,7 +1,8 @@
-use Rattle.std.proofs.Common.{sym, subst}
-use Rattle.std.specs.Prelude.{Ok, Err}
+use Rattle.std.proofs.Common.{sym, ap, subst, ◌∙◌}
+use Rattle.std.specs.Prelude.{All, Ok, Err}
 use Rattle.mr_record.specs.RecordText.{text_of}
-use Rattle.mr_record.specs.declared.version.Version.TheVariants.{One}
+use Rattle.mr_record.specs.Record.{HasLayer}
+use Rattle.mr_check.specs.Versions.{proof_version}
 use Rattle.mr_command.specs.Ending.{IsEndingOf, IsEndingOrHalt}
 use Rattle.mr_plan.specs.Say.{prints, say_check_of}
 use Rattle.mr_command.proofs.Counting.{text_taken}
@@ -15,8 +16,9 @@ use Rattle.mr_command.proofs.check_command.check_proof.Goals as goal
 
 pub records-requires : goal.records-requires
 records-requires g c =
-    let is = c.in-Ok.ensures.judges in
-    answer_layers g.H.Hashes.of c.args.root.now c.args.query.now is.bytes c.in-Ok.records.items is.are is.verdict_is
+    let is = c.in-Ok.ensures.judges.0 in
+    subst (λ v. All (HasLayer v) c.in-Ok.records.items) (sym c.in-Ok.ensures.judges.1)
+    (answer_layers g.H.Hashes.of c.args.root.now c.args.query.now is.bytes c.in-Ok.records.items is.are is.verdict_is)
 
 pub returns-in-Ok : goal.returns-in-Ok
 returns-in-Ok g c =
@@ -24,7 +26,7 @@ returns-in-Ok g c =
     let said = say_check_of hash c.args.root.now c.args.query.now in
     let before = g.S.Shelf.state c.args.shelf.now in
     let after = g.S.Shelf.state c.judge_file.new.shelf in
-    let is = c.in-Ok.ensures.judges in
+    let is = c.in-Ok.ensures.judges.0 in
     let causes = c.in-Ok.ensures.causes in
     comes_judged hash c.args.root.now c.args.query.now c.args.name.now said before after _ c.judge_file.ensures.stops
     (comes_on c.args.name.now (λ b. comes (said b)) is.bytes before after after
@@ -37,8 +39,9 @@ returns-in-Ok g c =
     (check_writes hash c.args.root.now c.args.query.now is.bytes)
     (subst (λ outcome. IsEndingOf outcome c.records.result)
     (sym (says_verdict hash c.args.root.now c.args.query.now is.bytes (Ok c.in-Ok.records.items) is.verdict_is))
-    (gives (prints (text_of One c.in-Ok.records.items)) c.records.result ((λ e. cc), (λ e. cc)) c.records.ensures.status
-    c.records.ensures.printed))))
+    (gives (prints (text_of (proof_version is.bytes) c.in-Ok.records.items)) c.records.result ((λ e. cc), (λ e. cc))
+    c.records.ensures.status
+    (c.records.ensures.printed ∙ ap (λ v. text_of v c.in-Ok.records.items) c.in-Ok.ensures.judges.1)))))
 
 pub returns-in-Err-Refused : goal.returns-in-Err-Refused
 returns-in-Err-Refused g c =

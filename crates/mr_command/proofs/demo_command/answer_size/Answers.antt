@@ -1,4 +1,5 @@
 use Rattle.std.proofs.Common.{◌≡◌, length, rules}
+use Rattle.mr_record.specs.declared.version.Version.TheVariants.{One}
 use Rattle.mr_check.specs.declared.error.CheckErr.TheVariants as errors
 use Rattle.mr_proof.specs.Reading.{verdict}
 use Rattle.mr_query.specs.Scan.{scan}
@@ -13,7 +14,7 @@ unreachable-requires g c =
     c.in-Err-Fault.field-0-is c.in-Err-Fault.ensures.exact in
     no_fault (verdict hash c.args.root.now c.args.query.now c.args.bytes.now) c.in-Err-Fault.field-0-0 _ was
     (accepted_scan hash c.args.query.now c.args.tree.now c.args.root.now c.args.bytes.now
-    c.in-Err-Fault.ensures.complete
+    (c.in-Err-Fault.ensures.complete One) c.requires.may_come
     c.requires.well_formed c.requires.layers c.requires.root c.requires.own)
 
 pub returns-in-Ok : goal.returns-in-Ok
@@ -23,6 +24,6 @@ returns-in-Ok g c =
     answer_length (verdict hash c.args.root.now c.args.query.now c.args.bytes.now) c.in-Ok.answer.items _
     c.in-Ok.ensures.exact
     (accepted_scan hash c.args.query.now c.args.tree.now c.args.root.now c.args.bytes.now
-    c.in-Ok.ensures.complete
+    (c.in-Ok.ensures.complete One) c.requires.may_come
     c.requires.well_formed c.requires.layers c.requires.root c.requires.own) in
     search (rules, long)

@@ -1,6 +1,5 @@
 use Rattle.std.proofs.Common.{refl}
 use Rattle.std.specs.Prelude.{Ok}
-use Rattle.mr_pages.specs.File.{version_of}
 use Rattle.mr_plan.specs.Plan.{comes}
 use Rattle.mr_plan.specs.Say.{say_list_of}
 use Rattle.mr_command.proofs.Going.{comes_map, comes_at_once}
@@ -10,7 +9,7 @@ use Rattle.mr_command.proofs.list_command.list.Goals as goal
 pub returns-in-Ok : goal.returns-in-Ok
 returns-in-Ok g c =
     let after = g.S.Shelf.state c.open_map.new.shelf in
-    comes_map version_of g.H.Hashes.of c.args.name.now (λ map. comes (say_list_of map))
+    comes_map g.H.Hashes.of c.args.name.now (λ map. comes (say_list_of map))
     (g.S.Shelf.state c.args.shelf.now) after after c.in-Ok.map (Ok c.tree.result) c.in-Ok.ensures (λ map. tt)
     (comes_at_once (say_list_of c.in-Ok.map) after c.tree.result refl
     (gives (say_list_of c.in-Ok.map) c.tree.result ((λ e. cc), (λ e. cc)) c.tree.ensures.status

@@ -9,10 +9,16 @@ returns-in-Ok g c =
     let hash = g.H.Hashes.of in
     let e = c.in-Ok.ensures in
     let before = g.S.Shelf.state c.args.shelf.now in
-    opens_map version_of hash c.args.name.now before (g.S.Shelf.state c.open_plain.new.shelf)
-    (is_judged version_of hash before.files c.args.name.now e.agrees (λ bytes are. e.law (version_of bytes) bytes are))
-    c.in-Ok.map (e.exact, in_own hash (Ok c.in-Ok.map) e.version e.of_some_bytes, e.causes, e.files, e.reads,
-    e.reads_at_most)
+    opens_map hash c.args.name.now before (g.S.Shelf.state c.open_plain.new.shelf)
+    (is_judged hash before.files c.args.name.now e.agrees (λ bytes are. e.law (version_of bytes) bytes are))
+    c.in-Ok.map (
+      e.exact,
+      in_own hash (Ok c.in-Ok.map) e.version e.of_some_bytes,
+      e.causes,
+      e.files,
+      e.reads,
+      e.reads_at_most,
+    )
     e.well_formed.0 e.well_formed.1 c.is_word.ensures
 
 pub returns-in-Err : goal.returns-in-Err
@@ -20,9 +26,14 @@ returns-in-Err g c =
     let hash = g.H.Hashes.of in
     let e = c.in-Err.ensures in
     let before = g.S.Shelf.state c.args.shelf.now in
-    opens_unopened version_of hash c.args.name.now before (g.S.Shelf.state c.open_plain.new.shelf)
-    (is_judged version_of hash before.files c.args.name.now e.agrees (λ bytes are. e.law (version_of bytes) bytes are))
-    c.in-Err.error c.unopened.result
-    (e.exact, in_own hash (Err c.in-Err.error) e.version e.of_some_bytes, e.causes, e.files, e.reads,
-    e.reads_at_most)
+    opens_unopened hash c.args.name.now before (g.S.Shelf.state c.open_plain.new.shelf)
+    (is_judged hash before.files c.args.name.now e.agrees (λ bytes are. e.law (version_of bytes) bytes are))
+    c.in-Err.error c.unopened.result (
+      e.exact,
+      in_own hash (Err c.in-Err.error) e.version e.of_some_bytes,
+      e.causes,
+      e.files,
+      e.reads,
+      e.reads_at_most,
+    )
     c.unopened.ensures

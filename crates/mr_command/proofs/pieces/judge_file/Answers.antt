@@ -23,12 +23,10 @@ pub returns-clause-judges : goal.returns-clause-judges
 returns-clause-judges g c =
     let all = rw c.in_ok-size.ensures.files at
     (c.in_ok-taken.ensures.takes c.args.root.now c.args.query.now c.in_ok-intake.ensures) in
-    record {
-      bytes = all.bytes;
-      input = all.input;
-      are = all.are;
-      verdict_is = c.in_ok-end.ensures c.args.root.now c.args.query.now all.bytes all.taken;
-    }
+    let e = c.in_ok-end.ensures c.args.root.now c.args.query.now all.bytes all.taken in (
+      record { bytes = all.bytes; input = all.input; are = all.are; verdict_is = e.0 },
+      e.1,
+    )
 
 -- it was read up to the piece that fixes a fault
 pub returns-in_err-taken-clause-stops : goal.returns-in_err-taken-clause-stops

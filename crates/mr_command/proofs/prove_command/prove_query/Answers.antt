@@ -1,10 +1,14 @@
-use Rattle.std.proofs.Common.{◌≡◌, ℕ, List, length, ap, subst, inl, inr}
+use Rattle.std.proofs.Common.{◌≡◌, ℕ, List, length, ap, sym, subst, ◌∙◌, inl}
 use Rattle.mr_command.specs.Counting.{AllowsProve}
+use Rattle.mr_command.specs.Ending.{IsCarriedOut}
 use Rattle.mr_command.specs.private.Steps.{KeepsProof}
 use Rattle.mr_plan.specs.Plan.{comes}
-use Rattle.mr_plan.specs.Say.{say_prove_of}
+use Rattle.mr_plan.specs.Say.{lacks_proof, say_prove_of}
 use Rattle.mr_plan.specs.Untold.{MaySayProve}
-use Rattle.mr_command.proofs.Pages.{unprovable, proving_unopened, proved}
+use Rattle.mr_plan.specs.declared.words.Command.TheVariants as commands
+use Rattle.mr_command.proofs.Bundles.{has_by}
+use Rattle.mr_command.proofs.Pages.{unopened_map, proving_unopened, proved, unproved}
+use Rattle.mr_store.specs.Paged.{stands_for}
 use Rattle.mr_command.proofs.prove_command.prove_query.Given
 use Rattle.mr_command.proofs.prove_command.prove_query.Goals as goal
 
@@ -19,17 +23,35 @@ returns-in-Err g c =
     let proof = c.args.proof.now in
     let before = g.S.Shelf.state c.args.shelf in
     let after = g.S.Shelf.state c.in-Err.ended.1 in
-    unprovable hash (sized g) map before (MaySayProve hash map proof) (AllowsProve hash map q)
-    (λ m. comes (say_prove_of hash q proof m)) (λ m. tt) (λ said is. inl is) (λ said is. inr (inl is)) after
-    c.in-Err.ended.0 c.in-Err.ensures.opened (proving_unopened hash map q before after)
+    unopened_map hash (sized g) map before (MaySayProve hash map q proof) (AllowsProve hash map q)
+    (λ m. comes (say_prove_of hash q proof m)) (λ m. tt) (λ said is. inl is) after c.in-Err.ended.0 c.in-Err.ensures
+    (proving_unopened hash map q before after)
 
-pub returns-in-Ok : goal.returns-in-Ok
-returns-in-Ok g c =
-    let o = c.in-Ok.ensures in
+-- the map has no proof
+pub returns-then-lacks_proof : goal.returns-then-lacks_proof
+returns-then-lacks_proof g c =
+    let hash = g.H.Hashes.of in
+    let q = c.args.query.now in
+    subst (λ w. IsCarriedOut hash (commands.Prove c.args.map q c.args.proof) (g.S.Shelf.state c.args.shelf) w
+    c.without_proof.result) (sym (ap g.S.Shelf.state c.close.ensures))
+    (unproved hash (sized g) c.args.map.now q c.args.proof.now (g.S.Shelf.state c.args.shelf) c.in-Ok.paged
+    c.in-Ok.ensures (ap (λ v. lacks_proof v q) (sym c.version.ensures) ∙ sym c.lacks_proof.ensures ∙ c.if-lacks_proof.true)
+    c.without_proof.result c.without_proof.ensures)
+
+pub proof_of_nodes-made-requires-clause-may_come : goal.proof_of_nodes-made-requires-clause-may_come
+proof_of_nodes-made-requires-clause-may_come g c =
+    has_by (stands_for c.in-Ok.paged).version c.args.query.now
+    (ap (λ v. lacks_proof v c.args.query.now) (sym c.version.ensures) ∙ sym c.lacks_proof.ensures ∙ c.if-lacks_proof.false)
+
+pub returns-else-lacks_proof : goal.returns-else-lacks_proof
+returns-else-lacks_proof g c =
     let made = c.proof_of_nodes-made in
+    let q = c.args.query.now in
     let after = g.S.Shelf.state c.keep_proof-came.new.shelf in
-    proved g.H.Hashes.of (sized g) c.args.map.now c.args.query.now c.args.proof.now (g.S.Shelf.state c.args.shelf)
-    after c.in-Ok.paged made.new.nodes o.opened o.first made.ensures.kept made.ensures.fetched made.result
+    proved g.H.Hashes.of (sized g) c.args.map.now q c.args.proof.now (g.S.Shelf.state c.args.shelf)
+    after c.in-Ok.paged made.new.nodes c.in-Ok.ensures
+    (ap (λ v. lacks_proof v q) (sym c.version.ensures) ∙ sym c.lacks_proof.ensures ∙ c.if-lacks_proof.false)
+    made.ensures.kept made.ensures.fetched made.result
     c.keep_proof-came.result made.ensures.written made.ensures.cause made.ensures.quiet
     (subst (λ w. KeepsProof c.args.map.now c.args.proof.now made.result w after c.keep_proof-came.result)
     (ap g.S.Shelf.state c.close-shelf.ensures) c.keep_proof-came.ensures)

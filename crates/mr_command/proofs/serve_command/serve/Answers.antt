@@ -1,4 +1,4 @@
-use Rattle.std.proofs.Common.{◌≡◌, ℕ, List, length, ap, sym, subst, inl, inr}
+use Rattle.std.proofs.Common.{◌≡◌, ℕ, List, length, ap, sym, subst, inl}
 use Rattle.mr_query.specs.Script.{queries_of_text}
 use Rattle.mr_command.specs.Counting.{AllowsServe}
 use Rattle.mr_command.specs.Ending.{RunsPlan, IsCarriedOut}
@@ -6,8 +6,8 @@ use Rattle.mr_plan.specs.Say.{opened_in, say_script, say_serve_of}
 use Rattle.mr_plan.specs.Untold.{MaySayServe}
 use Rattle.mr_plan.specs.declared.words.Command.TheVariants as commands
 use Rattle.mr_command.proofs.Going.{judged_needs}
-use Rattle.mr_command.proofs.Pages.{unprovable}
-use Rattle.mr_command.proofs.Served.{laid_in, served, serving_unopened, unserved}
+use Rattle.mr_command.proofs.Pages.{unopened_map}
+use Rattle.mr_command.proofs.Served.{served, serving_unopened, unserved}
 use Rattle.mr_command.proofs.serve_command.serve.Given
 use Rattle.mr_command.proofs.serve_command.serve.Goals as goal
 
@@ -22,10 +22,10 @@ returns-in-Err g c =
     let bundle = c.args.bundle.now in
     let before = g.S.Shelf.state c.args.shelf in
     let after = g.S.Shelf.state c.in-Err.ended.1 in
-    unprovable hash (sized g) map before (MaySayServe hash map script bundle) (AllowsServe hash map script)
+    unopened_map hash (sized g) map before (MaySayServe hash map script bundle) (AllowsServe hash map script)
     (say_script hash script bundle)
     (λ m. judged_needs script (λ text. say_serve_of hash bundle m (queries_of_text text)) before.files)
-    (λ said is. inl is) (λ said is. inr (inl is)) after c.in-Err.ended.0 c.in-Err.ensures.opened
+    (λ said is. inl is) after c.in-Err.ended.0 c.in-Err.ensures
     (serving_unopened hash map script before after)
 
 pub returns-in-Err-snapshot : goal.returns-in-Err-snapshot
@@ -38,7 +38,7 @@ returns-in-Err-snapshot g c =
     c.unfetched.result)
     (sym (ap g.S.Shelf.state c.close.ensures))
     (unserved hash (sized g) c.args.map.now c.args.script.now c.args.bundle.now before c.in-Ok.paged
-    c.snapshot.new.self o.opened o.first e.kept e.fetched c.in-Err-snapshot.error c.unfetched.result e.cause
+    c.snapshot.new.self o e.kept e.fetched c.in-Err-snapshot.error c.unfetched.result e.cause
     c.unfetched.ensures)
 
 pub returns-in-Ok-snapshot : goal.returns-in-Ok-snapshot
@@ -50,8 +50,8 @@ returns-in-Ok-snapshot g c =
     let after = g.S.Shelf.state c.serve_script-came.new.shelf in
     let e = c.in-Ok-snapshot.ensures in
     served hash (sized g) c.args.map.now c.args.script.now c.args.bundle.now before c.in-Ok.paged c.snapshot.new.self
-    o.opened o.first e.kept e.fetched nodes.nodes.items nodes.top after c.serve_script-came.result e.stands
-    (laid_in c.in-Ok.paged nodes.top.version e.says.version o.first) nodes.well_formed e.quiet
+    o e.kept e.fetched nodes.nodes.items nodes.top after c.serve_script-came.result e.stands
+    nodes.well_formed e.quiet
     (subst (λ w. RunsPlan (say_script hash c.args.script.now c.args.bundle.now
     (opened_in nodes.nodes.items nodes.top)) w
     after c.serve_script-came.result) (ap g.S.Shelf.state c.close-shelf.ensures) c.serve_script-came.ensures)

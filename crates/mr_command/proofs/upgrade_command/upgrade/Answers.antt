@@ -1,4 +1,3 @@
-use Rattle.mr_pages.specs.File.{version_of}
 use Rattle.mr_plan.specs.Plan.{comes}
 use Rattle.mr_plan.specs.Say.{say_upgrade_of}
 use Rattle.mr_command.proofs.Going.{comes_map}
@@ -7,7 +6,7 @@ use Rattle.mr_command.proofs.upgrade_command.upgrade.Goals as goal
 pub returns-in-Ok : goal.returns-in-Ok
 returns-in-Ok g c =
     let hash = g.H.Hashes.of in
-    comes_map version_of hash c.args.old.now (λ map. comes (say_upgrade_of hash c.args.new.now map))
+    comes_map hash c.args.old.now (λ map. comes (say_upgrade_of hash c.args.new.now map))
     (g.S.Shelf.state c.args.shelf.now) (g.S.Shelf.state c.open_map.new.shelf)
     (g.S.Shelf.state c.save_map.new.shelf) c.in-Ok.map c.save_map.result c.in-Ok.ensures (λ map. tt)
     c.save_map.ensures

@@ -1,5 +1,4 @@
-use Rattle.std.proofs.Common.{refl, arith}
-use Rattle.mr_record.specs.declared.version.Version.TheVariants.{One}
+use Rattle.std.proofs.Common.{arith}
 use Rattle.mr_tree.specs.Digest.{by}
 use Rattle.mr_proof.proofs.PreimageBytes.{IsSized}
 use Rattle.mr_proof.proofs.NoClash.{honest_quiet}
@@ -26,4 +25,4 @@ returns-clause-others g c =
 pub returns-clause-quiet : goal.returns-clause-quiet
 returns-clause-quiet g c =
     let sized : IsSized g.H.Hashes.of = record { long = g.met.H.Hashes.sized; bytes = g.met.H.Hashes.bytes } in
-    honest_quiet (by One g.H.Hashes.of) refl sized c.args.q.now c.is_query.ensures
+    λ v. honest_quiet (by v g.H.Hashes.of) sized c.args.q.now c.is_query.ensures

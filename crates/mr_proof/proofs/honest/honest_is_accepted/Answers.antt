@@ -1,5 +1,3 @@
-use Rattle.std.proofs.Common.{refl}
-use Rattle.mr_record.specs.declared.version.Version.TheVariants.{One}
 use Rattle.mr_tree.specs.Digest.{by}
 use Rattle.mr_proof.proofs.PreimageBytes.{IsSized}
 use Rattle.mr_proof.proofs.Laws.{is_lawful}
@@ -10,13 +8,13 @@ use Rattle.mr_proof.proofs.honest.honest_is_accepted.Goals as goal
 pub returns-clause-accepted : goal.returns-clause-accepted
 returns-clause-accepted g c =
     let sized : IsSized g.H.Hashes.of = record { long = g.met.H.Hashes.sized; bytes = g.met.H.Hashes.bytes } in
-    accepts_honest (by One g.H.Hashes.of) refl sized c.args.q.now c.is_query.ensures
+    λ v. accepts_honest (by v g.H.Hashes.of) sized c.args.q.now c.is_query.ensures
 
 pub returns-clause-honest : goal.returns-clause-honest
 returns-clause-honest g c =
     let sized : IsSized g.H.Hashes.of = record { long = g.met.H.Hashes.sized; bytes = g.met.H.Hashes.bytes } in
-    λ t batch well layers low. honest_stands (by One g.H.Hashes.of) refl sized (question c.args.q.now)
-    (is_lawful c.args.q.now c.is_query.ensures) t batch well layers low
+    λ v t batch may well layers low. honest_stands (by v g.H.Hashes.of) sized (question c.args.q.now)
+    (is_lawful c.args.q.now c.is_query.ensures) t batch may well layers low
 
 pub returns-clause-short : goal.returns-clause-short
 returns-clause-short g c =

@@ -17,13 +17,13 @@ invariant-write_met-loop-next g l = record {
   whole : IsSome (g.N.Nodes.stands l.fn.nodes).tree →
       TakesBytes (g.W.Sink.state l.initial.out) (g.W.Sink.state l.out)
       (child_parts (by (g.N.Nodes.stands l.fn.nodes).version g.N.Hash.Hashes.of)
-      ((g.A.AsQuestion.question l.fn.q).way l.fn.radius) (g.N.Nodes.stands
-      l.fn.nodes)
+      ((g.A.AsQuestion.question l.fn.q).way l.fn.head.radius) (g.N.Nodes.stands l.fn.nodes)
       (take l.next-index l.next-items));
   fetched : IsSome (g.N.Nodes.stands l.fn.nodes).tree →
-      g.N.Nodes.fetches l.nodes ≤ g.N.Nodes.fetches l.initial.nodes + opened_in (by (g.N.Nodes.stands
-      l.fn.nodes).version g.N.Hash.Hashes.of)
-      ((g.A.AsQuestion.question l.fn.q).way l.fn.radius) (g.N.Nodes.stands l.fn.nodes) (take l.next-index l.next-items);
+      g.N.Nodes.fetches l.nodes ≤ g.N.Nodes.fetches l.initial.nodes
+      + opened_in (by (g.N.Nodes.stands l.fn.nodes).version g.N.Hash.Hashes.of)
+      ((g.A.AsQuestion.question l.fn.q).way l.fn.head.radius) (g.N.Nodes.stands l.fn.nodes)
+      (take l.next-index l.next-items);
   still : g.N.Nodes.faults l.nodes ≡ g.N.Nodes.faults l.initial.nodes;
   unrefused : g.N.Nodes.refusal l.nodes ≡ g.N.Nodes.refusal l.initial.nodes;
   quiet : (g.W.Sink.state l.out).faults ≡ (g.W.Sink.state l.initial.out).faults;

@@ -24,7 +24,7 @@ returns-clause-fetched g c =
 
 pub write_proof-requires-clause-right : goal.write_proof-requires-clause-right
 write_proof-requires-clause-right g c =
-    right_none (g.A.AsQuestion.question c.args.q.now) (g.N.Nodes.stands c.args.nodes.now) c.requires
+    right_none (g.A.AsQuestion.question c.args.q.now) (g.N.Nodes.stands c.args.nodes.now) c.requires.around
 
 pub write_proof-requires-clause-fits : goal.write_proof-requires-clause-fits
 write_proof-requires-clause-fits g c = no_radius_fits (g.A.AsQuestion.question c.args.q.now).kind
