@@ -332,8 +332,9 @@ module _ {S H : Type 0} {G : shelves.Ghosts S} {K : hashes.Ghosts H} (hash : Lis
 -- so few where a map is opened and its nodes are fetched for a proof
 few_pages : (hash : List ℕ → List ℕ) (q : Query) (pages : ℕ) (bytes : List ℕ) (r m e f : ℕ) (t : Tree) (batch : ℕ)
     → IsMapFile hash bytes (map_in (version_of bytes) t batch) → lacks_proof (version_of bytes) q ≡ false
-    → pages ≡ pages_in bytes → m ≤ r + pages_in bytes → (pages ≤ room + 1 → e ≡ m) → FewFetches m 0 e f → e ≤ max m last_count
-    → f ≤ 0 + rounds q * opened (by (version_of bytes) hash) t q → (n : ℕ) × (e ≤ r + n) × IsFewOf hash q bytes n
+    → pages ≡ pages_in bytes → m ≤ r + pages_in bytes → (pages ≤ room + 1 → e ≡ m) → FewFetches m 0 e f
+    → e ≤ max m last_count → f ≤ 0 + rounds q * opened (by (version_of bytes) hash) t q
+    → (n : ℕ) × (e ≤ r + n) × IsFewOf hash q bytes n
 few_pages hash q pages bytes r m e f t batch stands has_proof pages_are few still fetched most bound =
     let all : ℕ = pages_in bytes + rounds q * opened (by (version_of bytes) hash) t q in
     elim (cases_Bool (ltb (room + 1) pages)) [

@@ -84,9 +84,9 @@ fn serve_script<H: Hash32, S: Shelf, G: Gate, R: Threads + Sync>(
     }
 }
 
-/// The proofs for the queries of a script on the map in a file, written to another one, where the map
-/// has one for each. The map is taken into memory, once, and the script is read behind it. The shelf
-/// is handed back.
+/// The proofs for the queries of a script on the map in a file, written to another one, where the
+/// map has one for each. The map is taken into memory, once, and the script is read behind it. The
+/// shelf is handed back.
 pub fn serve<H: Hash32, S: Shelf, G: Gate, R: Threads + Sync>(
     rt: &R,
     alloc: Global,

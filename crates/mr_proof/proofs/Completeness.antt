@@ -492,10 +492,11 @@ version_again heeds e two_only v next s rest may parts within =
     subst (λ (u : Version). Comes heeds e (reads (want.Version two_only) (λ f. next (version_in f))) (next u) s
     (version_byte v ∷ []) rest) (version_back v)
     (reads_again heeds e (want.Version two_only) version_in next s (version_byte v ∷ []) rest
-    (field.Num (version_byte v)) refl (version_value two_only (version_byte v) (byte_comes two_only v may)) parts within)
+    (field.Num (version_byte v)) refl (version_value two_only (version_byte v) (byte_comes two_only v may)) parts
+    within)
 
-opening_again : {A B : Type 0} (heeds : Bool) (e : A → Cursor → Result B Fault) (two_only : Bool) (v : Version) (k : Kind)
-    (g : Version → Grammar A) (s : Cursor) (rest : List ℕ) → (v ≡ One → two_only ≡ false)
+opening_again : {A B : Type 0} (heeds : Bool) (e : A → Cursor → Result B Fault) (two_only : Bool) (v : Version)
+    (k : Kind) (g : Version → Grammar A) (s : Cursor) (rest : List ℕ) → (v ≡ One → two_only ≡ false)
     → s.rest ≡ opening_bytes v k ++ rest → s.at + 6 ≤ place_limit
     → Comes heeds e
     (reads want.Magic (λ _. reads (want.Version two_only) (λ f. reads (want.Kind k) (λ _. g (version_in f))))) (g v) s
@@ -602,8 +603,8 @@ head_again heeds e two_only next s h rest may fine parts within =
     let p = a.place in
     let b = numbers_again heeds e h.kind (made_by next h.version h.kind) a.end h.radius h.batch h.count h.level rest
     fine.batch fine.count fine.radius fine.level fine.empty a.left (omega arith) in
-    comes_both heeds e (head h.kind two_only next) (g h.version) (next h) s (opening_bytes h.version h.kind) numbers rest
-    a b
+    comes_both heeds e (head h.kind two_only next) (g h.version) (next h) s (opening_bytes h.version h.kind) numbers
+    rest a b
 
 -- ---- the whole
 

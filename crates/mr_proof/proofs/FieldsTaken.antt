@@ -330,7 +330,8 @@ pub version_meant : (two_only : Bool) (raw : List ℕ) (f : Field) → length ra
 unfolding field_of
 version_meant two_only raw f long fits e =
     let b = slice_index raw 0 in
-    let p = byte_meant raw (b == version_byte Two || (not two_only && b == version_byte One)) f rule.BadVersion long e in
+    let p = byte_meant raw (b == version_byte Two || (not two_only && b == version_byte One)) f rule.BadVersion long e
+    in
     (p.0, subst (IsVersionByte two_only) (sym p.2) (may_come_byte two_only b p.1))
 
 -- such a byte is that of the version that is read

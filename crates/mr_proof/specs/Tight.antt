@@ -73,8 +73,8 @@ opens_seen way (Some s) = is_open (way s)
 -- ---- what a proof has to show
 
 -- The kind; whether only proofs of the second version may come: where a mask is named, and of a
--- choice; the point, number and layers that the head's squared radius is of, if it has one; and what
--- each part is to be, by that radius.
+-- choice; the point, number and layers that the head's squared radius is of, if it has one; and
+-- what each part is to be, by that radius.
 pub record Question : Type 0 where
   pub kind : Kind
   pub two_only : Bool

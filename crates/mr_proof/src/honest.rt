@@ -24,8 +24,8 @@ pub fn query_is_lawful(q: &Query)
     is_query(q);
 }
 
-/// Does nothing: it is there for proofs, which learn that the honest proof of every map, where there
-/// is one, is what its name says, that it is accepted, and that it shows no pair.
+/// Does nothing: it is there for proofs, which learn that the honest proof of every map, where
+/// there is one, is what its name says, that it is accepted, and that it shows no pair.
 pub fn honest_proof_is_accepted<H: Hashes>()
     ensures accepted { (v : Version) (a : Question) → IsLawful a
         → AcceptsHonestProof (by v H.of) a }
@@ -45,8 +45,8 @@ pub fn accepted_matches_honest<H: Hashes>(_bytes: &[u8])
 
 // ---- of queries
 
-/// Does nothing: it is there for proofs, which learn that the honest proof of every map, where there
-/// is one, is what its name says, and that it is accepted.
+/// Does nothing: it is there for proofs, which learn that the honest proof of every map, where
+/// there is one, is what its name says, and that it is accepted.
 pub fn honest_is_accepted<H: Hashes>(q: &Query)
     requires { IsAskable q.now }
     ensures accepted { (v : Version) → AcceptsHonest (by v H.of) q.now }
@@ -61,8 +61,8 @@ pub fn honest_is_accepted<H: Hashes>(q: &Query)
 }
 
 /// Does nothing: it is there for proofs, which learn what accepted bytes are worth and that all
-/// bytes but the honest proof are refused or show a collision, and that the honest proof shows none,
-/// whatever the version of the map.
+/// bytes but the honest proof are refused or show a collision, and that the honest proof shows
+/// none, whatever the version of the map.
 pub fn accepted_is_honest<H: Hashes>(q: &Query, _bytes: &[u8])
     requires { IsAskable q.now }
     ensures headline { (v : Version) → Headline (by v H.of) q.now _bytes.now }

@@ -103,8 +103,8 @@ fn prove_nearest<N: Nodes, W: Sink>(
 /// just the parts whose way is `Open`. (One for nearest records is written by `prove`.) A question
 /// of which only proofs of version 2 may come needs a map of version 2, as one with a mask. The
 /// nodes are walked depth first and what is known is written at once: the walk keeps the nodes on
-/// the path, at most eight, inline, and is given no allocator. So it takes no memory beyond what the
-/// nodes and the sink take.
+/// the path, at most eight, inline, and is given no allocator. So it takes no memory beyond what
+/// the nodes and the sink take.
 pub fn prove_question<N: Nodes, A: AsQuestion, W: Sink>(
     nodes: &mut N,
     q: &A,

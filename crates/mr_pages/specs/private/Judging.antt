@@ -20,8 +20,8 @@ JudgesNode s root link node (Some r) =
 
 -- ---- a node that was fetched, beside its entry
 
--- whether the node has the rectangle that is said of it, and the mask and, unless it is the root, the
--- count as a version tells them: the count of a root is the head's
+-- whether the node has the rectangle that is said of it, and the mask and, unless it is the root,
+-- the count as a version tells them: the count of a root is the head's
 abbrev pub has_said : Version → (root : Bool) → Child → view.Node → Bool
 has_said v root c n = same_rect (view.rect_of n) (Some c.rect)
     && ((view.mask_over v n == c.mask) && (root || view.count_over v n == c.count))

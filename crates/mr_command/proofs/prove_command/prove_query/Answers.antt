@@ -35,13 +35,15 @@ returns-then-lacks_proof g c =
     subst (λ w. IsCarriedOut hash (commands.Prove c.args.map q c.args.proof) (g.S.Shelf.state c.args.shelf) w
     c.without_proof.result) (sym (ap g.S.Shelf.state c.close.ensures))
     (unproved hash (sized g) c.args.map.now q c.args.proof.now (g.S.Shelf.state c.args.shelf) c.in-Ok.paged
-    c.in-Ok.ensures (ap (λ v. lacks_proof v q) (sym c.version.ensures) ∙ sym c.lacks_proof.ensures ∙ c.if-lacks_proof.true)
+    c.in-Ok.ensures
+    (ap (λ v. lacks_proof v q) (sym c.version.ensures) ∙ sym c.lacks_proof.ensures ∙ c.if-lacks_proof.true)
     c.without_proof.result c.without_proof.ensures)
 
 pub proof_of_nodes-made-requires-clause-may_come : goal.proof_of_nodes-made-requires-clause-may_come
 proof_of_nodes-made-requires-clause-may_come g c =
     has_by (stands_for c.in-Ok.paged).version c.args.query.now
-    (ap (λ v. lacks_proof v c.args.query.now) (sym c.version.ensures) ∙ sym c.lacks_proof.ensures ∙ c.if-lacks_proof.false)
+    (ap (λ v. lacks_proof v c.args.query.now) (sym c.version.ensures) ∙ sym c.lacks_proof.ensures
+    ∙ c.if-lacks_proof.false)
 
 pub returns-else-lacks_proof : goal.returns-else-lacks_proof
 returns-else-lacks_proof g c =
