@@ -53,6 +53,7 @@ use Rattle.mr_check.specs.private.Counting.{no_counts, other_radius}
 use Rattle.mr_check.specs.private.Machine.{is_handed_out, IsOpen, AtEnd}
 use Rattle.mr_check.specs.private.Reads.{want_of, StandsAt, StandsBy, FedBy, FaultFed, found_at, EndsAt}
 use Rattle.mr_check.proofs.Stopping.{ends_at, checked_stop, fault_settled}
+use Rattle.mr_check.proofs.WholeCounts.{whole_exact}
 use Rattle.mr_check.proofs.Turning.{stays, stands_in}
 
 abbrev failed : {A : Type 0} → Fault → Result A Fault
@@ -173,7 +174,7 @@ fresh q s x one = record {
     stage = stage.Head (field.Magic q.two_only);
     frames = s;
     leaf = record { node = x; left = 0 };
-    tally = no_counts;
+    tally = record { radius = no_counts; whole = 0 };
     latest = one;
   };
   held = [];
@@ -202,6 +203,7 @@ fresh_stands hash holds q s x one none = record {
       frames = ap reverse none;
       nothing = none_out q;
       tally = λ radius. record { found = refl; nearer = refl; within = refl };
+      whole = refl;
     };
   };
 }
@@ -352,9 +354,10 @@ end_last hash holds root q r node bytes (Ok o) is short law ends at =
       said = said h z.part;
       hands = record { is_read = there; all = z.at_end.kept };
       outline = record {
-        head = ap (λ (x : Outline). x.head) ends.3;
-        rect = ap (λ (x : Outline). x.rect) ends.3
-            ∙ z.at_end.rect;
+        head = ap (λ (x : Outline). x.head) ends.4;
+        rect = ap (λ (x : Outline). x.rect) ends.4 ∙ z.at_end.rect;
+        whole = ap (λ (x : Outline). x.whole) ends.4 ∙ z.at_end.whole
+            ∙ whole_exact h (q.way h.radius) z.part ends.3 counted;
       };
     }
 end_last hash holds root q r node bytes (Err f) is short law (inl wrong) at =

@@ -3,9 +3,10 @@ pub mod Stopping
 pub mod Noting
 pub mod Counted
 pub mod Opening
+pub mod WholeCounts
 pub mod Nodes
 pub mod Stepping
-pub mod Whole
+pub mod WholeRecords
 pub mod Turning
 pub mod CountingLaws
 pub mod Pieces

@@ -18,10 +18,13 @@ use Rattle.mr_proof.proofs.Preimages.{entry-rect, entry-mask, entry-count}
 use Rattle.mr_check.specs.declared.frame.Frame.{Frame}
 use Rattle.mr_check.specs.declared.frame.Stack.{Stack}
 use Rattle.mr_check.specs.declared.stage.Stage.TheVariants as stage
-use Rattle.mr_check.specs.declared.radius_counts.RadiusCounts.{RadiusCounts}
+use Rattle.mr_check.specs.declared.counts.Counts.{Counts}
 use Rattle.mr_check.specs.declared.machine.Machine.{Machine}
+use Rattle.mr_check.specs.Whole.{whole_of}
 use Rattle.mr_check.specs.private.Stops.{past_notes}
+use Rattle.mr_check.specs.private.Counting.{capped}
 use Rattle.mr_check.specs.private.Machine.{Open, after, node_next, ways_at, is_handed_out, scheme, AreFrames, HasReadCut, WaitsPast, ClosesNode}
+use Rattle.mr_check.proofs.WholeCounts.{whole_on, whole_closed}
 use Rattle.mr_check.proofs.Opening.{Adds, IsClosing, grown, one_on, stays_open, closed, said_closed, seen_by, records_closed, records_on, item_waits, after_more, after_last, past_met, past_missed}
 
 -- the root node
@@ -38,8 +41,10 @@ closed_root hash holds q m s node given [] P r =
     ∙ entry-mask (scheme hash m.head) node.level P in
     let tallied : node.count ≡ count m.head.version P = sym (ap (λ (y : Entry). y.count) r.says)
     ∙ entry-count (scheme hash m.head) node.level P in
-    let same : node.digest ≡ digest (scheme hash m.head) m.head.level P = sym (ap (λ (y : Entry). y.digest) r.says)
-    ∙ ap (λ (k : ℕ). digest (scheme hash m.head) k P) at in
+    let same : node.digest ≡ digest (scheme hash m.head) m.head.level P =
+    sym (ap (λ (y : Entry). y.digest) r.says) ∙ ap (λ (k : ℕ). digest (scheme hash m.head) k P) at in
+    let alone : 0 + whole_of m.head.version (ways_at q m.head) P ≡ whole_of m.head.version (ways_at q m.head) P =
+    omega arith in
     record {
       next = done (said m.head (Some P));
       past = refl;
@@ -54,6 +59,7 @@ closed_root hash holds q m s node given [] P r =
           counted = ap (λ (n : ℕ). not (n == told m.head.version m.head.count)) tallied;
           kept = r.kept;
           tally = r.tally;
+          whole = r.whole ∙ ap capped alone;
         };
       };
     }
@@ -74,7 +80,8 @@ closed_child hash holds q m s f n fs node given (o ∷ os) P adds some there r =
     let more = grown (scheme hash m.head) holds f n o P node r.frames.0 r.says adds in
     let on : 0 < o.left = omega (arith, r.frames.0.left) in
     let next = after way m.head v (one_on o P ∷ os) in
-    let reads_on : after way m.head v (o ∷ os) P ≡ reads (want.Tag v) (λ t. node_next m.head.version way v next (tag_in t)) =
+    let reads_on : after way m.head v (o ∷ os) P
+    ≡ reads (want.Tag v) (λ t. node_next m.head.version way v next (tag_in t)) =
     after_more way m.head v o os P on ∙ item_waits m.head.version way v next in
     record {
       next = reads (want.Tag v) (λ t. node_next m.head.version way v next (tag_in t));
@@ -92,6 +99,7 @@ closed_child hash holds q m s f n fs node given (o ∷ os) P adds some there r =
                 (stays_open (scheme hash m.head) holds f n o P v more r.frames.0.left some, r.frames.1);
             kept = r.kept ∙ ap (filter (is_handed_out q m.head)) (records_on os o P);
             tally = r.tally;
+            whole = r.whole ∙ ap capped (whole_on m.head.version way os o P);
           },
         );
       };
@@ -99,7 +107,7 @@ closed_child hash holds q m s f n fs node given (o ∷ os) P adds some there r =
 
 -- the last child of a node that the region misses
 pub missed_parent : {H : Type 0} (hash : List ℕ → List ℕ) (holds : H → List ℕ → Type 0) (q : Question) (h : Head)
-    (t : RadiusCounts) (f : Frame H) (n : NodeHasher H) (fs : List (Frame H)) (node x : Entry) (given : List Record)
+    (t : Counts) (f : Frame H) (n : NodeHasher H) (fs : List (Frame H)) (node x : Entry) (given : List Record)
     (os : List Open) (P : Cut) → Adds h.version holds f.node n node → f.left ≡ 0
     → IsClosing (scheme hash h) holds n (node.level + 1) x
     → opens_seen (ways_at q h) (option_map (key_at h.version x.mask) x.rect) ≡ false
@@ -125,8 +133,9 @@ closes_as hash holds q m given g k (Some d) e w = e ∙ w
 
 -- the last child of a node that the region meets, which is then whole itself
 pub closed_parent : {H : Type 0} (hash : List ℕ → List ℕ) (holds : H → List ℕ → Type 0) (q : Question) (h : Head)
-    (t : RadiusCounts) (m : Machine H) (f : Frame H) (n : NodeHasher H) (fs : List (Frame H)) (node x : Entry)
-    (given : List Record) (result : Option Rule) (os : List Open) (P : Cut) → Adds h.version holds f.node n node → f.left ≡ 0
+    (t : Counts) (m : Machine H) (f : Frame H) (n : NodeHasher H) (fs : List (Frame H)) (node x : Entry)
+    (given : List Record) (result : Option Rule) (os : List Open) (P : Cut) → Adds h.version holds f.node n node
+    → f.left ≡ 0
     → IsClosing (scheme hash h) holds n (node.level + 1) x
     → opens_seen (ways_at q h) (option_map (key_at h.version x.mask) x.rect) ≡ true
     → ((os : List Open) (P : Cut) → HasReadCut hash holds q h fs t x given os P
@@ -152,4 +161,5 @@ closed_parent hash holds q h t m f n fs node x given result (o ∷ os) P adds no
       frames = subst (λ (k : ℕ). AreFrames (scheme hash h) holds k fs os) (sym c.level) r.frames.1;
       kept = r.kept ∙ ap (filter (is_handed_out q h)) (records_closed os o P);
       tally = r.tally;
+      whole = r.whole ∙ ap capped (whole_closed h.version way os o P);
     }))

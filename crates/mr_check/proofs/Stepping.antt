@@ -34,13 +34,15 @@ use Rattle.mr_check.specs.declared.frame.Stack.{Stack}
 use Rattle.mr_check.specs.declared.stage.HeadField.{HeadField}
 use Rattle.mr_check.specs.declared.stage.Stage.{Stage}
 use Rattle.mr_check.specs.declared.stage.Stage.TheVariants as stage
+use Rattle.mr_check.specs.declared.counts.Counts.{Counts}
 use Rattle.mr_check.specs.declared.radius_counts.RadiusCounts.{RadiusCounts}
 use Rattle.mr_check.specs.declared.machine.Machine.{Machine}
 use Rattle.mr_check.specs.declared.machine.StepResult.TheVariants as stepped
 use Rattle.mr_check.specs.private.Stops.{past_notes, noted}
-use Rattle.mr_check.specs.private.Counting.{CountsRecords}
+use Rattle.mr_check.specs.Whole.{whole_of}
+use Rattle.mr_check.specs.private.Counting.{capped, CountsRecords}
 use Rattle.mr_check.specs.private.Heads.{head_left}
-use Rattle.mr_check.specs.private.Machine.{Open, Above, after, after_record, node_next, shown_next, behind_tally, stage_of, stage_behind, opened_item, behind_number, behind_rect, behind_sides, behind_layer, behind_length, head_next, ways_at, is_handed_out, frames_of, AreFrames, IsLeaf, so_far, scheme, InTree, InHead, HasReadCut, LeafRead, WaitsForField, WaitsPast, StepsPastField, ClosesNode, stepped_by, found_by, plus}
+use Rattle.mr_check.specs.private.Machine.{Open, Above, after, after_record, node_next, shown_next, behind_tally, stage_of, stage_behind, opened_item, behind_number, behind_rect, behind_sides, behind_layer, behind_length, head_next, ways_at, is_handed_out, frames_of, AreFrames, IsLeaf, so_far, whole_so_far, scheme, InTree, InHead, HasReadCut, LeafRead, WaitsForField, WaitsPast, StepsPastField, ClosesNode, stepped_by, found_by, plus}
 use Rattle.mr_check.proofs.Opening.{IsClosing, item_waits, seen_by, after_quiet, past_met, past_missed}
 
 -- ---- a step from what it waits for
@@ -87,8 +89,8 @@ behind_head hash holds q m given h kind is = elim (cases_Bool (eqb h.count 0)) [
           rect = refl;
           counted = rw none (nothing_told h.version);
           kept = is.nothing;
-          tally = rw is.nothing
-              (is.tally h.radius);
+          tally = rw is.nothing (is.tally h.radius);
+          whole = is.whole;
         };
       }) in
       rw (here, there) steps
@@ -111,6 +113,7 @@ behind_head hash holds q m given h kind is = elim (cases_Bool (eqb h.count 0)) [
             frames = subst (λ (fs : List (Frame _)). AreFrames (scheme hash h) holds h.level fs []) (sym is.frames) tt;
             kept = is.nothing;
             tally = rw is.nothing (is.tally h.radius);
+            whole = is.whole;
           },
         );
       }) in
@@ -129,7 +132,13 @@ behind_left hash holds q m given h (Some f) kind is =
       above = record { nodes = []; records = [] };
       whole = None;
       waits = refl;
-      is_open = record { kind = kind ∙ is.kind; frames = is.frames; nothing = is.nothing; tally = is.tally };
+      is_open = record {
+        kind = kind ∙ is.kind;
+        frames = is.frames;
+        nothing = is.nothing;
+        tally = is.tally;
+        whole = is.whole;
+      };
     })
 
 pub headed : {H : Type 0} (hash : List ℕ → List ℕ) (holds : H → List ℕ → Type 0) (q : Question) (m : Machine H)
@@ -241,11 +250,14 @@ digest_on hash holds q m v r n c given a none is =
     waits_on hash holds q (record m { stage = stage.Digest v r n c }) given g g refl refl
     (digest_waits hash holds q m v r n c given a none is)
 
+-- a pruned part was read whole, and counted if it is asked for whole
 pub pruned_read : {H : Type 0} (hash : List ℕ → List ℕ) (holds : H → List ℕ → Type 0) (q : Question) (h : Head)
-    (fs : List (Frame H)) (t : RadiusCounts) (v : ℕ) (part : PrunedEntry) (x : Entry) (given : List Record) (a : Above)
-    → x ≡ entry_shown v part → a.records ≡ [] → InTree hash holds q h fs t v given a
-    → HasReadCut hash holds q h fs t x given a.nodes (Pruned part)
-pruned_read hash holds q h fs t v part x given a says none is =
+    (fs : List (Frame H)) (t : Counts) (w v : ℕ) (part : PrunedEntry) (x : Entry) (given : List Record) (a : Above)
+    → x ≡ entry_shown v part
+    → w ≡ capped (whole_so_far h.version (ways_at q h) a.nodes + whole_of h.version (ways_at q h) (Pruned part))
+    → a.records ≡ [] → InTree hash holds q h fs t v given a
+    → HasReadCut hash holds q h fs (record t { whole = w }) x given a.nodes (Pruned part)
+pruned_read hash holds q h fs t w v part x given a says counts none is =
     let low : x.level ≡ v = ap (λ (y : Entry). y.level) says in
     record {
       says = ap (λ (k : ℕ). entry_shown k part) low ∙ sym says;
@@ -253,6 +265,7 @@ pruned_read hash holds q h fs t v part x given a says none is =
       frames = subst (λ (k : ℕ). AreFrames (scheme hash h) holds k fs a.nodes) (sym low) is.frames;
       kept = is.kept ∙ ap (λ (rs : List Record). filter (is_handed_out q h) (so_far a.nodes ++ rs)) none;
       tally = is.tally;
+      whole = counts;
     }
 
 -- what a node of this level that was read whole leads to, where it is said of by its own level
@@ -282,6 +295,8 @@ inner_opened hash holds q m s x w n given a some gathers there none is =
     let reads_on : some_items (item u way w) n X ≡ g = ap (λ (k : ℕ). some_items (item u way w) k X) count
     ∙ item_waits u way w next in
     let total : n ≡ 0 + ((n - 1) + 1) = omega arith in
+    let before = whole_so_far u way a.nodes in
+    let none_more : before ≡ before + 0 = omega arith in
     waits_on hash holds q (record m { frames = s; stage = stage.Tag w }) given (some_items (item u way w) n X) g
     (ap noted reads_on) (ap past_notes reads_on) (record {
       above = record { nodes = o ∷ a.nodes; records = [] };
@@ -305,6 +320,7 @@ inner_opened hash holds q m s x w n given a some gathers there none is =
               (ap (λ (rs : List Record). so_far a.nodes ++ rs) none
               ∙ sym (append-nil (so_far a.nodes ++ [])));
           tally = is.tally;
+          whole = is.whole ∙ ap capped none_more;
         },
       );
     })
@@ -352,6 +368,7 @@ leaf_opened hash holds q m x n given a some gathers none is =
           frames = is.frames;
           kept = is.kept ∙ ap (λ (rs : List Record). filter (is_handed_out q m.head) (so_far a.nodes ++ rs)) none;
           tally = is.tally;
+          whole = is.whole;
         },
       );
     })
@@ -395,8 +412,9 @@ AddsRecord u holds m n r =
     → Gathered holds n head (pieces ++ of_record u r ∷ [])
 
 -- what is gathered of a leaf with one record more
-added : {H : Type 0} (u : Version) (holds : H → List ℕ → Type 0) (m n : NodeHasher H) (r : Record) (rs : List Record) (k j : ℕ)
-    → k ≡ j → AddsRecord u holds m n r → Gathered holds m (leaf_tag ∷ k ∷ []) (map (of_record u) rs)
+added : {H : Type 0} (u : Version) (holds : H → List ℕ → Type 0) (m n : NodeHasher H) (r : Record)
+    (rs : List Record) (k j : ℕ) → k ≡ j → AddsRecord u holds m n r
+    → Gathered holds m (leaf_tag ∷ k ∷ []) (map (of_record u) rs)
     → Gathered holds n (leaf_tag ∷ j ∷ []) (map (of_record u) (rs ++ r ∷ []))
 added u holds m n r rs k j e adds is =
     subst (λ (x : ℕ × List Piece). Gathered holds n (leaf_tag ∷ x.0 ∷ []) x.1)
@@ -405,12 +423,13 @@ added u holds m n r rs k j e adds is =
 
 pub record_on : {H : Type 0} (hash : List ℕ → List ℕ) (holds : H → List ℕ → Type 0) (q : Question) (m : Machine H)
     (n : NodeHasher H) (t : RadiusCounts) (handed_on : Bool) (given : List Record) (a : Above)
-    → AddsRecord m.head.version holds m.leaf.node n m.latest → 0 < m.leaf.left → handed_on ≡ is_handed_out q m.head m.latest
+    → AddsRecord m.head.version holds m.leaf.node n m.latest → 0 < m.leaf.left
+    → handed_on ≡ is_handed_out q m.head m.latest
     → CountsRecords q.around m.head.radius (plus handed_on given m.latest) t
     → IsLeaf m.head.version holds m.leaf a.records → InTree hash holds q m.head (frames_of m) m.tally 0 given a
     → StepsPastField hash holds q (record m {
       leaf = record { node = n; left = m.leaf.left - 1 };
-      tally = t;
+      tally = record m.tally { radius = t };
       stage = stage.Number;
     })
     given (after_record (ways_at q m.head) m.head m.leaf.left a.nodes a.records m.latest) (found_by None handed_on)
@@ -427,7 +446,11 @@ record_on hash holds q m n t handed_on given a adds some is_met counts leaf is =
     ∙ record_waits way m.head (left - 1) a.nodes a.records r in
     let total : length a.records + (left + 1) ≡ length all + ((left - 1) + 1) = omega
     (arith, length-append a.records (r ∷ [])) in
-    let after_it = record m { leaf = record { node = n; left = left - 1 }; tally = t; stage = stage.Number } in
+    let after_it = record m {
+      leaf = record { node = n; left = left - 1 };
+      tally = record m.tally { radius = t };
+      stage = stage.Number;
+    } in
     let w : WaitsPast hash holds q after_it (plus handed_on given r) (some_records u way left X) = record {
       next = k;
       past = ap past_notes reads_on;
@@ -444,6 +467,7 @@ record_on hash holds q m n t handed_on given a adds some is_met counts leaf is =
             kept = kept_more q m.head handed_on given (so_far a.nodes ++ a.records) r is_met is.kept
                 ∙ ap (filter (is_handed_out q m.head)) (append_assoc (so_far a.nodes) a.records (r ∷ []));
             tally = counts;
+            whole = is.whole;
           },
         );
       };
@@ -454,31 +478,36 @@ record_on hash holds q m n t handed_on given a adds some is_met counts leaf is =
 
 -- the last record of a leaf
 pub leaf_read : {H : Type 0} (hash : List ℕ → List ℕ) (holds : H → List ℕ → Type 0) (q : Question) (h : Head)
-    (fs : List (Frame H)) (old new : RadiusCounts) (f : Frame H) (n : NodeHasher H) (handed_on : Bool) (r : Record)
-    (given : List Record) (a : Above) → AddsRecord h.version holds f.node n r → f.left ≡ 0 → handed_on ≡ is_handed_out q h r
+    (fs : List (Frame H)) (old : Counts) (new : RadiusCounts) (f : Frame H) (n : NodeHasher H) (handed_on : Bool)
+    (r : Record) (given : List Record) (a : Above) → AddsRecord h.version holds f.node n r → f.left ≡ 0
+    → handed_on ≡ is_handed_out q h r
     → CountsRecords q.around h.radius (plus handed_on given r) new
     → IsLeaf h.version holds f a.records → InTree hash holds q h fs old 0 given a
-    → LeafRead hash holds q h fs new (record { node = n; left = f.left }) (plus handed_on given r) a r
+    → LeafRead hash holds q h fs (record old { radius = new }) (record { node = n; left = f.left })
+    (plus handed_on given r) a r
 leaf_read hash holds q h fs old new f n handed_on r given a adds none is_met counts leaf is =
     let total : length a.records + (f.left + 1) ≡ length (a.records ++ r ∷ []) = omega
     (arith, length-append a.records (r ∷ [])) in
     record {
-      gathers = added h.version holds f.node n r a.records (length a.records + (f.left + 1)) (length (a.records ++ r ∷ [])) total
-          adds leaf;
+      gathers = added h.version holds f.node n r a.records (length a.records + (f.left + 1))
+          (length (a.records ++ r ∷ [])) total adds leaf;
       depth = omega (arith, is.depth);
       frames = is.frames;
       kept = kept_more q h handed_on given (so_far a.nodes ++ a.records) r is_met is.kept
           ∙ ap (filter (is_handed_out q h)) (append_assoc (so_far a.nodes) a.records (r ∷ []));
       tally = counts;
+      whole = is.whole;
     }
 
 pub leaf_said : {H : Type 0} (hash : List ℕ → List ℕ) (holds : H → List ℕ → Type 0) (q : Question) (h : Head)
-    (fs : List (Frame H)) (t : RadiusCounts) (f : Frame H) (x : Entry) (given : List Record) (a : Above) (r : Record)
+    (fs : List (Frame H)) (t : Counts) (f : Frame H) (x : Entry) (given : List Record) (a : Above) (r : Record)
     → IsClosing (scheme hash h) holds f.node 0 x
     → LeafRead hash holds q h fs t f given a r
     → HasReadCut hash holds q h fs t x given a.nodes (Leaf (a.records ++ r ∷ []))
 leaf_said hash holds q h fs t f x given a r c is =
     let all = a.records ++ r ∷ [] in
+    let before = whole_so_far h.version (ways_at q h) a.nodes in
+    let none_more : before ≡ before + 0 = omega arith in
     record {
       says = sym (leaf_gathered (scheme hash h) (holds f.node.hasher) all x c.level (record {
         fed = is.gathers.fed;
@@ -490,10 +519,11 @@ leaf_said hash holds q h fs t f x given a r c is =
       frames = subst (λ (k : ℕ). AreFrames (scheme hash h) holds k fs a.nodes) (sym c.level) is.frames;
       kept = is.kept;
       tally = is.tally;
+      whole = is.whole ∙ ap capped none_more;
     }
 
 leaf_rect : {H : Type 0} (hash : List ℕ → List ℕ) (holds : H → List ℕ → Type 0) (q : Question) (h : Head)
-    (fs : List (Frame H)) (t : RadiusCounts) (f : Frame H) (x : Entry) (given : List Record) (a : Above) (r : Record)
+    (fs : List (Frame H)) (t : Counts) (f : Frame H) (x : Entry) (given : List Record) (a : Above) (r : Record)
     (b : Bool)
     → IsClosing (scheme hash h) holds f.node 0 x
     → opens_seen (ways_at q h) (option_map (key_at h.version x.mask) x.rect) ≡ b
@@ -504,7 +534,7 @@ leaf_rect hash holds q h fs t f x given a r b c handed_on is =
     (leaf_said hash holds q h fs t f x given a r c is).says ∙ handed_on
 
 pub leaf_missed : {H : Type 0} (hash : List ℕ → List ℕ) (holds : H → List ℕ → Type 0) (q : Question) (h : Head)
-    (fs : List (Frame H)) (t : RadiusCounts) (f : Frame H) (x : Entry) (given : List Record) (a : Above) (r : Record)
+    (fs : List (Frame H)) (t : Counts) (f : Frame H) (x : Entry) (given : List Record) (a : Above) (r : Record)
     → IsClosing (scheme hash h) holds f.node 0 x
     → opens_seen (ways_at q h) (option_map (key_at h.version x.mask) x.rect) ≡ false
     → LeafRead hash holds q h fs t f given a r
@@ -528,7 +558,7 @@ leaf_found hash holds q m given handed_on r g k None same quiet e w =
 leaf_found hash holds q m given handed_on r g k (Some d) same quiet e w = e ∙ w
 
 pub leaf_closed : {H : Type 0} (hash : List ℕ → List ℕ) (holds : H → List ℕ → Type 0) (q : Question) (h : Head)
-    (fs : List (Frame H)) (t : RadiusCounts) (m : Machine H) (f : Frame H) (x : Entry) (handed_on : Bool)
+    (fs : List (Frame H)) (t : Counts) (m : Machine H) (f : Frame H) (x : Entry) (handed_on : Bool)
     (given : List Record)
     (a : Above) (r : Record) (broken : Option Rule) → m.latest ≡ r → IsClosing (scheme hash h) holds f.node 0 x
     → opens_seen (ways_at q h) (option_map (key_at h.version x.mask) x.rect) ≡ true → handed_on ≡ is_handed_out q h r
@@ -563,7 +593,8 @@ sides_on hash holds q m n given a leaf is =
 
 -- behind the rectangle, where the version that is told stands in the head
 pub layer_on : {H : Type 0} (hash : List ℕ → List ℕ) (holds : H → List ℕ → Type 0) (q : Question) (m : Machine H)
-    (u : Version) (n : ℕ) (r : Rectangle) (given : List Record) (a : Above) → IsLeaf m.head.version holds m.leaf a.records
+    (u : Version) (n : ℕ) (r : Rectangle) (given : List Record) (a : Above)
+    → IsLeaf m.head.version holds m.leaf a.records
     → InTree hash holds q m.head (frames_of m) m.tally 0 given a
     → StepsPastField hash holds q (record m { stage = behind_rect u n r }) given
     (behind_sides u (after_record (ways_at q m.head) m.head m.leaf.left a.nodes a.records) n r) stepped.On

@@ -30,7 +30,7 @@ use Rattle.mr_check.specs.private.Stops.{Stop, waits, fails, stop, longer, curso
 use Rattle.mr_check.specs.private.Stages.{want_at, size_in, room_in}
 use Rattle.mr_check.specs.private.Machine.{Above, IsOpen, WaitsForField, WaitsPast, after_record, behind_number, next_at, left_at, ways_at}
 use Rattle.mr_check.specs.private.Reads.{want_of, last_field, IsWhole, StandsAt, WaitsBehind, Behind, MakesProgress, TakesSome, TakesJust}
-use Rattle.mr_check.proofs.Whole.{record_on, quiet_on}
+use Rattle.mr_check.proofs.WholeRecords.{record_on, quiet_on}
 use Rattle.mr_check.proofs.Stopping.{stop_more, handed_on, handed_more}
 use Rattle.mr_check.proofs.Noting.{read_stop, read_handed, broken_stop, broken_handed, short_stop, short_handed, long_stop, long_fixed, short_fixed, end_stop, trailing_stop, past_stop, unless, past_handed}
 

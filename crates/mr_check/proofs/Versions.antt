@@ -13,7 +13,7 @@ use Rattle.mr_proof.specs.Fields.{magic, kind_byte}
 use Rattle.mr_proof.specs.Reading.{checked, ending, verdict}
 use Rattle.mr_proof.specs.Spelling.{head_bytes, level_bytes, part_bytes, radius_bytes, IsSpelled, Parsed}
 use Rattle.mr_proof.specs.declared.head.Head.{Head}
-use Rattle.mr_proof.specs.Tight.{kind_of, kind_of_shape, needs_two, question}
+use Rattle.mr_proof.specs.Tight.{kind_of_shape, needs_two, question}
 use Rattle.mr_proof.proofs.Soundness.{spelled_whole, take_end, take_whole}
 use Rattle.mr_check.specs.Judged.{AnswersCollected}
 use Rattle.mr_check.specs.Versions.{AnswersBeside, proof_version}

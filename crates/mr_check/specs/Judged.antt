@@ -1,6 +1,5 @@
 -- What a verifier and a judge stand for. They do not keep the bytes that they were fed, so
--- contracts go
--- by a relation between them and a byte string, which is known by what they say of it.
+-- contracts go by a relation between them and a byte string, which is known by what they say of it.
 use Rattle.std.specs.Prelude.{◌≡◌, ℕ, List, ◌++◌, filter, vec_capacity, ⊤, Result, Ok, Err}
 use Rattle.mr_record.specs.private.Bytes.{AreBytes}
 use Rattle.mr_record.specs.declared.record.Record.{Record}
@@ -22,6 +21,7 @@ use Rattle.mr_check.specs.declared.collector.Collector.{Collector}
 use Rattle.mr_check.specs.declared.piece_check.PieceCheck.{PieceCheck}
 use Rattle.mr_check.specs.declared.judge.Judge.{Judge}
 use Rattle.mr_check.specs.Answers.{rect_round}
+use Rattle.mr_check.specs.Whole.{whole_in}
 use Rattle.mr_check.specs.private.Reads.{StandsBy}
 
 -- ---- whatever is asked
@@ -37,10 +37,11 @@ pub record WasFed {H : Type 0} {G : Ghosts H} (hash : List ℕ → List ℕ)
   pub room : vec_capacity w.reader.machine.frames.list ≡ 7
   pub stands : StandsBy hash holds q w.reader w.reader.fault bytes
 
--- it is the outline of this head and cut
-pub record IsOutline (x : Parsed) (o : Outline) : Type 0 where
+-- it is the outline of this head and cut, as a proof of what is asked shows them
+pub record IsOutline (q : Question) (x : Parsed) (o : Outline) : Type 0 where
   pub head : o.head ≡ x.head
   pub rect : o.rect ≡ rect_round x.part
+  pub whole : o.whole ≡ whole_in x.head.version (q.way x.head.radius) x.part
 
 -- the bytes are accepted, with this outline, and the records handed out are all that are not left
 -- out
@@ -48,7 +49,7 @@ pub record EndsAccepted (hash : List ℕ → List ℕ) (root : List ℕ) (q : Qu
     (o : Outline) : Type 0 where
   pub said : Parsed
   pub hands : HandsOut hash root q bytes said
-  pub outline : IsOutline said o
+  pub outline : IsOutline q said o
 
 -- what is answered at the end of the bytes
 abbrev pub EndsAs : (List ℕ → List ℕ) → List ℕ → Question → List ℕ → Result Outline Fault → Type 0
@@ -58,8 +59,7 @@ EndsAs hash root q bytes (Err f) = checked hash root q bytes ≡ Err f
 -- ---- a proof that is taken piece by piece, with the records that are handed out
 
 -- the proof is taken so far: its verifier stands for these bytes, and the records that were kept
--- are
--- those that they hand out
+-- are those that they hand out
 pub record Took {H : Type 0} {G : Ghosts H} (hash : List ℕ → List ℕ) (holds : H → List ℕ → Type 0)
     (root : List ℕ) (q : Question) (w : Verifier H G) (kept : List Record) (bytes : List ℕ) : Type 0
   where
@@ -79,7 +79,7 @@ HasCollected hash holds root q h bytes = Took hash holds root q h.verifier h.kep
 
 -- the head and cut of accepted bytes: their outline, and the records that are not left out
 pub record IsCollected (x : Parsed) (q : Question) (o : Collected) : Type 0 where
-  pub outline : IsOutline x o.outline
+  pub outline : IsOutline q x o.outline
   pub records : o.records.items
       ≡ filter (keeps_record (q.way x.head.radius)) (opened_records x.part)
 

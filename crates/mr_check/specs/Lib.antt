@@ -1,4 +1,5 @@
 pub mod Answers
 pub mod Versions
+pub mod Whole
 pub mod private
 pub mod Judged

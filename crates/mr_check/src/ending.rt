@@ -1,6 +1,6 @@
 //! The verdict of the bytes that were read.
 
-ghost use Rattle.std.specs.Prelude.{◌≡◌, ℕ, List, None};
+ghost use Rattle.std.specs.Prelude.{◌≡◌, ◌^◌, ◌<◌, ℕ, List, None};
 ghost use Rattle.mr_query.specs.Word.{IsQuery};
 ghost use Rattle.mr_query.specs.declared.query.Query as queries;
 ghost use Rattle.mr_record.specs.private.Bytes.{AreBytes};
@@ -30,7 +30,7 @@ fn found_at<H: Hashes>(head: &Head, node: &Entry) -> [u8; 32]
 fn is_other_radius<H: Hashes, A: AsQuestion>(q: &A, r: &Reader<H>) -> bool
     ensures { OtherRadius (A.question q.now) r.now result }
 {
-    other_radius(&r.machine.tally, q.around(), r.machine.head.radius)
+    other_radius(&r.machine.tally.radius, q.around(), r.machine.head.radius)
 }
 
 // Whether the root node has another number of records than the head, as the version tells it.
@@ -39,6 +39,11 @@ fn is_other_count(head: &Head, node: &Entry) -> bool
 {
     node.count != as_told(head.version, head.count)
 }
+
+// What the type tells of its values.
+fn is_word(_number: u64)
+    ensures { _number < 2 ^ 64 }
+{}
 
 // The verdict behind the last field.
 fn at_last<H: Hashes, A: AsQuestion>(
@@ -60,9 +65,11 @@ fn at_last<H: Hashes, A: AsQuestion>(
     if is_other_count(head, node) {
         return Err(fault_at(Rule::WrongTally, r.at));
     }
+    is_word(head.count);
     Ok(Outline {
         head: *head,
         rect: node.rect,
+        whole: r.machine.tally.whole,
     })
 }
 

@@ -12,6 +12,7 @@ ghost use Rattle.mr_check.specs.private.Stages.{FitsStage};
 ghost use Rattle.mr_check.specs.private.Machine.{frames_of, counted_so_far, Above, InTree, WaitsForField, StepsPastField, StepFits, after, node_next, ways_at, shown_next, behind_mask, stage_of, stepped_by};
 
 use crate::closing::close;
+use crate::counts::add_pruned;
 use crate::frame::{Frame, push};
 use crate::machine::{Machine, StepResult};
 use crate::stage::Stage;
@@ -166,6 +167,7 @@ pub(crate) fn pruned<H: Hashes, A: AsQuestion>(
         (ways_at (A.question q.now) m.old.head) m.old.head level
         a.nodes (Pruned part.now)) result }
 {
+    add_pruned(q, &m.head, &mut m.tally.whole, part);
     let node = part.entry(level);
     stepped(close(q, m, &node))
 }

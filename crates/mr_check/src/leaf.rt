@@ -95,13 +95,14 @@ pub(crate) fn record<H: Hashes, A: AsQuestion>(q: &A, m: &mut Machine<H>) -> Ste
     requires few { counted_so_far m.old + 1 < 2 ^ 64 }
     ensures few { counted_so_far m.new ≤ counted_so_far m.old + 1 }
     ensures fits { StepFits m.new.head.kind m.new.stage (vec_len m.new.frames.list) result }
-    ensures steps { (given : List types.Record) (a : Above) → IsLeaf m.old.head.version H.holds m.old.leaf a.records
+    ensures steps { (given : List types.Record) (a : Above)
+        → IsLeaf m.old.head.version H.holds m.old.leaf a.records
         → InTree H.of H.holds (A.question q.now) m.old.head (frames_of m.old) m.old.tally 0 given a
         → StepsPastField H.of H.holds (A.question q.now) m.new given (after_record
         (ways_at (A.question q.now) m.old.head) m.old.head
         m.old.leaf.left a.nodes a.records m.old.latest) result }
 {
-    let handed_on = counted(q, &m.head, &mut m.tally, &m.latest);
+    let handed_on = counted(q, &m.head, &mut m.tally.radius, &m.latest);
     m.leaf.node.add_record(m.head.version, &m.latest);
     if m.leaf.left == 0 {
         return last(q, m, handed_on);
@@ -126,7 +127,8 @@ pub(crate) fn sized<H: Hashes, A: AsQuestion>(
     requires few { counted_so_far m.old + 1 < 2 ^ 64 }
     ensures few { counted_so_far m.new ≤ counted_so_far m.old + 1 }
     ensures fits { StepFits m.new.head.kind m.new.stage (vec_len m.new.frames.list) result }
-    ensures steps { (given : List types.Record) (a : Above) → IsLeaf m.old.head.version H.holds m.old.leaf a.records
+    ensures steps { (given : List types.Record) (a : Above)
+        → IsLeaf m.old.head.version H.holds m.old.leaf a.records
         → InTree H.of H.holds (A.question q.now) m.old.head (frames_of m.old) m.old.tally 0 given a
         → StepsPastField H.of H.holds (A.question q.now) m.new given (behind_length (after_record
         (ways_at (A.question q.now) m.old.head) m.old.head m.old.leaf.left a.nodes a.records)

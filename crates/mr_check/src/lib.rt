@@ -6,6 +6,7 @@ mod arranging;
 mod client;
 mod closing;
 mod collector;
+mod counts;
 mod ending;
 mod error;
 mod fed;

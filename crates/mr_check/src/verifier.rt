@@ -9,6 +9,7 @@ ghost use Rattle.mr_proof.specs.Feeding.{HandsOpened};
 ghost use Rattle.mr_check.specs.Answers.{TakesFrom, taken_of, FeedsPiece};
 ghost use Rattle.mr_check.specs.private.Reads.{FitsReader, StandsAt, StandsBy};
 
+use crate::counts::Counts;
 use crate::ending::verdict_of;
 use crate::fed::Fed;
 use crate::feeding::read_piece;
@@ -26,8 +27,9 @@ use std::alloc::{AllocError, Global};
 
 /// Reads a proof against one root digest, as its bytes come in pieces of any size. What the proof
 /// has to show is given with each call, the same each time: of a call with another nothing is said.
-/// It keeps a hasher, a rectangle, a mask and a count for each open node, of which there are at most eight, three
-/// counts, the record that was read last, and at most the 200 bytes of the field that is under way.
+/// It keeps a hasher, a rectangle, a mask and a count for each open node, of which there are at
+/// most eight, four numbers that count what was read, the record that was read last, and at most
+/// the 200 bytes of the field that is under way.
 ///
 /// It does not keep the bytes. Contracts go by a relation: a verifier stands for the bytes that it
 /// was fed, and what they say of the bytes so far holds for each string that it stands for.
@@ -61,7 +63,10 @@ fn fresh<H: Hashes, A: AsQuestion>(alloc: Global, q: &A) -> Result<Reader<H>, Al
                 node: NodeHasher::<H>::leaf(0),
                 left: 0,
             },
-            tally: no_counts(),
+            tally: Counts {
+                radius: no_counts(),
+                whole: 0,
+            },
             latest: Record::blank(),
         },
         held: Buffer::new(),

@@ -1,4 +1,5 @@
--- Counts of records by how near they are. This serves private functions.
+-- Counts of records: of all that are handed out and of those that are near, and of those of pruned
+-- parts. This serves private functions.
 use Rattle.std.specs.Prelude.{◌≡◌, ℕ, ◌-◌, ◌^◌, min, Bool, false, nat_lt, nat_le, List, length, Option, Some, None}
 use Rattle.std.specs.List.{count_by}
 use Rattle.mr_record.specs.declared.record.Record.{Record}
@@ -20,13 +21,17 @@ is_in (Some x) (Some n) r = nat_le (distance x.center r) n
 abbrev pub no_counts : RadiusCounts
 no_counts = record { found = 0; nearer = 0; within = 0 }
 
+-- the number, which stands still at the end of its type
+abbrev pub capped : ℕ → ℕ
+capped n = min n (2 ^ 64 - 1)
+
 -- the counts of these records
 pub record CountsRecords (x : Option Around) (radius : Option ℕ) (rs : List Record)
     (t : RadiusCounts) :
     Type 0 where
-  pub found : t.found ≡ min (length rs) (2 ^ 64 - 1)
-  pub nearer : t.nearer ≡ min (count_by (is_near x radius) rs) (2 ^ 64 - 1)
-  pub within : t.within ≡ min (count_by (is_in x radius) rs) (2 ^ 64 - 1)
+  pub found : t.found ≡ capped (length rs)
+  pub nearer : t.nearer ≡ capped (count_by (is_near x radius) rs)
+  pub within : t.within ≡ capped (count_by (is_in x radius) rs)
 
 -- Whether the squared radius is another than that of these records, if heads have one. All of them
 -- are on the layers that it is of, as those that are handed out are.

@@ -20,7 +20,7 @@ use Rattle.mr_proof.specs.declared.want.Want.{Want}
 use Rattle.mr_proof.specs.declared.want.Want.TheVariants as want
 use Rattle.mr_proof.specs.declared.field.Field.{Field}
 use Rattle.mr_proof.specs.Fields.{pruned_tag}
-use Rattle.mr_proof.specs.Cut.{Cut, Cuts, Pruned, Leaf, Inner, first, entry, records}
+use Rattle.mr_proof.specs.Cut.{Cut, Cuts, Pruned, Leaf, Inner, first, cuts_of, entry, records}
 use Rattle.mr_proof.specs.Spelling.{Parsed, said, opened_records}
 use Rattle.mr_query.specs.declared.key.Key.{Key}
 use Rattle.mr_proof.specs.Tight.{Question, key_at, keeps_record}
@@ -32,15 +32,16 @@ use Rattle.mr_check.specs.declared.stage.HeadField.{HeadField}
 use Rattle.mr_check.specs.declared.stage.HeadField.TheVariants as field
 use Rattle.mr_check.specs.declared.stage.Stage.{Stage}
 use Rattle.mr_check.specs.declared.stage.Stage.TheVariants as stage
-use Rattle.mr_check.specs.declared.radius_counts.RadiusCounts.{RadiusCounts}
+use Rattle.mr_check.specs.declared.counts.Counts.{Counts}
 use Rattle.mr_check.specs.declared.machine.Machine.{Machine}
 use Rattle.mr_check.specs.declared.machine.StepResult.{StepResult}
 use Rattle.mr_check.specs.declared.machine.StepResult.TheVariants as stepped
 use Rattle.mr_check.specs.private.Stops.{past_notes, noted}
 use Rattle.mr_check.specs.private.Stages.{want_at, FitsStage}
-use Rattle.mr_check.specs.private.Counting.{CountsRecords}
+use Rattle.mr_check.specs.private.Counting.{capped, CountsRecords}
 use Rattle.mr_check.specs.private.OpenNodes.{Gathered}
 use Rattle.mr_check.specs.Answers.{rect_round}
+use Rattle.mr_check.specs.Whole.{whole_of, wholes_of, whole_in}
 
 -- ---- what follows a node and a record
 
@@ -261,11 +262,17 @@ abbrev pub so_far : List Open → List Record
 so_far [] = []
 so_far (o ∷ os) = so_far os ++ flat_map records o.front
 
+-- the counts of the pruned parts among the children that were read, where they are asked for
+-- whole, added up
+abbrev pub whole_so_far : Version → (Key → Way) → List Open → ℕ
+whole_so_far v way [] = 0
+whole_so_far v way (o ∷ os) = whole_so_far v way os + wholes_of v way (cuts_of o.front)
+
 -- the records of the leaf before this one, and this one, which is the last, were read; with it
 -- these were handed out
 pub record LeafRead {H : Type 0} (hash : List ℕ → List ℕ) (holds : H → List ℕ → Type 0)
     (q : Question)
-    (h : Head) (fs : List (Frame H)) (t : RadiusCounts) (leaf : Frame H) (given : List Record)
+    (h : Head) (fs : List (Frame H)) (t : Counts) (leaf : Frame H) (given : List Record)
     (a : Above)
     (r : Record) : Type 0 where
   pub gathers : Gathered holds leaf.node (leaf_tag ∷ length (a.records ++ r ∷ []) ∷ [])
@@ -273,25 +280,28 @@ pub record LeafRead {H : Type 0} (hash : List ℕ → List ℕ) (holds : H → L
   pub depth : length a.nodes ≡ h.level
   pub frames : AreFrames (scheme hash h) holds 0 fs a.nodes
   pub kept : given ≡ filter (is_handed_out q h) (so_far a.nodes ++ (a.records ++ r ∷ []))
-  pub tally : CountsRecords q.around h.radius given t
+  pub tally : CountsRecords q.around h.radius given t.radius
+  pub whole : t.whole ≡ capped (whole_so_far h.version (ways_at q h) a.nodes)
 
 -- below the open nodes a node of this level is under way; of all records so far these were handed
 -- out
 pub record InTree {H : Type 0} (hash : List ℕ → List ℕ) (holds : H → List ℕ → Type 0) (q : Question)
-    (h : Head) (fs : List (Frame H)) (t : RadiusCounts) (v : ℕ) (given : List Record)
+    (h : Head) (fs : List (Frame H)) (t : Counts) (v : ℕ) (given : List Record)
     (a : Above) : Type 0 where
   pub depth : v + length a.nodes ≡ h.level
   pub frames : AreFrames (scheme hash h) holds v fs a.nodes
   pub kept : given ≡ filter (is_handed_out q h) (so_far a.nodes ++ a.records)
-  pub tally : CountsRecords q.around h.radius given t
+  pub tally : CountsRecords q.around h.radius given t.radius
+  pub whole : t.whole ≡ capped (whole_so_far h.version (ways_at q h) a.nodes)
 
 -- in the head
-pub record InHead {H : Type 0} (q : Question) (h : Head) (fs : List (Frame H)) (t : RadiusCounts)
+pub record InHead {H : Type 0} (q : Question) (h : Head) (fs : List (Frame H)) (t : Counts)
     (given : List Record) : Type 0 where
   pub kind : h.kind ≡ q.kind
   pub frames : fs ≡ []
   pub nothing : given ≡ []
-  pub tally : (radius : Option ℕ) → CountsRecords q.around radius [] t
+  pub tally : (radius : Option ℕ) → CountsRecords q.around radius [] t.radius
+  pub whole : t.whole ≡ 0
 
 -- whether another number of records is said of the root node than of the map, as the version tells
 -- it
@@ -299,14 +309,15 @@ abbrev pub is_other_tally : Head → Entry → Bool
 is_other_tally h node = not (node.count == told h.version h.count)
 
 -- behind the last field
-pub record AtEnd (hash : List ℕ → List ℕ) (q : Question) (h : Head) (t : RadiusCounts)
+pub record AtEnd (hash : List ℕ → List ℕ) (q : Question) (h : Head) (t : Counts)
     (node : Entry)
-    (given : List Record) (whole : Option Cut) : Type 0 where
-  pub root : root_preimage h.version h.batch h.count node ≡ proof_preimage hash h whole
-  pub rect : node.rect ≡ rect_round whole
-  pub counted : is_other_tally h node ≡ is_other_count h whole
-  pub kept : given ≡ filter (is_handed_out q h) (opened_records whole)
-  pub tally : CountsRecords q.around h.radius given t
+    (given : List Record) (part : Option Cut) : Type 0 where
+  pub root : root_preimage h.version h.batch h.count node ≡ proof_preimage hash h part
+  pub rect : node.rect ≡ rect_round part
+  pub counted : is_other_tally h node ≡ is_other_count h part
+  pub kept : given ≡ filter (is_handed_out q h) (opened_records part)
+  pub tally : CountsRecords q.around h.radius given t.radius
+  pub whole : t.whole ≡ capped (whole_in h.version (ways_at q h) part)
 
 abbrev pub IsOpen : {H : Type 0} → (List ℕ → List ℕ) → (H → List ℕ → Type 0) → Question → Machine H
     → Stage → List Record → Above → Option Cut → Type 0
@@ -327,7 +338,8 @@ IsOpen hash holds q m stage.Records given a whole =
     (a.records ≡ []) × InTree hash holds q m.head (frames_of m) m.tally 0 given a
 IsOpen hash holds q m (stage.End node) given a whole = AtEnd hash q m.head m.tally node given whole
 IsOpen hash holds q m _ given a whole =
-    IsLeaf m.head.version holds m.leaf a.records × InTree hash holds q m.head (frames_of m) m.tally 0 given a
+    IsLeaf m.head.version holds m.leaf a.records
+    × InTree hash holds q m.head (frames_of m) m.tally 0 given a
 
 -- ---- the machine
 
@@ -335,13 +347,15 @@ IsOpen hash holds q m _ given a whole =
 -- of what was read before
 pub record HasReadCut {H : Type 0} (hash : List ℕ → List ℕ) (holds : H → List ℕ → Type 0)
     (q : Question)
-    (h : Head) (fs : List (Frame H)) (t : RadiusCounts) (node : Entry) (given : List Record)
+    (h : Head) (fs : List (Frame H)) (t : Counts) (node : Entry) (given : List Record)
     (os : List Open) (P : Cut) : Type 0 where
   pub says : entry (scheme hash h) node.level P ≡ node
   pub depth : node.level + length os ≡ h.level
   pub frames : AreFrames (scheme hash h) holds node.level fs os
   pub kept : given ≡ filter (is_handed_out q h) (so_far os ++ records P)
-  pub tally : CountsRecords q.around h.radius given t
+  pub tally : CountsRecords q.around h.radius given t.radius
+  pub whole : t.whole
+      ≡ capped (whole_so_far h.version (ways_at q h) os + whole_of h.version (ways_at q h) P)
 
 -- The machine waits for this, and these records were handed out.
 pub record WaitsForField {H : Type 0} (hash : List ℕ → List ℕ) (holds : H → List ℕ → Type 0)

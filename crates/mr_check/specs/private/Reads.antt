@@ -1,6 +1,6 @@
 -- What a reader of bytes stands for. This serves private functions and proofs: the relation that it
 -- defines is known by what contracts say of it.
-use Rattle.std.specs.Prelude.{◌≡◌, ◌≢◌, ◌⊎◌, Bool, true, false, ◌==◌, if◌then◌else◌, Result, Ok, Err, ℕ, ◌-◌, ◌+◌, ◌*◌, ◌<◌, ◌≤◌, ⊤, List, [], ◌∷◌, ◌++◌, length, take, drop, vec_len, Option, Some, None}
+use Rattle.std.specs.Prelude.{◌≡◌, ◌≢◌, ◌⊎◌, Bool, true, false, ◌==◌, if◌then◌else◌, Result, Ok, Err, ℕ, ◌-◌, ◌+◌, ◌*◌, ◌^◌, ◌<◌, ◌≤◌, ⊤, List, [], ◌∷◌, ◌++◌, length, take, drop, vec_len, Option, Some, None}
 use Rattle.mr_record.specs.Record.{IsRecord, HasLayer, record_bytes}
 use Rattle.mr_record.specs.declared.record.Record.{Record}
 use Rattle.mr_record.specs.declared.version.Version.{Version}
@@ -165,16 +165,18 @@ found_at hash h node = hash (root_preimage h.version h.batch h.count node)
 -- whether the radius is another than that of these records is this
 abbrev pub OtherRadius : {H : Type 0} → Question → Reader H → Bool → Type 0
 OtherRadius q r is =
-    (rs : List Record) → CountsRecords q.around r.machine.head.radius rs r.machine.tally
+    (rs : List Record) → CountsRecords q.around r.machine.head.radius rs r.machine.tally.radius
     → other_radius q.around r.machine.head.radius rs ≡ is
 
--- what is answered behind the last field, where this is said of the root node
+-- What is answered behind the last field, where this is said of the root node. Where that is no
+-- fault, the head counts no more than its type has, so that what was added up did not stand still.
 abbrev pub EndsAt : {H : Type 0} → (List ℕ → List ℕ) → List ℕ → Question → Reader H → Entry
     → Result Outline Fault → Type 0
 EndsAt hash root q r node (Ok o) =
     (found_at hash r.machine.head node ≡ root) × OtherRadius q r false
-    × (is_other_tally r.machine.head node ≡ false)
-    × (o ≡ record { head = r.machine.head; rect = node.rect })
+    × (is_other_tally r.machine.head node ≡ false) × (r.machine.head.count < 2 ^ 64)
+    × (o ≡ record
+    { head = r.machine.head; rect = node.rect; whole = r.machine.tally.whole })
 EndsAt hash root q r node (Err f) =
     ((f ≡ fault (rule.WrongRoot (found_at hash r.machine.head node)) r.at)
     × (found_at hash r.machine.head node ≢ root))

@@ -7,5 +7,5 @@ pub returns : goal.returns
 returns g c = λ rs counts.
     subst (λ (z : Option Around). other_radius z c.args.r.now.machine.head.radius rs ≡ c.other_radius.result)
     c.around.ensures (sym (c.other_radius.ensures rs
-    (subst (λ (z : Option Around). CountsRecords z c.args.r.now.machine.head.radius rs c.args.r.now.machine.tally)
-    (sym c.around.ensures) counts)))
+    (subst (λ (z : Option Around). CountsRecords z c.args.r.now.machine.head.radius rs
+    c.args.r.now.machine.tally.radius) (sym c.around.ensures) counts)))

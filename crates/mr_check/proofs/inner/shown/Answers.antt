@@ -22,7 +22,8 @@ returns-in-One-clause-steps g c = λ given a none is.
     subst (λ (u : Version). StepsPastField g.H.Hashes.of g.H.Hashes.holds q m given (shown_next u way next r)
     c.unopened.result) (sym c.in-One.is)
     (subst (λ (n : ℕ). StepsPastField g.H.Hashes.of g.H.Hashes.holds q m given
-    (unopened way (record { rect = r; mask = n }) (behind_tally next r 0 0)) c.unopened.result) c.mask_seen.ensures steps)
+    (unopened way (record { rect = r; mask = n }) (behind_tally next r 0 0)) c.unopened.result) c.mask_seen.ensures
+    steps)
 
 pub returns-in-Two-clause-steps : goal.returns-in-Two-clause-steps
 returns-in-Two-clause-steps g c = λ given a none is.

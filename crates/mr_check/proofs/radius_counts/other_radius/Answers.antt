@@ -10,7 +10,8 @@ returns-then-k-tally c = λ rs counts.
     let both = subst (λ (z : Option ℕ). CountsRecords (Some c.in-Some.around) z rs c.args.tally.now)
     c.in-Some-radius.is of in
     rw (c.in-Some.is, c.in-Some-radius.is, c.number_of-k.ensures.value)
-    (enough_nearer c.in-Some.around.center c.in-Some.around.k c.in-Some.around.layers c.in-Some-radius.field-0 rs c.args.tally.now
+    (enough_nearer c.in-Some.around.center c.in-Some.around.k c.in-Some.around.layers c.in-Some-radius.field-0 rs
+    c.args.tally.now
     (omega (arith, c.number_of-k.ensures.value, c.number_of-k.ensures.bound)) both
     (omega (arith, c.if-k-tally.true, c.number_of-k.ensures.value)))
 
@@ -20,6 +21,7 @@ returns-else-k-tally c = λ rs counts.
     let both = subst (λ (z : Option ℕ). CountsRecords (Some c.in-Some.around) z rs c.args.tally.now)
     c.in-Some-radius.is of in
     rw (c.in-Some.is, c.in-Some-radius.is, c.number_of-k.ensures.value)
-    (few_nearer c.in-Some.around.center c.in-Some.around.k c.in-Some.around.layers c.in-Some-radius.field-0 rs c.args.tally.now
+    (few_nearer c.in-Some.around.center c.in-Some.around.k c.in-Some.around.layers c.in-Some-radius.field-0 rs
+    c.args.tally.now
     (omega (arith, c.number_of-k.ensures.value, c.number_of-k.ensures.bound)) both
     (omega (arith, c.if-k-tally.false, c.number_of-k.ensures.value)))

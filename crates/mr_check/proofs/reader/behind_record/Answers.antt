@@ -2,13 +2,18 @@ use Rattle.std.proofs.Common.{length, drop, ap, sym, arith}
 use Rattle.std.proofs.lemmas.List.{length-append}
 use Rattle.mr_record.specs.Record.{record_bytes}
 use Rattle.mr_check.specs.private.Machine.{after_record, ways_at}
-use Rattle.mr_check.proofs.Whole.{record_long}
+use Rattle.mr_check.proofs.WholeRecords.{record_long}
 use Rattle.mr_check.proofs.Turning.{turn_record, takes_some}
 use Rattle.mr_check.proofs.reader.behind_record.Goals as goal
 
 pub last_field-last-requires : goal.last_field-last-requires
 last_field-last-requires g c =
-    omega (arith, record_long c.args.r.now.machine.head.version c.args.one.now, c.requires.whole.sized, c.requires.whole.place)
+    omega (
+      arith,
+      record_long c.args.r.now.machine.head.version c.args.one.now,
+      c.requires.whole.sized,
+      c.requires.whole.place,
+    )
 
 pub returns-clause-takes : goal.returns-clause-takes
 returns-clause-takes g c =

@@ -30,7 +30,7 @@ returns g c = λ root q bytes is.
     (sym is.asked) is.took)) in
     let fits = IsBytes-from bytes is.took.stands.fed in (
       answered g.H.Hashes.of root q bytes c.in_ok-collected.collected c.in_ok-answer_of.field-0.items is.is fits got
-          (subst (λ (z : Query). c.in_ok-answer_of.field-0.items ≡ scan c.in_ok-collected.collected.records.items z) is.asked
-          c.in_ok-answer_of.ensures),
+          (subst (λ (z : Query). c.in_ok-answer_of.field-0.items
+          ≡ scan c.in_ok-collected.collected.records.items z) is.asked c.in_ok-answer_of.ensures),
       beside g.H.Hashes.of root q bytes c.in_ok-collected.collected fits got,
     )
