@@ -1,7 +1,5 @@
 -- What the calls of a draft come to.
 use Rattle.std.proofs.Common.{◌≡◌, ℕ, ◌+◌, ◌≤◌, List, [], ◌∷◌, ◌++◌, length, inl, inr, sym, ap, subst, ◌∙◌, append-nil, arith}
-use Rattle.std.specs.Result.{IsErrAnd}
-use Rattle.std.proofs.lemmas.Result.{err_from_is_err_and}
 use Rattle.std.specs.Prelude.{⊤, Option, Some, None, option_map, IfSome, IfErr, OnOk, Result, Ok, Err}
 use Rattle.mr_record.specs.declared.version.Version.{Version}
 use Rattle.mr_outside.specs.Files.{Files, with_file}
@@ -29,9 +27,9 @@ use Rattle.mr_store.specs.Kept.{CacheEntries}
 use Rattle.mr_store.specs.Stored.{IsRootOf, IsStored}
 use Rattle.mr_edit.specs.Causes.{HasEditCause}
 use Rattle.mr_edit.specs.Changing.{CanReplay}
-use Rattle.mr_draft.specs.Draft.{DraftState, DraftOf, IsTop, IsOff, CopyFails, CanApply, AppliesBatch, KeepsDraft}
-use Rattle.mr_edit.specs.Outcome.{NeverMap, IsLow}
-use Rattle.mr_edit.specs.Replayed.{ReplaysBatch}
+use Rattle.mr_draft.specs.Draft.{DraftState, DraftOf, IsTop, IsOff, CopyFails, CanApply, AppliesBatch, StopsAtChange, KeepsDraft}
+use Rattle.mr_edit.specs.Outcome.{NeverMap, IsLow, IsOfRoot, root_page}
+use Rattle.mr_edit.specs.Replayed.{OnPages, ReplaysBatch, StopsReplay, first_changes}
 use Rattle.mr_edit.specs.Shelves.{HasShelfCause}
 use Rattle.mr_draft.specs.Sheets.{zeros, page_map_on, HasUnsealedPages, ArePages, CopyStops}
 use Rattle.mr_edit.specs.PageMap.{PageMap}
@@ -120,6 +118,23 @@ blames_none P before after errors.Missing p cause never = cause
 blames_none P before after errors.Fault p cause never = cause
 blames_none P before after errors.NoMemory p cause never = tt
 
+-- what the changes of a batch know of the draft
+pub on_pages : (hash : List ℕ → List ℕ) (d : DraftState) (dir : Directed) (b : Changes) (t : Tree) →
+    CanApply hash d dir b t →
+    OnPages (by d.layout.version hash) (page_map_on (form_of d.layout) d.shelf.files d.name d.pages) d.free d.root dir t
+    d.pages d.pages (nodes t)
+on_pages hash d dir b t can =
+    let size = page_map_size d.layout d.shelf.files d.name d.pages can.draft.drafted.page_map can.draft.drafted.is in
+    record {
+      reaches = record {
+        draft = can.draft.drafted;
+        no_fewer = omega (arith, size);
+        no_more = omega (arith, size);
+      };
+      well = can.draft.well;
+      directory = can.directory;
+    }
+
 module _ (hash : List ℕ → List ℕ) (d : DraftState) (dir : Directed) (b : Changes) where
   abbrev scheme : Scheme
   scheme = by d.layout.version hash
@@ -140,16 +155,7 @@ module _ (hash : List ℕ → List ℕ) (d : DraftState) (dir : Directed) (b : C
       e.root
       dir' b → e.count ≡ length dir' → AppliesBatch hash d dir b e dir'
   applied e dir' same replays counted t can =
-      let size = page_map_size d.layout d.shelf.files d.name d.pages can.draft.drafted.page_map can.draft.drafted.is in
-      let n = replays t d.batch d.pages d.pages (nodes t) (record {
-        reaches = record {
-          draft = can.draft.drafted;
-          no_fewer = omega (arith, size);
-          no_more = omega (arith, size);
-        };
-        well = can.draft.well;
-        directory = can.directory;
-      }) can.admissible in
+      let n = replays t d.batch d.pages d.pages (nodes t) (on_pages hash d dir b t can) can.admissible in
       let after = page_map_size e.layout e.shelf.files e.name e.pages n.reaches.draft.page_map n.reaches.draft.is in
       record {
         draft = record {
@@ -169,16 +175,30 @@ module _ (hash : List ℕ → List ℕ) (d : DraftState) (dir : Directed) (b : C
   pub applied_within : (r r' : ℕ) → ReplaysWithin scheme told d.free d.root dir b r r' → (t : Tree) →
       CanApply hash d dir b t → r' ≤ r + reads_along t b.list
   applied_within r r' within t can =
-      let size = page_map_size d.layout d.shelf.files d.name d.pages can.draft.drafted.page_map can.draft.drafted.is in
-      within t d.batch d.pages d.pages (nodes t) (record {
-        reaches = record {
-          draft = can.draft.drafted;
-          no_fewer = omega (arith, size);
-          no_more = omega (arith, size);
-        };
-        well = can.draft.well;
-        directory = can.directory;
-      }) can.admissible
+      within t d.batch d.pages d.pages (nodes t) (on_pages hash d dir b t can) can.admissible
+
+-- a change is refused
+pub stops_at : (hash : List ℕ → List ℕ) (d : DraftState) (dir : Directed) (b : Changes) (e : DraftState)
+    (dir' : Directed) (err : EditErr) →
+    StopsReplay (by d.layout.version hash) (page_map_on (form_of d.layout) d.shelf.files d.name d.pages) d.free d.root
+    dir b e.root dir' err → HasEditCause d.shelf.faults e.shelf.faults err → IsOfRoot (root_page e.root) err →
+    e.count ≡ d.count → e.batch ≡ d.batch → StopsAtChange hash d dir b e dir' err
+stops_at hash d dir b e dir' err s cause page count batch = record {
+  made = s.made;
+  fewer = s.fewer;
+  told_then = s.told_then;
+  free_then = s.free_then;
+  stands = λ t can. s.replays t d.batch d.pages d.pages (nodes t) (on_pages hash d dir (first_changes s.made b) t can)
+      can.admissible;
+  unmoved = s.unmoved;
+  count = count;
+  batch = batch;
+  blames_none_told = λ t can. blames_none
+      (CanReplay (by d.layout.version hash) (page_map_on (form_of d.layout) d.shelf.files d.name d.pages) d.free d.root
+      dir (first_changes (s.made + 1) b)) d.shelf.faults e.shelf.faults err
+      (can_replay hash d dir (first_changes (s.made + 1) b) t can) cause s.blames_none_told;
+  page = page;
+}
 
 some_node : (P : Placed) → 1 ≤ nodes (tree_of P)
 some_node (stands.Leaf p rs) = omega (arith, fold-Leaf ℕ nodes_step rs)
@@ -211,9 +231,3 @@ off_none Q (Err errors.NoMemory) count top off fits = absurd off
 pub on_any : {A E P : Type 0} (r : Result A E) → P → OnOk r P
 on_any (Ok a) p = p
 on_any (Err e) p = tt
-
--- a refusal that is handed on
-pub stopped : {A : Type 0} (r : Result A EditErr) (e : EditErr) (Q : EditErr → Type 0) → IsErrAnd r (λ y. y ≡ e) →
-    Q e → IfErr r Q
-stopped r e Q is held =
-    let p = err_from_is_err_and r is in subst (λ x. IfErr x Q) (sym p.1) (subst Q (sym p.2) held)

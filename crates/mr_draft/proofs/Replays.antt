@@ -1,6 +1,6 @@
 -- What a change through a reference comes to is said of the file behind it.
 use Rattle.std.proofs.Common.{◌≡◌, ℕ, List, subst, sym}
-use Rattle.std.specs.Prelude.{IfOk, Option, Result}
+use Rattle.std.specs.Prelude.{IfErr, IfOk, Option, Result}
 use Rattle.mr_outside.specs.declared.shelf.Shelf.{Ghosts}
 use Rattle.mr_record.specs.declared.version.Version.{Version}
 use Rattle.mr_tree.specs.Digest.{Scheme, by}
@@ -10,7 +10,8 @@ use Rattle.mr_batch.specs.Directory.{DirectoryEntries}
 use Rattle.mr_store.specs.CachedFile.{state_of}
 use Rattle.mr_store.specs.declared.cached_file.CachedFile.{CachedFile}
 use Rattle.mr_edit.specs.Counted.{ReplaysWithin}
-use Rattle.mr_edit.specs.Replayed.{ReplaysBatch}
+use Rattle.mr_edit.specs.Replayed.{ReplaysBatch, StopsReplay}
+use Rattle.mr_edit.specs.declared.error.EditErr.{EditErr}
 use Rattle.mr_draft.specs.Sheets.{page_map_of}
 
 module _ {S : Type 0} {G : Ghosts S} (s : Scheme) (root : Option Child) (dir : DirectoryEntries) (b : Changes)
@@ -35,6 +36,15 @@ module _ {S : Type 0} {G : Ghosts S} (s : Scheme) (root : Option Child) (dir : D
       (state_of y).reads)
       after x))
 
+module _ {S : Type 0} {G : Ghosts S} (s : Scheme) (root root' : Option Child) (dir dir' : DirectoryEntries)
+    (b : Changes)
+    (e : EditErr) (f g : CachedFile S G) (m n : ℕ) (before : f ≡ g) (free : m ≡ n) where
+  pub stops_on : StopsReplay s (page_map_of f) m root dir b root' dir' e →
+      StopsReplay s (page_map_of g) n root dir b root' dir' e
+  stops_on x =
+      subst (λ (y : CachedFile S G). StopsReplay s (page_map_of y) n root dir b root' dir' e) before
+      (subst (λ k. StopsReplay s (page_map_of f) k root dir b root' dir' e) free x)
+
 -- in the file's version
 module _ {S : Type 0} {G : Ghosts S} (hash : List ℕ → List ℕ) (v w : Version) (same : v ≡ w) (root : Option Child)
     (dir : DirectoryEntries) (b : Changes) (f f' : CachedFile S G) (m : ℕ) where
@@ -50,3 +60,9 @@ module _ {S : Type 0} {G : Ghosts S} (hash : List ℕ → List ℕ) (v w : Versi
   within_in x =
       subst (λ u. ReplaysWithin (by u hash) (page_map_of f) m root dir b (state_of f).reads (state_of f').reads)
       (sym same) x
+
+  pub stops_in : {A : Type 0} (r : Result A EditErr) (root' : Option Child) (dir' : DirectoryEntries) →
+      IfErr r (StopsReplay (by w hash) (page_map_of f) m root dir b root' dir') →
+      IfErr r (StopsReplay (by v hash) (page_map_of f) m root dir b root' dir')
+  stops_in r root' dir' x =
+      subst (λ u. IfErr r (StopsReplay (by u hash) (page_map_of f) m root dir b root' dir')) (sym same) x

@@ -29,6 +29,8 @@ use Rattle.mr_batch.specs.Peak.{peak}
 use Rattle.mr_batch.specs.Replay.{replay}
 use Rattle.mr_edit.specs.Drafted.{Drafted}
 use Rattle.mr_edit.specs.Outcome.{IsLow, IsOfRoot, root_page}
+use Rattle.mr_edit.specs.PageMap.{PageMap}
+use Rattle.mr_edit.specs.Replayed.{OnPages, first_changes}
 use Rattle.mr_draft.specs.Sheets.{page_map_on, zeros}
 use Rattle.mr_edit.specs.Shelves.{HasShelfCause}
 use Rattle.mr_draft.specs.declared.draft.Draft.{Draft}
@@ -165,11 +167,27 @@ abbrev pub AppliesBatch : (List ℕ → List ℕ) → (before : DraftState) → 
 AppliesBatch hash before dir b after dir' =
     (t : Tree) → CanApply hash before dir b t → Applied hash before b t after dir'
 
--- A change was refused, and the draft has the root that the change met, beside the count and the
--- batch from before. Page 0 is said to be none that may stand there only where that root's is 0.
-pub record StopsAtChange (before after : DraftState) (e : EditErr) : Type 0 where
+-- A change was refused. So many were made before it, as a batch of these alone: wherever that may
+-- be applied, root and directory are those of the tree after it. The pages and the first free page
+-- beside them are those that the refused change met, which may have changed them. Count and batch
+-- are those from before. No page is blamed where the refused change could have been made too, and
+-- page 0 is said to be none that may stand there only where the root's page is 0.
+pub record StopsAtChange (hash : List ℕ → List ℕ) (before : DraftState) (dir : DirectoryEntries)
+    (b : Changes) (after : DraftState) (dir' : DirectoryEntries) (e : EditErr) : Type 0 where
+  pub made : ℕ
+  pub fewer : made < length b.list
+  pub told_then : Option PageMap
+  pub free_then : ℕ
+  pub stands : (t : Tree) → CanApply hash before dir (first_changes made b) t →
+      OnPages (by before.layout.version hash) told_then free_then after.root dir'
+      (replay t (first_changes made b ∷ [])) before.pages before.pages
+      (peak t (first_changes made b))
+  -- told or not, both are the very ones of before where the first change is refused
+  pub unmoved : made ≡ 0 → (after.root ≡ before.root) × (dir' ≡ dir)
   pub count : after.count ≡ before.count
   pub batch : after.batch ≡ before.batch
+  pub blames_none_told : (t : Tree) → CanApply hash before dir (first_changes (made + 1) b) t →
+      HasShelfCause before.shelf.faults after.shelf.faults e
   pub page : IsOfRoot (root_page after.root) e
 
 -- All changes were made, and a map may not have so many records and this root.
@@ -178,8 +196,11 @@ pub record StopsAtCount (number : ℕ) (after : DraftState) (e : EditErr) : Type
   pub off : IsOff after.count after.root e
 
 -- one of the two
-abbrev pub StopsBatch : (number : ℕ) → (before after : DraftState) → EditErr → Type 0
-StopsBatch number before after e = StopsAtChange before after e ⊎ StopsAtCount number after e
+abbrev pub StopsBatch : (List ℕ → List ℕ) → (before : DraftState) → (dir : DirectoryEntries) →
+    Changes →
+    (after : DraftState) → (dir' : DirectoryEntries) → EditErr → Type 0
+StopsBatch hash before dir b after dir' e =
+    StopsAtChange hash before dir b after dir' e ⊎ StopsAtCount b.number after e
 
 -- Whatever was answered, the file is laid out as before and not sealed, and each other file is as
 -- before.

@@ -11,7 +11,7 @@ ghost use Rattle.mr_edit.specs.Changing.{CanReplay};
 ghost use Rattle.mr_edit.specs.Counted.{ReplaysWithin};
 ghost use Rattle.mr_edit.specs.Outcome.{IsLow, IsOfRoot, NeverMap, root_page};
 ghost use Rattle.mr_edit.specs.Reads.{reads_along};
-ghost use Rattle.mr_edit.specs.Replayed.{IsOfVersion, ReplaysBatch};
+ghost use Rattle.mr_edit.specs.Replayed.{IsOfVersion, ReplaysBatch, StopsReplay};
 ghost use Rattle.mr_edit.specs.Shelves.{HasShelfCause};
 ghost use Rattle.mr_draft.specs.Draft.{draft_state, draft_of, shelved, IsTop, IsOff, CopiesMap, CopyFails, CanApply, AppliesBatch, StopsBatch, KeepsDraft};
 ghost use Rattle.mr_draft.specs.Sheets.{page_map_of, KeepsSheets};
@@ -158,7 +158,8 @@ fn sheets_of<'a, S: Shelf, H: Hashes, V: StaticVersion>(
 }
 
 // Makes the changes of a batch on the pages of a file in this version, from a first free page and
-// a root, and answers the first free page then. The root follows, as far as the changes come.
+// a root, and answers the first free page then. Root and directory follow, as far as the changes
+// come.
 fn replay_in<'a, S: Shelf, H: Hashes, V: StaticVersion>(
     alloc: Global,
     sheets: &'a mut Sheets<S, H>,
@@ -172,6 +173,8 @@ fn replay_in<'a, S: Shelf, H: Hashes, V: StaticVersion>(
     ensures replays { IfOk result (λ f. ReplaysBatch (by V.version H.of)
         (page_map_of sheets.old.file) free root.old dir.old (page_map_of sheets.new.file) f
         root.new dir.new batch.now) }
+    ensures stops { IfErr result (StopsReplay (by V.version H.of) (page_map_of sheets.old.file)
+        free root.old dir.old batch.now root.new dir.new) }
     ensures page { IfErr result (IsOfRoot (root_page root.new)) }
     ensures kept { KeepsSheets sheets.old.file sheets.new.file }
     ensures within { ReplaysWithin (by V.version H.of) (page_map_of sheets.old.file)
@@ -208,6 +211,8 @@ fn replay_any<S: Shelf, H: Hashes>(
     ensures replays { IfOk result (λ f. ReplaysBatch (scheme_of H.of sheets.old.file)
         (page_map_of sheets.old.file) free root.old dir.old (page_map_of sheets.new.file) f
         root.new dir.new batch.now) }
+    ensures stops { IfErr result (StopsReplay (scheme_of H.of sheets.old.file)
+        (page_map_of sheets.old.file) free root.old dir.old batch.now root.new dir.new) }
     ensures page { IfErr result (IsOfRoot (root_page root.new)) }
     ensures kept { KeepsSheets sheets.old.file sheets.new.file }
     ensures within { ReplaysWithin (scheme_of H.of sheets.old.file) (page_map_of sheets.old.file)
@@ -230,7 +235,9 @@ fn replay_any<S: Shelf, H: Hashes>(
 
 impl<S: Shelf, H: Hashes> Draft<S, H> {
     /// Makes the changes of a batch on the pages. The directory, which is that of the map's
-    /// records, follows them. Each record that comes has a layer of the map's version.
+    /// records, follows them. Each record that comes has a layer of the map's version. Where a
+    /// change is refused, root and directory are those of the map as the changes before it left
+    /// it, if the files are told.
     ///
     /// Where the files are told, the batch is to be one that may be applied to the map. Where they
     /// are not, `Page` blames besides what the changes blame; and the root, or page 0 where there
@@ -243,10 +250,11 @@ impl<S: Shelf, H: Hashes> Draft<S, H> {
         // Whether or not the files are told, a map may have so many records and this root.
         ensures top { OnOk result (IsTop self.new.count self.new.root) }
         ensures low { OnOk result (IsLow self.old.root → IsLow self.new.root) }
-        // Whether a change is refused or the count, and which page is blamed where no page of a
-        // node is: that of the root which the draft then has.
-        ensures page { IfErr result (StopsBatch batch.now.number (draft_of self.old)
-            (draft_of self.new)) }
+        // Whether a change is refused or the count. At a change, root and directory are those that
+        // it met, and `Page` blames page 0 only where the root's page is 0. At the count, it blames
+        // the root's page.
+        ensures stops { IfErr result (StopsBatch H.of (draft_of self.old) dir.old batch.now
+            (draft_of self.new) dir.new) }
         ensures at_most { self.new.sheets.file.pages ≤ page_limit }
         ensures kept { KeepsDraft H.of (draft_of self.old) (draft_of self.new) }
         ensures quiet { OnOk result ((shelved self.new).faults ≡ (shelved self.old).faults) }

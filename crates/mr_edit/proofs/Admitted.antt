@@ -1,5 +1,5 @@
 -- What the changes of a batch need to know holds of each in its turn.
-use Rattle.std.proofs.Common.{◌≡◌, ◌^◌, ◌<◌, true, false, ℕ, length, get_or, Option, Some, None, is_some, sym, ap, subst, ◌∙◌, arith}
+use Rattle.std.proofs.Common.{◌≡◌, ◌^◌, ◌+◌, ◌<◌, ◌≤◌, true, false, ℕ, length, get_or, Option, Some, None, is_some, sym, ap, subst, ◌∙◌, arith}
 use Rattle.std.specs.Prelude.{nat_lt}
 use Rattle.std.proofs.lemmas.Bool.{ltb-true}
 use Rattle.mr_geom.specs.Rectangle.{Rectangle}
@@ -18,11 +18,15 @@ use Rattle.mr_edit.specs.PageMap.{PageMap}
 use Rattle.mr_edit.specs.Causes.{KnowsRoot}
 use Rattle.mr_edit.specs.Growing.{CanInsert}
 use Rattle.mr_edit.specs.Changing.{CanChange, CanReplay}
+use Rattle.mr_edit.specs.Outcome.{NeverMap}
+use Rattle.mr_edit.specs.Replayed.{StopsReplay, first_changes}
+use Rattle.mr_edit.specs.declared.error.EditErr.{EditErr}
 use Rattle.mr_edit.specs.private.Removable.{CanDelete}
 use Rattle.mr_edit.proofs.Deletable.{root_sought}
 use Rattle.mr_edit.proofs.Directed.{directed}
 use Rattle.mr_edit.proofs.Once.{once_apart}
-use Rattle.mr_edit.proofs.Turns.{ReplaysFirst, room_part}
+use Rattle.mr_edit.proofs.Sound.{never}
+use Rattle.mr_edit.proofs.Turns.{ReplaysFirst, ReplaysFronts, room_part, within_front, here_front, front_made}
 
 -- a record that may be added can be put in
 pub add_insert : (scheme : Scheme) (told : Option PageMap) (free : ℕ) (root : Option Child) (dir : DirectoryEntries)
@@ -93,3 +97,24 @@ next_change scheme told told1 free free1 root root1 dir dir1 b i c within here f
       };
       may = next_may t h.tree b.list i c within here h.way;
     }
+
+-- the next change is refused, and the directory stays
+pub replay_stops : (scheme : Scheme) (told told1 : Option PageMap) (free free1 : ℕ) (root root1 : Option Child)
+    (dir dir1 dir2 : DirectoryEntries) (b : Changes) (i : ℕ) (c : Change) (e : EditErr) → i < length b.list →
+    c ≡ get_or b.list i c → dir2 ≡ dir1 → ReplaysFronts scheme told free root dir told1 free1 root1 dir1 b i →
+    (i ≡ 0 → (root1 ≡ root) × (dir1 ≡ dir)) → NeverMap e (CanChange scheme told1 free1 root1 dir1 c) →
+    StopsReplay scheme told free root dir b root1 dir2 e
+replay_stops scheme told told1 free free1 root root1 dir dir1 dir2 b i c e within here same fronts unmoved denies =
+    let next : i < i + 1 = omega arith in
+    let all : i + 1 ≤ length b.list = omega (arith, within) in
+    subst (λ d. StopsReplay scheme told free root dir b root1 d e) (sym same) (record {
+      made = i;
+      fewer = within;
+      told_then = told1;
+      free_then = free1;
+      replays = front_made scheme told told1 free free1 root root1 dir dir1 b i (omega (arith, within)) fronts;
+      unmoved = unmoved;
+      blames_none_told = never e _ _ (next_change scheme told told1 free free1 root root1 dir dir1
+          (first_changes (i + 1) b) i c (within_front b i (i + 1) next all) (here_front b i (i + 1) c next here)
+          (fronts (i + 1) (omega arith) all)) denies;
+    })

@@ -31,8 +31,7 @@ of_no_root (Err errors.Fault) = tt
 of_no_root (Err errors.NoMemory) = tt
 
 -- a refusal that is handed on
-pub handed_page : {T : Type 0} (r : Result T EditErr) (e : EditErr) (root : ℕ) → IsErrAnd r (λ y. y ≡ e) →
-    IsOfRoot root e → IfErr r (IsOfRoot root)
-handed_page r e root is of =
-    let p = err_from_is_err_and r is in
-    subst (λ x. IfErr x (IsOfRoot root)) (sym p.1) (subst (IsOfRoot root) (sym p.2) of)
+pub handed_on : {T : Type 0} (r : Result T EditErr) (e : EditErr) (Q : EditErr → Type 0) → IsErrAnd r (λ y. y ≡ e) →
+    Q e → IfErr r Q
+handed_on r e Q is held =
+    let p = err_from_is_err_and r is in subst (λ x. IfErr x Q) (sym p.1) (subst Q (sym p.2) held)

@@ -1,7 +1,8 @@
 -- Changes one after another.
-use Rattle.std.proofs.Common.{◌≡◌, ℕ, ◌+◌, ◌<◌, ◌≤◌, Bool, true, false, cond, not, eqb, ◌&&◌, List, ◌∷◌, length, get_or, drop, Option, Some, None, is_some, refl, sym, ap, subst, ◌∙◌, arith}
+use Rattle.std.proofs.Common.{◌≡◌, ℕ, ◌+◌, ◌<◌, ◌≤◌, Bool, true, false, cond, not, eqb, ◌&&◌, List, ◌∷◌, length, get_or, take, drop, Option, Some, None, is_some, refl, sym, ap, subst, ◌∙◌, arith}
 use Rattle.std.proofs.lemmas.Bool.{eqb-true, ltb-true}
 use Rattle.std.specs.List.Sorted.{IsPermutation}
+use Rattle.std.proofs.lemmas.List.{length-take-le, get_or-take}
 use Rattle.std.proofs.lemmas.List.Sorted.{length_permutation}
 use Rattle.mr_geom.specs.Rectangle.{Rectangle}
 use Rattle.mr_record.specs.Record.{IsRecord}
@@ -33,7 +34,7 @@ use Rattle.mr_batch.proofs.Walking.{rest_of, drop_all}
 use Rattle.mr_edit.specs.PageMap.{PageMap}
 use Rattle.mr_edit.specs.Drafted.{InsertsRecord}
 use Rattle.mr_edit.specs.Deleted.{DeletesRecord}
-use Rattle.mr_edit.specs.Replayed.{OnPages, ChangesOne, ReplaysBatch}
+use Rattle.mr_edit.specs.Replayed.{OnPages, ChangesOne, ReplaysBatch, first_changes}
 use Rattle.mr_edit.proofs.Directed.{directed}
 use Rattle.mr_edit.proofs.Dropped.{reaches_one}
 use Rattle.mr_edit.proofs.Once.{once_apart}
@@ -192,3 +193,43 @@ replays_all scheme told told1 free free1 root root1 dir dir1 b i past first t he
     sym (ap (peak_along h.most h.tree) (drop_all b.list i past)) ∙ h.peak in
     subst (λ k. OnPages scheme told1 free1 root1 dir1 (replayed t b.list) least size k) most
     (subst (λ u. OnPages scheme told1 free1 root1 dir1 u least size h.most) same h.pages)
+
+-- ---- the first ones alone
+
+-- the first changes were made, of each batch of first changes that has them
+abbrev pub ReplaysFronts : Scheme → (told : Option PageMap) → (free : ℕ) → Option Child → DirectoryEntries →
+    (told' : Option PageMap) → (free' : ℕ) → Option Child → DirectoryEntries → Changes → ℕ → Type 0
+ReplaysFronts scheme told free root dir told' free' root' dir' b i =
+    (n : ℕ) → i ≤ n → n ≤ length b.list →
+    ReplaysFirst scheme told free root dir told' free' root' dir' (first_changes n b) i
+
+pub fronts_none : (scheme : Scheme) (told : Option PageMap) (free : ℕ) (root : Option Child) (dir : DirectoryEntries)
+    (b : Changes) → ReplaysFronts scheme told free root dir told free root dir b 0
+fronts_none scheme told free root dir b n from to = replays_none scheme told free root dir (first_changes n b)
+
+-- the change at a place stands there in a front that has it
+pub within_front : (b : Changes) (i n : ℕ) → i < n → n ≤ length b.list → i < length (take n b.list)
+within_front b i n low to = omega (arith, low, length-take-le n b.list to)
+
+pub here_front : (b : Changes) (i n : ℕ) (c : Change) → i < n → c ≡ get_or b.list i c → c ≡ get_or (take n b.list) i c
+here_front b i n c low here = here ∙ sym (get_or-take n b.list i c low)
+
+pub fronts_more : (scheme : Scheme) (told told1 told2 : Option PageMap) (free free1 free2 : ℕ)
+    (root root1 root2 : Option Child) (dir dir1 dir2 : DirectoryEntries) (b : Changes) (i : ℕ) (c : Change) →
+    c ≡ get_or b.list i c → ReplaysFronts scheme told free root dir told1 free1 root1 dir1 b i →
+    ChangesOne scheme told1 free1 root1 dir1 told2 free2 root2 dir2 c →
+    ReplaysFronts scheme told free root dir told2 free2 root2 dir2 b (i + 1)
+fronts_more scheme told told1 told2 free free1 free2 root root1 root2 dir dir1 dir2 b i c here fronts changes n from to =
+    let low : i < n = omega (arith, from) in
+    replays_more scheme told told1 told2 free free1 free2 root root1 root2 dir dir1 dir2 (first_changes n b) i c
+    (within_front b i n low to) (here_front b i n c low here) (fronts n (omega (arith, low)) to) changes
+
+-- they were made as a batch of their own
+pub front_made : (scheme : Scheme) (told told1 : Option PageMap) (free free1 : ℕ) (root root1 : Option Child)
+    (dir dir1 : DirectoryEntries) (b : Changes) (i : ℕ) → i ≤ length b.list →
+    ReplaysFronts scheme told free root dir told1 free1 root1 dir1 b i →
+    ReplaysBatch scheme told free root dir told1 free1 root1 dir1 (first_changes i b)
+front_made scheme told told1 free free1 root root1 dir dir1 b i to fronts =
+    let size = length-take-le i b.list to in
+    replays_all scheme told told1 free free1 root root1 dir dir1 (first_changes i b) i (omega (arith, size))
+    (fronts i (omega arith) to)

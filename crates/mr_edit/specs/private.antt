@@ -1,2 +1,3 @@
+pub mod Blaming
 pub mod Removal
 pub mod Removable

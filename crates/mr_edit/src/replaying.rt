@@ -1,6 +1,6 @@
 //! The changes of a batch.
 
-ghost use Rattle.std.specs.Prelude.{◌≡◌, ◌+◌, ◌≤◌, All, IfOk, IfErr, IfSome, OnOk};
+ghost use Rattle.std.specs.Prelude.{◌≡◌, ◌+◌, ◌≤◌, All, IfOk, IfErr, IfSome, OnOk, OnErr};
 ghost use Rattle.mr_record.specs.Record.{HasLayer};
 ghost use Rattle.mr_batch.specs.declared.change.Change.TheVariants as changes;
 ghost use Rattle.mr_edit.specs.Causes.{HasEditCause};
@@ -9,7 +9,7 @@ ghost use Rattle.mr_edit.specs.Counted.{ChangesWithin, ReplaysWithin};
 ghost use Rattle.mr_edit.specs.Held.{IsTold};
 ghost use Rattle.mr_edit.specs.Outcome.{NeverMap, IsLow, root_page, IsOfRoot};
 ghost use Rattle.mr_edit.specs.Reads.{insertion_reads};
-ghost use Rattle.mr_edit.specs.Replayed.{IsOfVersion, ChangesOne, ReplaysBatch};
+ghost use Rattle.mr_edit.specs.Replayed.{IsOfVersion, ChangesOne, ReplaysBatch, StopsReplay};
 
 use crate::deleting::delete;
 use crate::learning::learn_once;
@@ -33,6 +33,7 @@ fn add<F: PageFile>(
     ensures changes { IfOk result (λ r. ChangesOne F.scheme (F.told pager.old.file)
         pager.old.free root dir.old (F.told pager.new.file) pager.new.free r dir.new
         (changes.Add one.now)) }
+    ensures unchanged { OnErr result (dir.new ≡ dir.old) }
     ensures kept { F.kept pager.old.file pager.new.file }
     ensures reads { F.reads pager.new.file ≤ F.reads pager.old.file + insertion_reads }
     ensures quiet { OnOk result (F.faults pager.new.file ≡ F.faults pager.old.file) }
@@ -62,6 +63,7 @@ fn remove<F: PageFile>(
     ensures changes { IfOk result (λ r. ChangesOne F.scheme (F.told pager.old.file)
         pager.old.free root dir.old (F.told pager.new.file) pager.new.free r dir.new
         (changes.Remove number)) }
+    ensures unchanged { OnErr result (dir.new ≡ dir.old) }
     ensures kept { F.kept pager.old.file pager.new.file }
     ensures within { ChangesWithin F.scheme (F.told pager.old.file) pager.old.free root
         dir.old (changes.Remove number) learned.old learned.new (F.reads pager.old.file)
@@ -101,6 +103,7 @@ fn add_or_remove<F: PageFile>(
     requires { IsOfVersion F.scheme.version change.now }
     ensures changes { IfOk result (λ r. ChangesOne F.scheme (F.told pager.old.file)
         pager.old.free root dir.old (F.told pager.new.file) pager.new.free r dir.new change.now) }
+    ensures unchanged { OnErr result (dir.new ≡ dir.old) }
     ensures kept { F.kept pager.old.file pager.new.file }
     ensures within { ChangesWithin F.scheme (F.told pager.old.file) pager.old.free root
         dir.old change.now learned.old learned.new (F.reads pager.old.file)
@@ -143,6 +146,7 @@ fn make_change<F: PageFile>(
     ensures changes { IfOk result (λ r. ChangesOne F.scheme (F.told pager.old.file)
         pager.old.free root dir.old (F.told pager.new.file) pager.new.free r dir.new change.now) }
     ensures page { IfErr result (IsOfRoot (root_page root)) }
+    ensures unchanged { OnErr result (dir.new ≡ dir.old) }
     ensures kept { F.kept pager.old.file pager.new.file }
     ensures within { ChangesWithin F.scheme (F.told pager.old.file) pager.old.free root
         dir.old change.now learned.old learned.new (F.reads pager.old.file)
@@ -163,9 +167,10 @@ fn make_change<F: PageFile>(
     }
 }
 
-/// Makes the changes of a batch in their order. The root follows them: where a change is refused,
-/// it is the one that stood before that change. The directory, which is that of the map's records,
-/// follows them too: a record that goes out is searched by the rectangle that it has there.
+/// Makes the changes of a batch in their order. Root and directory follow them. The directory is
+/// that of the map's records: a record that goes out is searched by the rectangle that it has there.
+/// Where a change is refused, both are those of the map as the changes before it left it, if the
+/// pages are told. Told or not, they are as before where it is the first change.
 ///
 /// `Page` blames what insertions and deletions blame; and the root, or page 0 where there is none,
 /// where the directory has no record with a number that is to go out.
@@ -180,6 +185,9 @@ pub fn replay<F: PageFile>(
     ensures replays { OnOk result (ReplaysBatch F.scheme (F.told pager.old.file)
         pager.old.free root.old dir.old (F.told pager.new.file) pager.new.free root.new dir.new
         batch.now) }
+    // Root and directory are those that the refused change met.
+    ensures stops { IfErr result (StopsReplay F.scheme (F.told pager.old.file) pager.old.free
+        root.old dir.old batch.now root.new dir.new) }
     // The page that is blamed is page 0 only where the change that is refused met no root.
     ensures page { IfErr result (IsOfRoot (root_page root.new)) }
     ensures kept { F.kept pager.old.file pager.new.file }

@@ -8,7 +8,7 @@ ghost use Rattle.mr_edit.specs.Outcome.{RaisesRoot, NeverMap, IsAlike, IsLow, ro
 ghost use Rattle.mr_edit.specs.Drafted.{InsertsRecord};
 ghost use Rattle.mr_edit.specs.Reads.{insertion_reads};
 ghost use Rattle.mr_edit.specs.Growing.{CanAdd, CanRaise, CanInsert};
-ghost use Rattle.mr_edit.specs.declared.error.EditErr.TheVariants as errors;
+ghost use Rattle.mr_edit.specs.private.Blaming.{page_on, blaming};
 
 use crate::pager::{take_page, write_inner, write_leaf};
 use crate::putting::put_into;
@@ -67,7 +67,7 @@ fn raise<F: PageFile>(pager: &mut Pager<F>, first: Child, second: Child) -> Resu
 // A fault by `Page` is one of this page, where it is one of page 0: no node stands there.
 fn on_root(fault: MapFault, page: u32) -> MapFault
     ensures rule { result.rule ≡ fault.rule }
-    ensures page { IsOfRoot page (errors.Map result) }
+    ensures page { result.page ≡ page_on page fault.page fault.rule }
 {
     match fault.rule {
         MapRule::Page => MapFault {
@@ -81,6 +81,7 @@ fn on_root(fault: MapFault, page: u32) -> MapFault
 // The same refusal. Where the file would grow past its last page, or a node count more records
 // than a map has, this page of the root is blamed, since what writes a page knows no root.
 pub(crate) fn at_root(error: EditErr, page: u32) -> EditErr
+    ensures exact { result ≡ blaming page error }
     ensures same { IsAlike error result }
     ensures page { IsOfRoot page result }
 {

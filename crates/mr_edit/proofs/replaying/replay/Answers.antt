@@ -1,17 +1,21 @@
 use Rattle.std.proofs.Common.{refl, ◌∙◌, arith}
 use Rattle.mr_edit.specs.Changing.{CanReplay}
-use Rattle.mr_edit.specs.Outcome.{root_page}
-use Rattle.mr_edit.proofs.Admitted.{next_change}
-use Rattle.mr_edit.proofs.Alike.{handed_page}
+use Rattle.mr_edit.specs.Outcome.{IsOfRoot, root_page}
+use Rattle.mr_edit.specs.Replayed.{StopsReplay}
+use Rattle.mr_edit.proofs.Admitted.{next_change, replay_stops}
+use Rattle.mr_edit.proofs.Alike.{handed_on}
 use Rattle.mr_edit.proofs.ChangeReads.{part_all, part_more, part_none, part_stopped}
 use Rattle.mr_edit.proofs.Sound.{never, handed}
-use Rattle.mr_edit.proofs.Turns.{replays_none, replays_more, replays_all}
+use Rattle.mr_edit.proofs.Turns.{replays_none, replays_more, replays_all, fronts_none, fronts_more}
 use Rattle.mr_edit.proofs.replaying.replay.Goals as goal
 
 pub loop-i-init : goal.loop-i-init
 loop-i-init g c = record {
   replays = replays_none g.F.PageFile.scheme (g.F.PageFile.told c.args.pager.now.file) c.args.pager.now.free
       c.args.root.now c.args.dir.now c.args.batch.now;
+  fronts = fronts_none g.F.PageFile.scheme (g.F.PageFile.told c.args.pager.now.file) c.args.pager.now.free
+      c.args.root.now c.args.dir.now c.args.batch.now;
+  unmoved = λ none. (refl, refl);
   part = part_none g.F.PageFile.scheme (g.F.PageFile.told c.args.pager.now.file) c.args.pager.now.free
       c.args.root.now c.args.dir.now c.args.batch.now (g.F.PageFile.reads c.args.pager.now.file);
   low = λ is. is;
@@ -27,6 +31,12 @@ loop-i-preserved g c = record {
       c.loop-i.pager.free c.make_change.new.pager.free c.args.root.now c.loop-i.root c.in_ok-then.then c.args.dir.now
       c.loop-i.dir c.make_change.new.dir c.args.batch.now c.loop-i.i c.change.result.now (omega arith)
       c.change.ensures c.loop-i.invariant.replays c.in_ok-then.ensures.changes;
+  fronts = fronts_more g.F.PageFile.scheme (g.F.PageFile.told c.args.pager.now.file)
+      (g.F.PageFile.told c.loop-i.pager.file) (g.F.PageFile.told c.make_change.new.pager.file) c.args.pager.now.free
+      c.loop-i.pager.free c.make_change.new.pager.free c.args.root.now c.loop-i.root c.in_ok-then.then c.args.dir.now
+      c.loop-i.dir c.make_change.new.dir c.args.batch.now c.loop-i.i c.change.result.now c.change.ensures
+      c.loop-i.invariant.fronts c.in_ok-then.ensures.changes;
+  unmoved = λ none. absurd (omega (arith, none));
   part = part_more g.F.PageFile.scheme (g.F.PageFile.told c.args.pager.now.file)
       (g.F.PageFile.told c.loop-i.pager.file) (g.F.PageFile.told c.make_change.new.pager.file) c.args.pager.now.free
       c.loop-i.pager.free c.make_change.new.pager.free c.args.root.now c.loop-i.root c.in_ok-then.then c.args.dir.now
@@ -54,10 +64,22 @@ returns-in_err-then-clause-blames_none_told g c =
     c.args.root.now c.loop-i.root c.args.dir.now c.loop-i.dir c.args.batch.now c.loop-i.i c.change.result.now
     (omega arith) c.change.ensures c.loop-i.invariant.replays) c.in_err-then.ensures.blames_none_told)
 
+pub returns-in_err-then-clause-stops : goal.returns-in_err-then-clause-stops
+returns-in_err-then-clause-stops g c =
+    let scheme = g.F.PageFile.scheme in
+    let told = g.F.PageFile.told c.args.pager.now.file in
+    handed_on c.from_residual.result c.in_err-then.field-0.0
+    (StopsReplay scheme told c.args.pager.now.free c.args.root.now c.args.dir.now c.args.batch.now c.loop-i.root
+    c.make_change.new.dir) c.from_residual.ensures.1
+    (replay_stops scheme told (g.F.PageFile.told c.loop-i.pager.file) c.args.pager.now.free c.loop-i.pager.free
+    c.args.root.now c.loop-i.root c.args.dir.now c.loop-i.dir c.make_change.new.dir c.args.batch.now c.loop-i.i
+    c.change.result.now c.in_err-then.field-0.0 (omega arith) c.change.ensures c.in_err-then.ensures.unchanged
+    c.loop-i.invariant.fronts c.loop-i.invariant.unmoved c.in_err-then.ensures.blames_none_told)
+
 pub returns-in_err-then-clause-page : goal.returns-in_err-then-clause-page
 returns-in_err-then-clause-page g c =
-    handed_page c.from_residual.result c.in_err-then.field-0.0 (root_page c.loop-i.root) c.from_residual.ensures.1
-    c.in_err-then.ensures.page
+    handed_on c.from_residual.result c.in_err-then.field-0.0 (IsOfRoot (root_page c.loop-i.root))
+    c.from_residual.ensures.1 c.in_err-then.ensures.page
 
 pub returns-clause-replays : goal.returns-clause-replays
 returns-clause-replays g c =

@@ -4,9 +4,10 @@ use Rattle.mr_tree.specs.Digest.{by}
 use Rattle.mr_store.specs.CachedFile.{state_of}
 use Rattle.mr_edit.specs.Changing.{CanReplay}
 use Rattle.mr_edit.specs.Shelves.{HasShelfCause}
+use Rattle.mr_edit.proofs.Alike.{handed_on}
 use Rattle.mr_draft.specs.Draft.{draft_state, draft_of, StopsBatch}
 use Rattle.mr_draft.specs.Sheets.{page_map_of}
-use Rattle.mr_draft.proofs.Ends.{keeps_draft, blames_none, can_replay, applied, applied_within, is_top, off_none, on_any, stopped}
+use Rattle.mr_draft.proofs.Ends.{keeps_draft, blames_none, can_replay, applied, applied_within, is_top, off_none, on_any, stops_at}
 use Rattle.mr_draft.proofs.draft.Draft.apply_batch.Goals as goal
 
 pub returns-in_err-free-clause-kept : goal.returns-in_err-free-clause-kept
@@ -77,15 +78,19 @@ returns-clause-within g c =
 pub returns-clause-low : goal.returns-clause-low
 returns-clause-low g c = on_any c.judge_top.result c.replay_any.ensures.low
 
-pub returns-in_err-free-clause-page : goal.returns-in_err-free-clause-page
-returns-in_err-free-clause-page g c =
+pub returns-in_err-free-clause-stops : goal.returns-in_err-free-clause-stops
+returns-in_err-free-clause-stops g c =
     let s = c.args.self.now in
     let after = draft_state c.replay_any.new.sheets.file s.free c.replay_any.new.root s.count s.batch in
-    stopped c.from_residual.result c.in_err-free.field-0.0 (StopsBatch c.args.batch.now.number (draft_of s) after)
-    c.from_residual.ensures.1 (inl (record { count = refl; batch = refl; page = c.in_err-free.ensures.page }))
+    let is = c.in_err-free.ensures in
+    handed_on c.from_residual.result c.in_err-free.field-0.0
+    (StopsBatch g.H.Hashes.of (draft_of s) c.args.dir.now c.args.batch.now after c.replay_any.new.dir)
+    c.from_residual.ensures.1
+    (inl (stops_at g.H.Hashes.of (draft_of s) c.args.dir.now c.args.batch.now after c.replay_any.new.dir
+    c.in_err-free.field-0.0 is.stops is.cause is.page refl refl))
 
-pub returns-clause-page : goal.returns-clause-page
-returns-clause-page g c =
+pub returns-clause-stops : goal.returns-clause-stops
+returns-clause-stops g c =
     IfErr-weaker c.judge_top.result _ _ (λ e off. inr (record { batch = c.number-self.ensures; off = off }))
     c.judge_top.ensures.off
 
