@@ -7,6 +7,7 @@ pub mod WholeCounts
 pub mod Nodes
 pub mod Stepping
 pub mod WholeRecords
+pub mod WholeParts
 pub mod Turning
 pub mod CountingLaws
 pub mod Pieces

@@ -13,12 +13,13 @@ use Rattle.mr_proof.specs.declared.field.Field.{Field}
 use Rattle.mr_proof.specs.declared.head.Head.{Head}
 use Rattle.mr_proof.specs.Limits.{place_limit}
 use Rattle.mr_proof.specs.Fields.{size_of, field_of}
-use Rattle.mr_proof.specs.Cut.{Cut}
+use Rattle.mr_proof.specs.Cut.{Cut, Pruned}
+use Rattle.mr_proof.specs.declared.pruned_entry.PrunedEntry.{PrunedEntry}
 use Rattle.mr_proof.specs.Spelling.{Parsed, said}
 use Rattle.mr_proof.specs.declared.way.Way.{Way}
 use Rattle.mr_query.specs.declared.key.Key.{Key}
 use Rattle.mr_proof.specs.Tight.{Question}
-use Rattle.mr_proof.specs.Grammar.{Grammar, done, reads, number_in, whole}
+use Rattle.mr_proof.specs.Grammar.{Grammar, done, reads, number_in, tag_in, whole}
 use Rattle.mr_proof.specs.Layout.{fault, Cursor, start}
 use Rattle.mr_check.specs.declared.stage.Stage.{Stage}
 use Rattle.mr_check.specs.declared.stage.Stage.TheVariants as stage
@@ -28,9 +29,10 @@ use Rattle.mr_check.specs.declared.reader.Progress.TheVariants as turns
 use Rattle.mr_proof.specs.Handed.{is_fixed, handed, handed_out}
 use Rattle.mr_check.specs.private.Stops.{Stop, waits, fails, stop, longer, cursor_at, resume, noted, stop_of}
 use Rattle.mr_check.specs.private.Stages.{want_at, size_in, room_in}
-use Rattle.mr_check.specs.private.Machine.{Above, IsOpen, WaitsForField, WaitsPast, after_record, behind_number, next_at, left_at, ways_at}
-use Rattle.mr_check.specs.private.Reads.{want_of, last_field, IsWhole, StandsAt, WaitsBehind, Behind, MakesProgress, TakesSome, TakesJust}
-use Rattle.mr_check.proofs.WholeRecords.{record_on, quiet_on}
+use Rattle.mr_check.specs.private.Machine.{Above, IsOpen, WaitsForField, WaitsPast, after, after_record, node_next, behind_number, next_at, left_at, ways_at}
+use Rattle.mr_check.specs.private.Reads.{want_of, last_field, digest_place, part_size, IsWholePart, IsWhole, StandsAt, WaitsBehind, Behind, MakesProgress, TakesSome, TakesJust}
+use Rattle.mr_check.proofs.WholeRecords.{On, stand, record_on, quiet_on}
+use Rattle.mr_check.proofs.WholeParts.{part_on, quiet_part}
 use Rattle.mr_check.proofs.Stopping.{stop_more, handed_on, handed_more}
 use Rattle.mr_check.proofs.Noting.{read_stop, read_handed, broken_stop, broken_handed, short_stop, short_handed, long_stop, long_fixed, short_fixed, end_stop, trailing_stop, past_stop, unless, past_handed}
 
@@ -295,16 +297,49 @@ turn_whole hash holds q r new w s piece n z v turn wants within some fits size s
     (subst (λ (k : ℕ). Behind hash holds q (handed_out q s) (r.at + k) r.at n new (next v) turn) same
     (behind (handed_out q s) i.above i.part i.is_open))
 
--- ---- a whole record
+-- ---- what a piece has whole
 
--- before one, reading waits at its number
-record_waits : {H : Type 0} (hash : List ℕ → List ℕ) (holds : H → List ℕ → Type 0) (q : Question) (r : Reader H)
-    (s : List ℕ) → r.machine.stage ≡ stage.Number → r.held ≡ [] → StandsAt hash holds q r s
-    → StandsIn hash holds q r s (λ a p. left_at q.way r.machine.head r.machine.leaf.left a p
-    (Some want.Number) r.machine.stage)
-record_waits hash holds q r s is none at =
-    stands_in hash holds q r s (Some want.Number) (ap (λ (z : Stage). want_at r.machine.head.kind z) is) at
+-- the field that is under way in this stage, with nothing of it held
+record WaitsIn {H : Type 0} (hash : List ℕ → List ℕ) (holds : H → List ℕ → Type 0) (q : Question) (r : Reader H)
+    (s : List ℕ) (x : Stage) (w : Want) : Type 0 where
+  pub above : Above
+  pub part : Option Cut
+  pub last : ℕ
+  pub stops : stop_of q s ≡ waits (reads w (next_at q.way r.machine.head r.machine.leaf.left above x))
+      (cursor_at r.at last)
+  pub is_open : IsOpen hash holds q r.machine x (handed_out q s) above part
 
+waits_in : {H : Type 0} (hash : List ℕ → List ℕ) (holds : H → List ℕ → Type 0) (q : Question) (r : Reader H)
+    (s : List ℕ) (x : Stage) (w : Want) → r.machine.stage ≡ x → want_at r.machine.head.kind x ≡ Some w → r.held ≡ []
+    → StandsAt hash holds q r s → WaitsIn hash holds q r s x w
+waits_in hash holds q r s x w is wants none at =
+    let i = stands_in hash holds q r s (Some w) (ap (λ (z : Stage). want_at r.machine.head.kind z) is ∙ wants) at in
+    record {
+      above = i.above;
+      part = i.part;
+      last = i.last;
+      stops = i.stops ∙ (λ j. waits (reads w (next_at q.way r.machine.head r.machine.leaf.left i.above (is j)))
+          (record { at = r.at; last = i.last; rest = none j }));
+      is_open = subst (λ (z : Stage). IsOpen hash holds q r.machine z (handed_out q s) i.above i.part) is i.is_open;
+    }
+
+-- bytes in front of a piece are read at once, and hand out nothing without their last one
+turn_read : {H : Type 0} (hash : List ℕ → List ℕ) (holds : H → List ℕ → Type 0) (q : Question) (r : Reader H)
+    (s piece : List ℕ) (n from before at last : ℕ) (g k : Grammar Parsed) (turn : Progress)
+    → stop_of q s ≡ waits g (cursor_at from before)
+    → On g (stand from before (take n piece)) k (cursor_at at last)
+    → handed g (stand from before (take (n - 1) piece)) ≡ []
+    → Behind hash holds q (handed_out q s) at last n r k turn
+    → MakesProgress hash holds q s piece r turn
+turn_read hash holds q r s piece n from before at last g k turn stops read quiet behind =
+    let t = cursor_at from before in
+    turn_behind hash holds q r s piece (drop n piece) n at last k turn (take-append-drop n piece)
+    (goes_on q s (take n piece) g t stops ∙ read.stops)
+    (hands_on q s (take n piece) g t stops ∙ ap (λ (rs : List Record). handed_out q s ++ rs) read.hands)
+    (hands_on q s (take (n - 1) piece) g t stops ∙ ap (λ (rs : List Record). handed_out q s ++ rs) quiet
+    ∙ append-nil (handed_out q s)) behind
+
+-- a record
 pub turn_record : {H : Type 0} (hash : List ℕ → List ℕ) (holds : H → List ℕ → Type 0) (q : Question) (r new : Reader H)
     (s piece : List ℕ) (n : ℕ) (one : Record) (turn : Progress) → IsWhole r piece one n
     → ((given : List Record) (a : Above) (p : Option Cut) → IsOpen hash holds q r.machine stage.Number given a p
@@ -312,41 +347,50 @@ pub turn_record : {H : Type 0} (hash : List ℕ → List ℕ) (holds : H → Lis
     (after_record (ways_at q r.machine.head) r.machine.head r.machine.leaf.left a.nodes a.records one) turn)
     → StandsAt hash holds q r s → MakesProgress hash holds q s piece new turn
 turn_record hash holds q r new s piece n one turn w behind at =
-    let i = record_waits hash holds q r s w.stage w.held at in
+    let i = waits_in hash holds q r s stage.Number want.Number w.stage refl w.held at in
     let X = after_record (ways_at q r.machine.head) r.machine.head r.machine.leaf.left i.above.nodes i.above.records
     in
     let u = r.machine.head.version in
+    let bytes = record_bytes u one in
     let g = reads want.Number (λ v. behind_number u X (number_in v)) in
-    let t : Cursor = record { at = r.at; last = i.last; rest = [] } in
-    let stops : stop_of q s ≡ waits g t = i.stops ∙ (λ j. waits
-    (reads want.Number (next_at q.way r.machine.head
-    r.machine.leaf.left i.above (w.stage j))) (record { at = r.at; last = i.last; rest = w.held j })) in
-    let is_open : IsOpen hash holds q r.machine stage.Number (handed_out q s) i.above i.part =
-    subst (λ (z : Stage). IsOpen hash holds q r.machine z (handed_out q s) i.above i.part) w.stage i.is_open in
-    let within : r.at + length (record_bytes u one) ≤ place_limit = omega (arith, w.sized, w.place) in
-    let front : take n piece ≡ record_bytes u one = ap (take n) w.bytes
-    ∙ take-append-le n (record_bytes u one) (drop n piece) (omega (arith, w.sized))
-    ∙ take_all n (record_bytes u one) (omega (arith, w.sized)) in
-    let less : take (n - 1) piece ≡ take (length (record_bytes u one) - 1) (record_bytes u one) =
+    let within : r.at + length bytes ≤ place_limit = omega (arith, w.sized, w.place) in
+    let front : take n piece ≡ bytes = ap (take n) w.bytes
+    ∙ take-append-le n bytes (drop n piece) (omega (arith, w.sized))
+    ∙ take_all n bytes (omega (arith, w.sized)) in
+    let less : take (n - 1) piece ≡ take (length bytes - 1) bytes =
     sym (take-take (n - 1) n piece (omega arith)) ∙ (λ j. take (w.sized j - 1) (front j)) in
-    let read = record_on u X one r.at i.last w.is_record w.layer within in
-    let size : r.at + length (record_bytes u one) ≡ r.at + n = ap (λ (k : ℕ). r.at + k) (sym w.sized) in
     let last = last_field u r.at one in
-    turn_behind hash holds q new s piece (drop n piece) n (r.at + n) last (X one) turn
-    (take-append-drop n piece)
-    (goes_on q s (take n piece) g t stops ∙ ap (λ (bytes : List ℕ). stop g
-    (record { at = r.at; last = i.last; rest = bytes })) front
-    ∙ read.stops ∙ ap (λ (k : ℕ). stop (X one) (cursor_at k last)) size)
-    (hands_on q s (take n piece) g t stops
-    ∙ ap (λ (rs : List Record). handed_out q s ++ rs)
-    (ap (λ (bytes : List ℕ). handed g (record { at = r.at; last = i.last; rest = bytes })) front
-    ∙ read.hands ∙ ap (λ (k : ℕ). handed (X one) (cursor_at k last)) size))
-    (hands_on q s (take (n - 1) piece) g t stops
-    ∙ ap (λ (rs : List Record). handed_out q s ++ rs)
-    (ap (λ (bytes : List ℕ). handed g (record { at = r.at; last = i.last; rest = bytes })) less
-    ∙ quiet_on u X one r.at i.last w.is_record w.layer within)
-    ∙ append-nil (handed_out q s))
-    (behind (handed_out q s) i.above i.part is_open)
+    let read : On g (stand r.at i.last (take n piece)) (X one) (cursor_at (r.at + n) last) =
+    subst (λ (z : ℕ × List ℕ). On g (stand r.at i.last z.1) (X one) (cursor_at (r.at + z.0) last))
+    (λ j. (sym w.sized j, sym front j)) (record_on u X one r.at i.last w.is_record w.layer within) in
+    let quiet : handed g (stand r.at i.last (take (n - 1) piece)) ≡ [] =
+    ap (λ (raw : List ℕ). handed g (stand r.at i.last raw)) less
+    ∙ quiet_on u X one r.at i.last w.is_record w.layer within in
+    turn_read hash holds q new s piece n r.at i.last (r.at + n) last g (X one) turn i.stops read quiet
+    (behind (handed_out q s) i.above i.part i.is_open)
+
+-- a pruned part
+pub turn_part : {H : Type 0} (hash : List ℕ → List ℕ) (holds : H → List ℕ → Type 0) (q : Question) (r new : Reader H)
+    (s piece : List ℕ) (n last level : ℕ) (part : PrunedEntry) (turn : Progress) → IsWholePart q r piece level part
+    → n ≡ part_size r.machine.head.version → last ≡ r.at + digest_place r.machine.head.version
+    → ((given : List Record) (a : Above) (p : Option Cut) → IsOpen hash holds q r.machine (stage.Tag level) given a p
+    → Behind hash holds q given (r.at + n) last n new
+    (after (ways_at q r.machine.head) r.machine.head level a.nodes (Pruned part)) turn)
+    → StandsAt hash holds q r s → MakesProgress hash holds q s piece new turn
+turn_part hash holds q r new s piece n last level part turn w sized placed behind at =
+    let i = waits_in hash holds q r s (stage.Tag level) (want.Tag level) w.stage refl w.held at in
+    let way = ways_at q r.machine.head in
+    let u = r.machine.head.version in
+    let X = after way r.machine.head level i.above.nodes in
+    let g = reads (want.Tag level) (λ t. node_next u way level X (tag_in t)) in
+    let read : On g (stand r.at i.last (take n piece)) (X (Pruned part)) (cursor_at (r.at + n) last) =
+    subst (λ (z : ℕ × ℕ). On g (stand r.at i.last (take z.0 piece)) (X (Pruned part)) (cursor_at (r.at + z.0) z.1))
+    (λ j. (sym sized j, sym placed j)) (part_on u way level X r.at i.last piece part w.begins w.unopened w.place) in
+    let quiet : handed g (stand r.at i.last (take (n - 1) piece)) ≡ [] =
+    subst (λ (z : ℕ). handed g (stand r.at i.last (take (z - 1) piece)) ≡ []) (sym sized)
+    (quiet_part u way level X r.at i.last piece part w.begins w.unopened w.place) in
+    turn_read hash holds q new s piece n r.at i.last (r.at + n) last g (X (Pruned part)) turn i.stops read quiet
+    (behind (handed_out q s) i.above i.part i.is_open)
 
 -- ---- behind the last field
 

@@ -30,7 +30,7 @@ use Rattle.mr_check.specs.private.Machine.{behind_number, behind_sides, behind_l
 use Rattle.mr_check.specs.private.Reads.{last_field}
 use Rattle.mr_check.proofs.Noting.{short_handed}
 
-abbrev stand : ℕ → ℕ → List ℕ → Cursor
+abbrev pub stand : ℕ → ℕ → List ℕ → Cursor
 stand at last rest = record { at = at; last = last; rest = rest }
 
 -- reading goes on in the second grammar from the second place
@@ -38,11 +38,11 @@ pub record On {A : Type 0} (g : Grammar A) (s : Cursor) (k : Grammar A) (t : Cur
   pub stops : stop g s ≡ stop k t
   pub hands : handed g s ≡ handed k t
 
-on_both : {A : Type 0} (f g h : Grammar A) (s t u : Cursor) → On f s g t → On g t h u → On f s h u
+pub on_both : {A : Type 0} (f g h : Grammar A) (s t u : Cursor) → On f s g t → On g t h u → On f s h u
 on_both f g h s t u a b = record { stops = a.stops ∙ b.stops; hands = a.hands ∙ b.hands }
 
 -- a field whose bytes stand in front
-field_on : {A : Type 0} (w : Want) (next : Field → Grammar A) (at last : ℕ) (raw rest : List ℕ) (v : Field)
+pub field_on : {A : Type 0} (w : Want) (next : Field → Grammar A) (at last : ℕ) (raw rest : List ℕ) (v : Field)
     → length raw ≡ size_of w → at + size_of w ≤ place_limit → field_of w raw ≡ Ok v
     → On (reads w next) (stand at last (raw ++ rest)) (next v) (stand (at + size_of w) at rest)
 unfolding field_at

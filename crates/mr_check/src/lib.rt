@@ -18,6 +18,7 @@ mod judge;
 mod leaf;
 mod machine;
 mod outline;
+mod parts;
 mod piece_check;
 mod radius_counts;
 mod reader;

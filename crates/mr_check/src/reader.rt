@@ -1,27 +1,34 @@
-//! The bytes of a proof, field by field, and record by record where a piece has the whole of one.
+//! The bytes of a proof, field by field; and at once a pruned part or a record of which a piece has
+//! the whole.
 
 ghost use Rattle.std.specs.Prelude.{◌≡◌, ◌+◌, ◌≤◌, ◌++◌, ◌∷◌, [], ℕ, List, Option, Some, None, length, nat_lt, vec_len, IfOk, IfSome};
 ghost use Rattle.mr_record.specs.declared.record.Record as types;
-ghost use Rattle.mr_proof.specs.Tight.{Question};
+ghost use Rattle.mr_proof.specs.Tight.{Question, key_at, opens_at};
 ghost use Rattle.mr_proof.specs.Limits.{place_limit};
 ghost use Rattle.mr_proof.specs.Fields.{size_of, field_of, FitsPayload, HasForm};
 ghost use Rattle.mr_proof.specs.Cut.{Cut};
 ghost use Rattle.mr_proof.specs.Spelling.{Parsed};
 ghost use Rattle.mr_proof.specs.Grammar.{Grammar};
 ghost use Rattle.mr_check.specs.declared.reader.Progress.TheVariants as turns;
+ghost use Rattle.mr_check.specs.declared.stage.Stage.TheVariants as stage;
 ghost use Rattle.mr_check.specs.private.Stops.{noted};
 ghost use Rattle.mr_check.specs.private.Stages.{want_at, size_in, MayBe, FitsStage};
-ghost use Rattle.mr_check.specs.private.Machine.{Above, IsOpen, StepsPastField, StepFits, WaitsPast, next_at};
-ghost use Rattle.mr_check.specs.private.Reads.{want_of, last_field, IsCounted, FitsReader, IsWhole, StandsAt, Behind, MakesProgress, TakesSome, TakesJust, FaultOf};
+ghost use Rattle.mr_check.specs.private.Machine.{Above, IsOpen, StepsPastField, StepFits, WaitsPast, next_at, ways_at};
+ghost use Rattle.mr_check.specs.private.Reads.{want_of, last_field, IsCounted, FitsReader, IsWholePart, IsWhole, StandsAt, Behind, MakesProgress, TakesSome, TakesJust, FaultOf};
 ghost use Rattle.mr_record.specs.Record.{payload_limit};
 ghost use Rattle.mr_record.specs.RecordField.{length_place};
 
+use crate::inner::pruned;
 use crate::leaf::record;
 use crate::machine::{Machine, StepResult};
+use crate::parts::{digest_place, part_in, part_size};
 use crate::stage::{Stage, want_at};
 use crate::step::step;
 use mr_outside::Buffer;
-use mr_proof::{AsQuestion, Fault, Field, PLACE_LIMIT, Rule, Want, read_field};
+use mr_proof::{
+    AsQuestion, Fault, Field, Head, PLACE_LIMIT, PrunedEntry, Rule, Want, mask_seen, read_field,
+};
+use mr_query::Key;
 use mr_record::{PAYLOAD_LIMIT, Record, Version, read_record_of};
 use mr_tree::{Entry, Hashes};
 
@@ -264,16 +271,69 @@ fn by_field<H: Hashes, A: AsQuestion>(q: &A, r: &mut Reader<H>, piece: &[u8]) ->
     }
 }
 
+// Whether the part is to be opened.
+fn is_hidden<A: AsQuestion>(q: &A, head: &Head, part: &PrunedEntry) -> bool
+    ensures { result ≡ opens_at (ways_at (A.question q.now) head.now)
+        (key_at head.now.version part.now.mask part.now.rect) }
+{
+    let seen = Key {
+        rect: part.rect,
+        mask: mask_seen(head.version, part.mask),
+    };
+    q.way(head.radius, &seen).is_open()
+}
+
+// The pruned part at the front of the piece, where an item of this level is under way of which
+// nothing is held, and the piece has the whole of it, up to the limit at most, without a fault.
+fn whole_part<H: Hashes, A: AsQuestion>(
+    q: &A,
+    r: &Reader<H>,
+    level: u8,
+    piece: &[u8],
+) -> Option<PrunedEntry>
+    requires { r.now.machine.stage ≡ stage.Tag level }
+    ensures { IfSome result (IsWholePart (A.question q.now) r.now piece.now level) }
+{
+    if !r.held.as_slice().is_empty() || PLACE_LIMIT - part_size(r.machine.head.version) < r.at {
+        return None;
+    }
+    match part_in(r.machine.head.version, piece) {
+        Some(part) if !is_hidden(q, &r.machine.head, &part) => Some(part),
+        _ => None,
+    }
+}
+
+// That part was read.
+fn behind_part<H: Hashes, A: AsQuestion>(
+    q: &A,
+    r: &mut Reader<H>,
+    level: u8,
+    part: &PrunedEntry,
+    piece: &[u8],
+) -> Progress
+    requires fits { FitsReader r.old }
+    requires none { r.old.fault ≡ None }
+    requires whole { IsWholePart (A.question q.now) r.old piece.now level part.now }
+    ensures fits { FitsReader r.new }
+    ensures fault { FaultOf r.new.fault result }
+    ensures takes { TakesSome (length piece.now) result }
+    ensures turns { (s : List ℕ) → StandsAt H.of H.holds (A.question q.now) r.old s
+        → MakesProgress H.of H.holds (A.question q.now) s piece.now r.new result }
+{
+    let size = part_size(r.machine.head.version);
+    let last = r.at + digest_place(r.machine.head.version);
+    r.at += size;
+    let stepped = pruned(q, &mut r.machine, level, part);
+    behind(r, stepped, last, size)
+}
+
 // The record at the front of the piece and its size, where one is under way of which nothing is
 // held, and the piece has the whole of it, up to the limit at most.
 fn whole_record<H: Hashes>(r: &Reader<H>, piece: &[u8]) -> Option<(Record, usize)>
-    requires { FitsReader r.now }
+    requires fits { FitsReader r.now }
+    requires stage { r.now.machine.stage ≡ stage.Number }
     ensures { IfSome result (λ p. IsWhole r.now piece.now p.0 p.1) }
 {
-    match r.machine.stage {
-        Stage::Number => {}
-        _ => return None,
-    }
     if !r.held.as_slice().is_empty() {
         return None;
     }
@@ -332,7 +392,7 @@ fn behind_record<H: Hashes, A: AsQuestion>(
     behind(r, stepped, last, size)
 }
 
-// The next record or the next field, as far as the piece has it.
+// The next pruned part, record or field, as far as the piece has it.
 pub(crate) fn advance<H: Hashes, A: AsQuestion>(q: &A, r: &mut Reader<H>, piece: &[u8]) -> Progress
     requires fits { FitsReader r.old }
     requires none { r.old.fault ≡ None }
@@ -342,8 +402,15 @@ pub(crate) fn advance<H: Hashes, A: AsQuestion>(q: &A, r: &mut Reader<H>, piece:
     ensures turns { (s : List ℕ) → StandsAt H.of H.holds (A.question q.now) r.old s
         → MakesProgress H.of H.holds (A.question q.now) s piece.now r.new result }
 {
-    match whole_record(r, piece) {
-        None => by_field(q, r, piece),
-        Some((one, size)) => behind_record(q, r, &one, size, piece),
+    match r.machine.stage {
+        Stage::Tag(level) => match whole_part(q, r, level, piece) {
+            None => by_field(q, r, piece),
+            Some(part) => behind_part(q, r, level, &part, piece),
+        },
+        Stage::Number => match whole_record(r, piece) {
+            None => by_field(q, r, piece),
+            Some((one, size)) => behind_record(q, r, &one, size, piece),
+        },
+        _ => by_field(q, r, piece),
     }
 }

@@ -92,7 +92,8 @@ opened_in nodes top = record
 unfoldable pub say_serve_of : (List ℕ → List ℕ) → List ℕ → Opened → Result (List Query) TextFault
     → Outcome
 say_serve_of hash name map (Err fault) = ends BadText (bad_text_line fault)
-say_serve_of hash name map (Ok queries) = unless_lacking (list_any (lacks_proof map.version) queries)
+say_serve_of hash name map (Ok queries) =
+    unless_lacking (list_any (lacks_proof map.version) queries)
     (say_bundle name (length queries) (bundle (by map.version hash) map.tree map.batch queries))
 
 -- the verdicts on the parts of a bundle that are whole, for so many queries

@@ -1,16 +1,24 @@
 -- What a reader of bytes stands for. This serves private functions and proofs: the relation that it
 -- defines is known by what contracts say of it.
-use Rattle.std.specs.Prelude.{◌≡◌, ◌≢◌, ◌⊎◌, Bool, true, false, ◌==◌, if◌then◌else◌, Result, Ok, Err, ℕ, ◌-◌, ◌+◌, ◌*◌, ◌^◌, ◌<◌, ◌≤◌, ⊤, List, [], ◌∷◌, ◌++◌, length, take, drop, vec_len, Option, Some, None}
+use Rattle.std.specs.Prelude.{◌≡◌, ◌≢◌, ◌⊎◌, Bool, true, false, ◌==◌, if◌then◌else◌, Result, Ok, Err, ℕ, ◌-◌, ◌+◌, ◌*◌, ◌^◌, ◌<◌, ◌≤◌, ⊤, List, [], ◌∷◌, ◌++◌, length, take, drop, slice_index, vec_len, Option, Some, None}
 use Rattle.mr_record.specs.Record.{IsRecord, HasLayer, record_bytes}
 use Rattle.mr_record.specs.declared.record.Record.{Record}
 use Rattle.mr_record.specs.declared.version.Version.{Version}
 use Rattle.mr_record.specs.RecordField.{length_place}
+use Rattle.mr_record.specs.Version.{told}
+use Rattle.mr_record.specs.declared.version.Version.TheVariants.{One, Two}
 use Rattle.mr_tree.specs.Digest.{root_preimage}
-use Rattle.mr_proof.specs.Tight.{Question}
+use Rattle.mr_proof.specs.Tight.{Question, key_at, opens_at}
 use Rattle.mr_proof.specs.declared.rule.Rule.TheVariants as rule
 use Rattle.mr_proof.specs.declared.rule.Fault.{Fault}
 use Rattle.mr_proof.specs.declared.head.Head.{Head}
 use Rattle.mr_proof.specs.declared.want.Want.{Want}
+use Rattle.mr_proof.specs.declared.want.Want.TheVariants as want
+use Rattle.mr_proof.specs.declared.field.Field.{Field}
+use Rattle.mr_proof.specs.declared.field.Field.TheVariants as field
+use Rattle.mr_proof.specs.declared.pruned_entry.PrunedEntry.{PrunedEntry}
+use Rattle.mr_proof.specs.declared.rule.Rule.{Rule}
+use Rattle.mr_proof.specs.Fields.{size_of, field_of, pruned_tag}
 use Rattle.mr_proof.specs.Limits.{count_limit, place_limit}
 use Rattle.mr_proof.specs.Spelling.{Parsed}
 use Rattle.mr_proof.specs.Grammar.{Grammar}
@@ -28,7 +36,7 @@ use Rattle.mr_check.specs.private.Stops.{waits, fails, stop, cursor_at, stop_of}
 use Rattle.mr_check.specs.private.Stages.{want_at, size_in, room_in, FitsStage}
 use Rattle.mr_tree.specs.declared.entry.Entry.{Entry}
 use Rattle.mr_check.specs.private.Counting.{CountsRecords, other_radius}
-use Rattle.mr_check.specs.private.Machine.{WaitsForField, counted_so_far, is_other_tally}
+use Rattle.mr_check.specs.private.Machine.{WaitsForField, ways_at, counted_so_far, is_other_tally}
 
 -- the field under way of a reader, if any is
 abbrev pub want_of : {H : Type 0} → Reader H → Option Want
@@ -157,6 +165,44 @@ pub record IsWhole {H : Type 0} (r : Reader H) (piece : List ℕ) (one : Record)
 abbrev pub last_field : Version → ℕ → Record → ℕ
 last_field v at r =
     if length r.payload == 0 then at + length_place v else (at + length_place v) + 1
+
+-- where the digest of a pruned part stands in it, and how many bytes the part has
+abbrev pub digest_place : Version → ℕ
+digest_place v = 17 + told v 16
+
+abbrev pub part_size : Version → ℕ
+part_size v = digest_place v + 32
+
+-- the value of a field that stands so far into these bytes
+abbrev pub value_at : ℕ → Want → List ℕ → Result Field Rule
+value_at place w bytes = field_of w (take (size_of w) (drop place bytes))
+
+-- the mask and the count of a pruned part with these bytes
+abbrev pub TellsPart : Version → List ℕ → (mask count : ℕ) → Type 0
+TellsPart One bytes m c = (m ≡ 0) × (c ≡ 0)
+TellsPart Two bytes m c =
+    (value_at 17 want.Mask bytes ≡ Ok (field.Num m))
+    × (value_at 25 want.Tally bytes ≡ Ok (field.Num c))
+
+-- the bytes begin with those of a pruned part, and no field of it breaks its rule
+pub record BeginsWithPart (v : Version) (bytes : List ℕ) (part : PrunedEntry) : Type 0 where
+  pub long : part_size v ≤ length bytes
+  pub tag : slice_index bytes 0 ≡ pruned_tag
+  pub rect : value_at 1 want.Rect bytes ≡ Ok (field.Rect part.rect)
+  pub tells : TellsPart v bytes part.mask part.count
+  pub few : part.count ≤ count_limit
+  pub digest : value_at (digest_place v) want.Digest bytes ≡ Ok (field.Digest part.digest)
+
+-- the pruned part of this level at the front of the piece is under way, nothing of it is held, it
+-- is not to be opened, and it ends by the limit
+pub record IsWholePart {H : Type 0} (q : Question) (r : Reader H) (piece : List ℕ) (level : ℕ)
+    (part : PrunedEntry) : Type 0 where
+  pub stage : r.machine.stage ≡ stage.Tag level
+  pub held : r.held ≡ []
+  pub begins : BeginsWithPart r.machine.head.version piece part
+  pub unopened : opens_at (ways_at q r.machine.head)
+      (key_at r.machine.head.version part.mask part.rect) ≡ false
+  pub place : r.at + part_size r.machine.head.version ≤ place_limit
 
 -- what is found as the root digest, by the head and what is said of the root node
 abbrev pub found_at : (List ℕ → List ℕ) → Head → Entry → List ℕ
