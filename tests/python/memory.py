@@ -96,6 +96,8 @@ def refused(bench: Bench, seed: int) -> None:
 # ---- how much memory is taken
 
 ALL = "window:-2147483648,-2147483648,2147483647,2147483647"
+ON_ALL = "/ffffffffffffffff"  # a mask of all layers
+NEAREST = "nearest:0,0,1024/0000000000000001"  # on layer 0 alone
 LONG = 16384  # records of 200 bytes of payload, on a map that is proved whole in 3.7 MB
 SERVED = 200  # queries, each of which is answered by all of 2,000 records
 
@@ -110,7 +112,8 @@ class Bound(NamedTuple):
 
 # The numbers that were measured are 4,515 and 24.1 million; 28 and 4.1 million; 2,704 and 13.9 million; 3,100. By
 # threads those of the last two differ by a few calls from run to run. A record takes some 230 bytes. In version 2 they
-# are 4,515 and 24.1 million, as in version 1; 8,430 and 8,768, and 31.4 million; 4,837 and 16.5 million.
+# are 4,515 and 24.1 million, as in version 1; 8,430 and 8,768, and 31.4 million; 4,837 and 16.5 million; and with masks
+# 6,599 and 1.8 million; 30 and 15.9 million; 9,216 and 21.0 million; 13,663 and 54.3 million.
 BOUNDS = (
     # the tree of 65,536 records, and copies of half of them
     Bound("list m", 5000, 26 * 10**6),
@@ -128,6 +131,12 @@ BOUNDS = (
     Bound("serve s q u", 3000, 155 * 10**5),
     # each proof is judged once
     Bound("check-all OTHER q u", 3500, 150 * 10**6),
+    # with a mask, in version 2: the nodes that are kept and what a search holds; the records, and no memory a piece;
+    # the records, the nodes and a part of the proof; and the tree, with each proof in as much room as it has bytes
+    Bound("prove k %s z" % NEAREST, 7000, 21 * 10**5),
+    Bound("check LAYERED %s%s y" % (ALL, ON_ALL), 40, 17 * 10**6),
+    Bound("audit k %s%s y" % (ALL, ON_ALL), 9700, 22 * 10**6),
+    Bound("serve k layered v", 14500, 57 * 10**6),
 )
 
 
@@ -143,22 +152,22 @@ def counted(bench: Bench, words: List[str], path: str) -> Tuple[int, int, int]:
     return ran.returncode, calls, most
 
 
-def lay_out(bench: Bench) -> Tuple[str, str]:
-    """Makes the maps m, k, l and s, the text t of k, a proof p and a script q; the root digests of l and s."""
+def lay_out(bench: Bench) -> Tuple[str, str, str]:
+    """Makes the maps m, k, l and s, the text t of k, proofs p and y, and scripts; the root digests of l, s and k."""
     clear()
     lines = [plain.line_of(plain.place(number)._replace(payload=b"Z" * 200)) + "\n" for number in range(1, LONG + 1)]
     write("long.txt", "".join(lines).encode())
     write("q", (ALL + "\n").encode() * SERVED)
     write("t", text_of(plain.on_layers(plain.generated(65536, 1)), 2))
-    status, said = bench.program(["build2", "k", "t"])
-    bench.holds(status == 0, "build2 k t: status %d and %s" % (status, said[:200]))
+    write("layered", ("%s%s\n%s\n" % (ALL, ON_ALL, NEAREST)).encode() * 10)
     roots = []
+    layered = ("build2 k t", "prove k %s%s y" % (ALL, ON_ALL))
     long = ("build l long.txt", "prove l %s p" % ALL)
-    for words in ("make 65536 1 r", "build m r", *long, "make 2000 1 r", "build s r", "serve s q u"):
+    for words in (*layered, "make 65536 1 r", "build m r", *long, "make 2000 1 r", "build s r", "serve s q u"):
         status, said = bench.program(words.split(" "))
         bench.holds(status == 0, "%s: status %d and %s" % (words, status, said[:200]))
         roots.append(said.decode().strip())
-    return roots[2], roots[5]
+    return roots[4], roots[7], roots[0]
 
 
 def bounded(bench: Bench, seed: int) -> None:
@@ -168,9 +177,9 @@ def bounded(bench: Bench, seed: int) -> None:
         if path is None:
             print("tests/hostile: SKIPPED: how much memory runs take, which takes a C compiler and the GNU C library")
             return
-        root, other = lay_out(bench)
+        root, other, layered = lay_out(bench)
         for bound in BOUNDS:
-            words = bound.words.replace("ROOT", root).replace("OTHER", other).split(" ")
+            words = bound.words.replace("ROOT", root).replace("OTHER", other).replace("LAYERED", layered).split(" ")
             status, calls, most = counted(bench, words, path)
             is_so = status == 0 and 0 < calls <= bound.calls and 0 < most <= bound.bytes_
             told = (words[0], status, calls, most, bound.calls, bound.bytes_)

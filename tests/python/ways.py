@@ -521,8 +521,20 @@ def large_holds(bench: Bench) -> None:
     bench.holds(seconds["l.geojson"] <= MOST_TIMES * other, "%.1f s, and ogr2ogr %.1f" % (seconds["l.geojson"], other))
 
 
+# Begins a run, and prints the seconds of processor time and the most bytes of memory that it takes.
+MEASURE = """
+import os, subprocess, sys
+ran = subprocess.Popen(sys.argv[1:], stdout=subprocess.DEVNULL, stderr=subprocess.DEVNULL)
+usage = os.wait4(ran.pid, 0)[2]
+print(usage.ru_utime + usage.ru_stime, usage.ru_maxrss * 1024)
+"""
+
+
 def used(words: List[str]) -> Tuple[float, int]:
-    """The seconds of processor time and the most bytes of memory of a run."""
-    ran = subprocess.Popen(words, stderr=subprocess.DEVNULL)
-    _, _, usage = os.wait4(ran.pid, 0)
-    return usage.ru_utime + usage.ru_stime, usage.ru_maxrss * 1024
+    """The seconds of processor time and the most bytes of memory of a run, which a small program begins.
+
+    The system counts to a run the memory of the program that begins it, and this one may have become large.
+    """
+    ran = subprocess.run([sys.executable, "-c", MEASURE, *words], stdout=subprocess.PIPE, check=True)
+    seconds, memory = ran.stdout.split()
+    return float(seconds), int(memory)
