@@ -1,0 +1,5 @@
+use Rattle.mr_count.specs.private.InsideLaws.{lies_is}
+use Rattle.mr_count.proofs.inside.lies_in.Goals as goal
+
+pub returns : goal.returns
+returns c = lies_is c.args.one.now c.args.window.now c.inside.result c.corners-corners.ensures.ordered c.inside.ensures
