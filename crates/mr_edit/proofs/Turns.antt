@@ -219,7 +219,8 @@ pub fronts_more : (scheme : Scheme) (told told1 told2 : Option PageMap) (free fr
     c ≡ get_or b.list i c → ReplaysFronts scheme told free root dir told1 free1 root1 dir1 b i →
     ChangesOne scheme told1 free1 root1 dir1 told2 free2 root2 dir2 c →
     ReplaysFronts scheme told free root dir told2 free2 root2 dir2 b (i + 1)
-fronts_more scheme told told1 told2 free free1 free2 root root1 root2 dir dir1 dir2 b i c here fronts changes n from to =
+fronts_more scheme told told1 told2 free free1 free2 root root1 root2 dir dir1 dir2 b i c here fronts changes n from
+    to =
     let low : i < n = omega (arith, from) in
     replays_more scheme told told1 told2 free free1 free2 root root1 root2 dir dir1 dir2 (first_changes n b) i c
     (within_front b i n low to) (here_front b i n c low here) (fronts n (omega (arith, low)) to) changes

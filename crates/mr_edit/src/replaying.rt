@@ -168,9 +168,9 @@ fn make_change<F: PageFile>(
 }
 
 /// Makes the changes of a batch in their order. Root and directory follow them. The directory is
-/// that of the map's records: a record that goes out is searched by the rectangle that it has there.
-/// Where a change is refused, both are those of the map as the changes before it left it, if the
-/// pages are told. Told or not, they are as before where it is the first change.
+/// that of the map's records: a record that goes out is searched by the rectangle that it has
+/// there. Where a change is refused, both are those of the map as the changes before it left it, if
+/// the pages are told. Told or not, they are as before where it is the first change.
 ///
 /// `Page` blames what insertions and deletions blame; and the root, or page 0 where there is none,
 /// where the directory has no record with a number that is to go out.

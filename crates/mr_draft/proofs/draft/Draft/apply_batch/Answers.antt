@@ -15,9 +15,8 @@ returns-in_err-free-clause-kept g c =
     let s = c.args.self.now in
     let t = c.replay_any.new.sheets in
     let k = c.replay_any.ensures.kept in
-    keeps_draft g.H.Hashes.of (draft_of s) (draft_state t.file s.free c.replay_any.new.root s.count s.batch) t.sheets.sized
-    k.name
-    k.pages
+    keeps_draft g.H.Hashes.of (draft_of s) (draft_state t.file s.free c.replay_any.new.root s.count s.batch)
+    t.sheets.sized k.name k.pages
     k.files k.faults k.reads k.layout
     t.sheets.file_
 
