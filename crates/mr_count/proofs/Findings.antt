@@ -1,16 +1,20 @@
 -- What the check of a proof for a choice gives, and what its audit finds.
-use Rattle.std.proofs.Common.{◌≡◌, ℕ, ◌<◌, ◌^◌, List, Option, Some, None, Result, Ok, Err, sym, ap, subst, ◌∙◌}
+use Rattle.std.proofs.Common.{◌≡◌, ℕ, ◌+◌, ◌<◌, ◌≤◌, ◌^◌, List, Option, Some, None, Result, Ok, Err, refl, sym, ap, subst, ◌∙◌}
 use Rattle.std.specs.Prelude.{IfSome, IfOk}
+use Rattle.std.proofs.Math.Bridge.{le_prop}
+use Rattle.std.proofs.Math.Logic.{∥∥₁_elim}
 use Rattle.mr_record.proofs.Encodings.{IsBytes}
-use Rattle.mr_tree.specs.Digest.{Scheme, root}
+use Rattle.mr_tree.specs.Digest.{Scheme, by, root}
 use Rattle.mr_tree.specs.Nodes.{MapModel}
-use Rattle.mr_tree.specs.WellFormed.{HasLayers}
+use Rattle.mr_tree.specs.WellFormed.{WellFormed, HasLayers}
 use Rattle.mr_tree.specs.declared.tree.Tree.{Tree}
 use Rattle.mr_query.specs.declared.key.Key.{Key}
 use Rattle.mr_proof.specs.declared.head.Kind.TheVariants as kind
 use Rattle.mr_proof.specs.declared.rule.Fault.{Fault}
 use Rattle.mr_proof.specs.declared.way.Way.{Way}
 use Rattle.mr_proof.specs.Spelling.{Parsed}
+use Rattle.mr_proof.specs.Honest.{honest_said, opened_for, proof_for, IsProofFor}
+use Rattle.mr_proof.specs.Halves.{AcceptsHonestProof}
 use Rattle.mr_proof.specs.Tight.{IsNarrow, IsLawful}
 use Rattle.mr_proof.specs.Reading.{checked, ◌>>=◌}
 use Rattle.mr_proof.specs.Clash.{Pair, clash_of, NoneAnd}
@@ -20,19 +24,21 @@ use Rattle.mr_check.specs.declared.error.CheckErr.{CheckErr}
 use Rattle.mr_check.specs.declared.error.CheckErr.TheVariants as checks
 use Rattle.mr_check.specs.declared.outline.Collected.{Collected}
 use Rattle.mr_check.specs.Judged.{IsCollected, AnswersCollected}
+use Rattle.mr_clash.specs.Finding.{root_at}
 use Rattle.mr_clash.specs.declared.question_finding.QuestionFinding.{QuestionFinding}
 use Rattle.mr_clash.specs.declared.question_finding.QuestionFinding.TheVariants as question_findings
-use Rattle.mr_clash.specs.QuestionFindings.{IsQuestionFindingBy, IsQuestionFinding, FindsHonestProof, QuestionFindingFor, QuestionFindingCollides}
+use Rattle.mr_clash.specs.QuestionFindings.{IsQuestionFindingBy, IsQuestionFinding, FindsHonestProof, QuestionFindingFor, QuestionFindingCollides, opened_checked, opened_checked_by}
 use Rattle.mr_count.specs.declared.error.ChoiceErr.{ChoiceErr}
 use Rattle.mr_count.specs.declared.finding.ChoiceFinding.{ChoiceFinding}
 use Rattle.mr_count.specs.declared.finding.ChoiceFinding.TheVariants as findings
 use Rattle.mr_count.specs.declared.taken.Taken.{Taken}
-use Rattle.mr_count.specs.Chosen.{chosen, taken_of, verdict_for, AnswersChoice, IsChosen, FitsTaken}
+use Rattle.mr_count.specs.Chosen.{chosen, taken_of, verdict_for, AnswersChoice, IsChosen, FitsTaken, MayBreak}
 use Rattle.mr_count.specs.Accepted.{IsHonestChoice, AcceptedChoiceIsHonest}
-use Rattle.mr_count.specs.Finding.{finding_of, found_for, FindsHonestChoice, GivesChosen, FindsForChoice, GivesFitting, ShowsCollision}
+use Rattle.mr_count.specs.Finding.{finding_of, found_for, FindsHonestChoice, GivesChosen, FindsForChoice, BreaksNoFlag, GivesFitting, ShowsCollision}
 use Rattle.mr_count.specs.private.Steps.{GivesCollected, AnswersAs, FindsOf}
 use Rattle.mr_count.proofs.HonestChoices.{answer, accepted}
 use Rattle.mr_count.proofs.Fitting.{taken_fits}
+use Rattle.mr_count.proofs.Rules.{verdict_breaks}
 
 abbrev given : (Key → Way) → Result Parsed Fault → Result Taken Fault
 given way r = r >>= λ x. Ok (taken_of way x)
@@ -168,6 +174,20 @@ finding_fits hash s letter way bytes (question_findings.Sound o) v law fits (top
 finding_fits hash s letter way bytes (question_findings.Collision owned shown) v law fits is of =
     subst GivesFitting (sym of) tt
 
+breaks_by : (o : Result Taken Fault) (pair : Option Pair) → ((f : Fault) → o ≡ Err f → MayBreak f.rule)
+    → BreaksNoFlag (finding_of o pair)
+breaks_by (Err f) pair may = may f refl
+breaks_by (Ok x) None may = tt
+breaks_by (Ok x) (Some p) may = tt
+
+pub finding_breaks : (hash : List ℕ → List ℕ) (s : MapModel) (letter : ℕ) (way : Key → Way) (bytes : List ℕ)
+    (w : QuestionFinding) (v : ChoiceFinding) → QuestionFindingFor hash s (chosen letter way) bytes w → FindsOf w v
+    → BreaksNoFlag v
+finding_breaks hash s letter way bytes w v (top, is, pair, by_pair) of =
+    let root = hash (root_at top) in
+    subst BreaksNoFlag (sym (found_by hash root letter way bytes pair w v by_pair of))
+    (breaks_by (verdict_for hash root letter way bytes) pair (verdict_breaks hash root letter way bytes))
+
 -- ---- where the tree is told
 
 module _ (s : Scheme) (b letter : ℕ) (way : Key → Way) (bytes : List ℕ) (w : QuestionFinding)
@@ -189,3 +209,19 @@ module _ (s : Scheme) (b letter : ℕ) (way : Key → Way) (bytes : List ℕ) (w
   given_from None law matches low layers is = tt
   given_from (Some t) law matches low layers is =
       gives_chosen s t b letter way bytes layers low (accepted s letter way bytes law matches) w v is of
+
+-- so many nodes at most are fetched for the honest proof
+pub honest_few : (hash : List ℕ → List ℕ) (s : MapModel) (letter : ℕ) (way : Key → Way) (bytes : List ℕ)
+    (from to : ℕ) → AcceptsHonestProof (by s.version hash) (chosen letter way) → s.batch < 2 ^ 64
+    → (o : Option Tree) → IfSome o (λ t. ∥ WellFormed t ∥₁) → IfSome o (HasLayers s.version)
+    → IfSome o (λ t. to ≤ from + opened_checked_by (by s.version hash) t s.batch (chosen letter way) bytes)
+    → IfSome o (λ t. IsProofFor (by s.version hash) (chosen letter way) t s.batch bytes
+    → to ≤ from + opened_for (by s.version hash) (chosen letter way) t)
+honest_few hash s letter way bytes from to own low None wells layers few = tt
+honest_few hash s letter way bytes from to own low (Some t) wells layers few = λ is.
+    ∥∥₁_elim wells le_prop (λ well.
+    let h = by s.version hash in
+    let a = chosen letter way in
+    let opens : List ℕ → ℕ = λ bytes. opened_checked (checked hash (root h t s.batch) a bytes) in
+    subst (λ n. to ≤ from + n)
+    (ap opens is.own ∙ ap opened_checked (own t s.batch is.may_come well layers low)) few)

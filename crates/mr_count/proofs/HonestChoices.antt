@@ -24,7 +24,7 @@ use Rattle.mr_proof.specs.Honest.{honest_cut, honest_part, honest_said}
 use Rattle.mr_proof.specs.Reading.{checked, ◌>>=◌}
 use Rattle.mr_proof.specs.Clash.{clash_of}
 use Rattle.mr_proof.specs.Halves.{AcceptsHonestProof}
-use Rattle.mr_proof.specs.Headline.{MatchesHonest, AcceptedMatchesHonest}
+use Rattle.mr_proof.specs.Headline.{MatchesHonest, AcceptedMatchesHonest, HonestProofIsQuiet}
 use Rattle.mr_proof.proofs.FieldsTaken.{behind_step}
 use Rattle.mr_proof.proofs.Full.{empty_or_full, some_record}
 use Rattle.mr_proof.proofs.HonestCut.{rect_of_cut, honest_good, some_part, no_part}
@@ -120,9 +120,11 @@ pub layers_two : (t : Tree) → WellFormed t → HasLayers Two t
 layers_two t well = λ k d within. (well.each k d within).layer
 
 pub accepts : (hash : List ℕ → List ℕ) (letter : ℕ) (way : Key → Way) → IsNarrow way
-    → AcceptsHonestProof (by Two hash) (chosen letter way) → AcceptsHonestChoice hash letter way
-accepts hash letter way law own = λ t b well low. record {
+    → AcceptsHonestProof (by Two hash) (chosen letter way) → HonestProofIsQuiet (by Two hash) (chosen letter way)
+    → AcceptsHonestChoice hash letter way
+accepts hash letter way law own quiet = λ t b well low. record {
   accepted = ap (λ (r : Result Parsed Fault). r >>= λ x. Ok (taken_of way x))
       (own t b tt well (layers_two t well) low);
   given = honest_chosen (by Two hash) refl t b letter way law well;
+  quiet = quiet t b tt well (layers_two t well) low;
 }

@@ -1,6 +1,6 @@
 -- What an accepted proof for a choice is worth: it is the honest proof, and what it gives is of the
 -- map, or it shows two strings that differ and have one hash.
-use Rattle.std.specs.Prelude.{◌≡◌, ℕ, ◌^◌, ◌<◌, List, Ok}
+use Rattle.std.specs.Prelude.{◌≡◌, ℕ, ◌^◌, ◌<◌, List, None, Ok}
 use Rattle.mr_geom.specs.Rectangle.{Rectangle}
 use Rattle.mr_record.specs.declared.version.Version.TheVariants.{Two}
 use Rattle.mr_tree.specs.Tree.{records}
@@ -40,13 +40,16 @@ AcceptedCountIsTrue s letter w layers bytes =
     → NoneAnd s.of (clash_of (kind.Choice letter) s t batch bytes)
     (total_whole (inside_way w layers) x ≡ count_inside w layers (records t))
 
--- the honest proof of a map of version 2 is accepted, and what it gives is of the map
+-- the honest proof of a map of version 2 is accepted, what it gives is of the map, and it shows no
+-- pair of strings
 pub record AcceptsHonestProofOf (hash : List ℕ → List ℕ) (letter : ℕ) (way : Key → Way) (t : Tree)
     (batch : ℕ) : Type 0 where
   pub accepted : verdict_for hash (root (by Two hash) t batch) letter way
       (proof_for (by Two hash) (chosen letter way) t batch)
       ≡ Ok (taken_of way (honest_said (by Two hash) (chosen letter way) t batch))
   pub given : IsChosen t way (taken_of way (honest_said (by Two hash) (chosen letter way) t batch))
+  pub quiet : clash_of (kind.Choice letter) (by Two hash) t batch
+      (proof_for (by Two hash) (chosen letter way) t batch) ≡ None
 
 -- that of every map of version 2
 abbrev pub AcceptsHonestChoice : (List ℕ → List ℕ) → (letter : ℕ) → (Key → Way) → Type 0

@@ -15,7 +15,7 @@ use Rattle.mr_clash.specs.Finding.{root_at}
 use Rattle.mr_count.specs.declared.finding.ChoiceFinding.{ChoiceFinding}
 use Rattle.mr_count.specs.declared.finding.ChoiceFinding.TheVariants as findings
 use Rattle.mr_count.specs.declared.taken.Taken.{Taken}
-use Rattle.mr_count.specs.Chosen.{chosen, verdict_for, IsChosen, FitsTaken}
+use Rattle.mr_count.specs.Chosen.{chosen, verdict_for, IsChosen, FitsTaken, MayBreak}
 
 -- of bytes that are accepted and give this: the pair, where there is one
 abbrev pub finding_by : Taken → Option Pair → ChoiceFinding
@@ -48,6 +48,11 @@ FindsHonestChoice s t batch letter way bytes finding =
 abbrev pub GivesChosen : Tree → (Key → Way) → ChoiceFinding → Type 0
 GivesChosen t way finding =
     WellFormed t → (x : Taken) → finding ≡ findings.Sound x → IsChosen t way x
+
+-- a fault that is found is of no flag and no squared radius, whatever the map
+abbrev pub BreaksNoFlag : ChoiceFinding → Type 0
+BreaksNoFlag (findings.Refused f) = MayBreak f.rule
+BreaksNoFlag _ = ⊤
 
 -- what it gives fits, whatever the map
 abbrev pub GivesFitting : ChoiceFinding → Type 0

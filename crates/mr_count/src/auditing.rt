@@ -5,14 +5,15 @@ ghost use Rattle.mr_tree.specs.Digest.{by};
 ghost use Rattle.mr_tree.specs.Nodes.{TellsRefusal};
 ghost use Rattle.mr_clash.specs.Causes.{AuditCauses, IsHandedOn, of_nodes};
 ghost use Rattle.mr_clash.specs.QuestionFindings.{IsQuestionFinding, QuestionFindingFor, QuestionFindingCollides, FindsHonestProof, FetchesFor, opened_checked_by};
+ghost use Rattle.mr_proof.specs.Honest.{opened_for, IsProofFor};
 ghost use Rattle.mr_count.specs.Chosen.{chosen};
-ghost use Rattle.mr_count.specs.Finding.{found_for, FindsHonestChoice, GivesChosen, FindsForChoice, GivesFitting, ShowsCollision};
+ghost use Rattle.mr_count.specs.Finding.{found_for, FindsHonestChoice, GivesChosen, FindsForChoice, BreaksNoFlag, GivesFitting, ShowsCollision};
 
 use crate::chosen::{Chosen, choice_is_lawful};
 use crate::finding::finding_of;
 use crate::{Choice, ChoiceFinding};
 use mr_clash::{AuditErr, QuestionFinding, audit_question};
-use mr_proof::accepted_matches_honest;
+use mr_proof::{accepted_matches_honest, honest_proof_is_accepted};
 use mr_tree::Nodes;
 use std::alloc::Global;
 
@@ -90,6 +91,8 @@ pub fn audit_choice<N: Nodes, C: Choice>(
         (C.ways choice.now) proof.now) }
     ensures fits { IfOk result GivesFitting }
     ensures collides { IfOk result (ShowsCollision N.Hash.of) }
+    // No rule on a flag or a squared radius is broken, since there is none.
+    ensures rules { IfOk result BreaksNoFlag }
     // No more nodes are fetched than accepted bytes open, and none for bytes that are refused: by
     // the verdict against the root digest of what `top` says, and where the tree is told, of that.
     ensures fetches { FetchesFor N.Hash.of (N.stands nodes.old) (chosen kind (C.ways choice.now))
@@ -97,9 +100,16 @@ pub fn audit_choice<N: Nodes, C: Choice>(
     ensures fetched { IfSome (N.stands nodes.old).tree (λ t. N.fetches nodes.new ≤
         N.fetches nodes.old + opened_checked_by (by (N.stands nodes.old).version N.Hash.of) t
         (N.stands nodes.old).batch (chosen kind (C.ways choice.now)) proof.now) }
+    // For the honest proof these are the nodes that its cut opens.
+    ensures fetched_honest { IfSome (N.stands nodes.old).tree (λ t.
+        IsProofFor (by (N.stands nodes.old).version N.Hash.of) (chosen kind (C.ways choice.now)) t
+        (N.stands nodes.old).batch proof.now → N.fetches nodes.new ≤ N.fetches nodes.old
+        + opened_for (by (N.stands nodes.old).version N.Hash.of)
+        (chosen kind (C.ways choice.now)) t) }
 {
     choice_is_lawful(choice, kind);
     accepted_matches_honest::<N::Hash>(proof);
+    honest_proof_is_accepted::<N::Hash>();
     let top = nodes.top();
     is_word(top.batch);
     let finding = question_finding(alloc, nodes, choice, kind, proof)?;

@@ -3,8 +3,9 @@
 ghost use Rattle.std.specs.Prelude.{◌≡◌, IfOk, Err};
 ghost use Rattle.mr_record.specs.declared.version.Version.{Version};
 ghost use Rattle.mr_tree.specs.Digest.{by};
+ghost use Rattle.mr_proof.specs.declared.head.Kind.TheVariants as kinds;
 ghost use Rattle.mr_proof.specs.declared.rule.Fault.{Fault};
-ghost use Rattle.mr_proof.specs.Halves.{ShowsJust, FaultsJust};
+ghost use Rattle.mr_proof.specs.Halves.{ShowsJust, FaultsJust, StaysRefused, SpellsOneOf, FindsPairOf};
 ghost use Rattle.mr_check.specs.Judged.{AnswersCollected};
 ghost use Rattle.mr_count.specs.Chosen.{chosen, verdict_for, AnswersChoice, MayBreak, FitsTaken};
 ghost use Rattle.mr_count.specs.Accepted.{AcceptedChoiceIsHonest, AcceptsHonestChoice};
@@ -30,6 +31,9 @@ fn collected_by<H: Hashes, C: Choice>(
         result }
     ensures shows { ShowsJust H.of root.now (chosen kind (C.ways choice.now)) proof.now }
     ensures faults { FaultsJust H.of root.now (chosen kind (C.ways choice.now)) proof.now }
+    ensures longer { StaysRefused H.of root.now (chosen kind (C.ways choice.now)) proof.now }
+    ensures one_pair { SpellsOneOf (kinds.Choice kind) proof.now }
+    ensures pair { FindsPairOf (kinds.Choice kind) proof.now }
 {
     choice_is_lawful(choice, kind);
     let chosen = Chosen {
@@ -86,10 +90,15 @@ pub fn check_choice<H: Hashes, C: Choice>(
     ensures fits { IfOk result FitsTaken }
     // What accepted bytes are worth: they are the honest proof of the map with this root, and what
     // they give is of it, or the hash function has a collision. The honest proof of a map of
-    // version 2 is accepted.
+    // version 2 is accepted, and shows no collision.
     ensures accepted { (v : Version) → AcceptedChoiceIsHonest (by v H.of) kind (C.ways choice.now)
         proof.now }
     ensures complete { AcceptsHonestChoice H.of kind (C.ways choice.now) }
+    // A fault stays so behind whatever follows.
+    ensures longer { StaysRefused H.of root.now (chosen kind (C.ways choice.now)) proof.now }
+    // What the bytes spell: one head and cut at most, which reading finds.
+    ensures one_pair { SpellsOneOf (kinds.Choice kind) proof.now }
+    ensures pair { FindsPairOf (kinds.Choice kind) proof.now }
 {
     choice_is_lawful(choice, kind);
     accepted_matches_honest::<H>(proof);

@@ -20,9 +20,9 @@ use mr_proof::{Way, accepted_matches_honest};
 use mr_query::share_layer;
 use mr_tree::Hashes;
 
-/// The records that lie inside a window and are on one of some layers. A part that lies inside it,
-/// and has no other layers, is counted by its entry alone; one that only meets the window is
-/// opened.
+/// The records that lie inside a window and are on one of some layers. A part that lies inside it
+/// and has no other layers is counted by its entry alone. One that has other layers besides, or
+/// that only meets the window, is opened.
 #[derive(Clone, Copy, Debug, PartialEq, Eq)]
 pub struct Inside {
     /// In map units; what lies inside it may share its sides.

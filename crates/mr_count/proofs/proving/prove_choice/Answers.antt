@@ -10,3 +10,4 @@ returns-clause-accepted g c =
     let law = c.choice_is_lawful.ensures in
     accepts g.N.Hash.Hashes.of c.args.kind way (law.narrow None)
     (c.honest_proof_is_accepted.ensures.accepted Two (chosen c.args.kind way) law)
+    (c.honest_proof_is_accepted.ensures.quiet Two (chosen c.args.kind way) law)
