@@ -1,4 +1,4 @@
--- `audit` on a map that is opened page by page.
+-- The audits, of an answer and of a count, on a map that is opened page by page.
 use Rattle.std.proofs.Common.{◌≡◌, ℕ, ◌+◌, ◌<◌, ◌≤◌, List, length, refl, sym, ap, subst, ◌∙◌, inl, inr, arith}
 use Rattle.std.specs.Prelude.{◌⊎◌, Option, Some, None, IfSome, Result, Ok, Err}
 use Rattle.std.specs.Global.{Vec}
@@ -17,22 +17,27 @@ use Rattle.mr_tree.specs.declared.tree.Tree.{Tree}
 use Rattle.mr_pages.specs.Opening.{pages_in, of_nodes}
 use Rattle.mr_pages.specs.PageBytes.{form_of}
 use Rattle.mr_pages.specs.declared.opening.Opened.{Opened}
+use Rattle.mr_query.specs.declared.key.Key.{Key}
 use Rattle.mr_query.specs.declared.query.Query.{Query}
+use Rattle.mr_proof.specs.declared.way.Way.{Way}
 use Rattle.mr_check.specs.Versions.{proof_version}
-use Rattle.mr_clash.specs.Finding.{found, opened_accepted, ShowsCollision, FindsFor}
+use Rattle.mr_clash.specs.Finding.{found, ShowsCollision, FindsFor}
 use Rattle.mr_clash.specs.declared.finding.Finding.{Finding}
+use Rattle.mr_count.specs.Finding as choices
+use Rattle.mr_count.specs.declared.finding.ChoiceFinding.{ChoiceFinding}
 use Rattle.mr_store.specs.Kept.{room}
 use Rattle.mr_store.specs.Opening.{OpensMap}
 use Rattle.mr_store.specs.Paged.{IsSameMap, shelved, stands_for}
 use Rattle.mr_store.specs.Stored.{read_map, told_bytes}
 use Rattle.mr_store.specs.declared.paged.Paged.{Paged}
-use Rattle.mr_command.specs.Counting.{opened_beside, AllowsAudit, IsFewBeside, ReadsWithinPlan}
+use Rattle.mr_command.specs.Counting.{Opens, opened_beside, AllowsAudit, IsFewBeside, ReadsWithinPlan}
 use Rattle.mr_command.specs.Ending.{RunsPlan, ComesAsSaid, IsEndingOrHalt, NoneFalls, StopsCommand}
 use Rattle.mr_command.specs.private.Steps.{ComesBut, with_reads, map_at, IsBeside, IsUnread, ReadsInput, ReadsBeside, ReadsOpened, SaysRefusal, SaysUntold}
 use Rattle.mr_plan.specs.Outcome.{Outcome, Nothing, LeavesWritten, MayLeave}
 use Rattle.mr_plan.specs.Plan.{Plan, comes, IsAbsent, IsInput}
-use Rattle.mr_plan.specs.Say.{needs, needs_map, say_audit_of, say_finding, says_missing}
-use Rattle.mr_plan.specs.Untold.{MaySayAudit}
+use Rattle.mr_plan.specs.Counts.{count_letter, count_found}
+use Rattle.mr_plan.specs.Say.{needs, needs_beside, say_audit_of, say_audit_count_of, say_finding, say_count_finding, says_missing}
+use Rattle.mr_plan.specs.Untold.{IsRefused, MaySayAudit, MaySayAuditCount}
 use Rattle.mr_command.specs.declared.ending.Ending.{Ending}
 use Rattle.mr_command.specs.declared.ending.Halt.{Halt}
 use Rattle.mr_command.specs.declared.ending.Halt.TheVariants as halts
@@ -41,7 +46,7 @@ use Rattle.mr_command.proofs.Going.{comes_given, judged_needs}
 use Rattle.mr_command.proofs.Inputs.{goes_needed, says_bytes}
 use Rattle.mr_command.proofs.Pages.{HasMap, counted, few_beside, few_refused, few_there, has_map, told_on, was_opened, with_same}
 use Rattle.mr_command.proofs.Rereading.{comes_but, comes_told, comes_untold, fetch_blamed, fetch_stopped, says_given, says_refused, stops_with}
-use Rattle.mr_command.proofs.Verdicts.{says_finding, audit_writes, finding_writes}
+use Rattle.mr_command.proofs.Verdicts.{says_finding, says_count_finding, finding_writes, count_finding_writes}
 
 -- the same map stands for the same
 pub same_stands : {S H : Type 0} {G : shelves.Ghosts S} {K : hashes.Ghosts H} (p p' : Paged S H G K)
@@ -50,9 +55,18 @@ same_stands p p' same =
     sym (λ i. read_map (form_of (same.file.layout i)) (same.head i)
     (told_bytes (same.files i) (string_bytes (same.file.name i))))
 
+if_some : {A : Type 0} (o : Option A) (P Q : A → Type 0) → ((x : A) → P x → Q x) → IfSome o P → IfSome o Q
+if_some None P Q f p = tt
+if_some (Some x) P Q f p = f x p
+
+all_some : {A : Type 0} (o : Option A) (Q : A → Type 0) → ((x : A) → Q x) → IfSome o Q
+all_some None Q f = tt
+all_some (Some x) Q f = f x
+
 -- ---- behind the bytes of a proof
 
-module _ (hash : List ℕ → List ℕ) (map : List ℕ) (q : Query) (proof bytes : List ℕ) (old new : Shelved) (s : MapModel)
+-- whatever is said of them and of a map
+module _ (map : List ℕ) (said_on : Opened → Outcome) (old new : Shelved) (s : MapModel)
     (files : new.files ≡ old.files) (faults : old.faults ≤ new.faults) where
   -- all but what was read
   at_end : (said : Outcome) (result : Result Ending Halt) → said.written ≡ Nothing → new.faults ≡ old.faults
@@ -75,19 +89,49 @@ module _ (hash : List ℕ → List ℕ) (map : List ℕ) (q : Query) (proof byte
     few = few_none old.files said new.reads new.reads refl;
   }
 
+  -- what was found is said
+  pub said_told : (said : Outcome) (result : Result Ending Halt)
+      → IfSome s.tree (λ t. said ≡ said_on (map_at s t)) → said.written ≡ Nothing → new.faults ≡ old.faults
+      → IsEndingOrHalt said result → IfSome s.tree (λ t. ComesBut (comes (said_on (map_at s t))) old new result)
+  said_told said result is writes quiet gives =
+      if_some s.tree (λ t. said ≡ said_on (map_at s t)) (λ t. ComesBut (comes (said_on (map_at s t))) old new result)
+      (λ t same. subst (λ said. ComesBut (comes said) old new result) same (at_end said result writes quiet gives)) is
+
+  -- a node of the map was not fetched
+  pub unfetched_told : ((m : Opened) → (said_on m).written ≡ Nothing) → (e : NodesErr) (result : Result Ending Halt)
+      → HasSomeCause s old.faults new.faults e → SaysRefusal map (of_nodes e) result
+      → IfSome s.tree (λ t. ComesBut (comes (said_on (map_at s t))) old new result)
+  unfetched_told writes e result cause says = by_tree s.tree refl
+    where
+      by_tree : (o : Option Tree) → s.tree ≡ o
+          → IfSome o (λ t. ComesBut (comes (said_on (map_at s t))) old new result)
+      by_tree None told = tt
+      by_tree (Some t) told =
+          let stop = fetch_stopped map s t e old new result told cause says in
+          subst (ComesBut (comes (said_on (map_at s t))) old new) (sym stop.is)
+          (halted (said_on (map_at s t)) stop.halt (writes (map_at s t)) stop.stops)
+
+pub unfetched_untold : (hash : List ℕ → List ℕ) (map : List ℕ) (may_say : Outcome → Type 0) (old new : Shelved)
+    (s : MapModel) → ((said : Outcome) → IsRefused hash map said → may_say said) → new.files ≡ old.files
+    → (e : NodesErr) (result : Result Ending Halt) → HasSomeCause s old.faults new.faults e
+    → SaysRefusal map (of_nodes e) result → SaysUntold may_say old new result
+unfetched_untold hash map may_say old new s may files e result cause says =
+    says_refused hash may_say map may old new files (of_nodes e) result (fetch_blamed hash s e old new cause) says
+
+-- of an answer
+module _ (hash : List ℕ → List ℕ) (map : List ℕ) (q : Query) (proof bytes : List ℕ) (old new : Shelved) (s : MapModel)
+    (files : new.files ≡ old.files) (faults : old.faults ≤ new.faults) where
   pub found_told : (f : Finding) (result : Result Ending Halt)
       → IfSome s.tree (λ t. f ≡ found (by s.version hash) t s.batch q bytes) → new.faults ≡ old.faults
       → IsEndingOrHalt (say_finding (proof_version bytes) f) result
       → IfSome s.tree (λ t. ComesBut (comes (say_audit_of hash q (map_at s t) bytes)) old new result)
-  found_told f result is quiet gives = by_tree s.tree is
-    where
-      by_tree : (o : Option Tree) → IfSome o (λ t. f ≡ found (by s.version hash) t s.batch q bytes)
-          → IfSome o (λ t. ComesBut (comes (say_audit_of hash q (map_at s t) bytes)) old new result)
-      by_tree None is = tt
-      by_tree (Some t) is =
-          subst (λ said. ComesBut (comes said) old new result)
-          (says_finding hash q (map_at s t) bytes f is)
-          (at_end (say_finding (proof_version bytes) f) result (finding_writes (proof_version bytes) f) quiet gives)
+  found_told f result is quiet gives =
+      said_told map (λ m. say_audit_of hash q m bytes) old new s files faults (say_finding (proof_version bytes) f)
+      result
+      (if_some s.tree (λ t. f ≡ found (by s.version hash) t s.batch q bytes)
+      (λ t. say_finding (proof_version bytes) f ≡ say_audit_of hash q (map_at s t) bytes)
+      (λ t same. says_finding hash q (map_at s t) bytes f same) is)
+      (finding_writes (proof_version bytes) f) quiet gives
 
   pub found_untold : (f : Finding) (result : Result Ending Halt) → AreBytes bytes → FindsFor hash s q bytes f
       → ShowsCollision hash f → new.faults ≡ old.faults
@@ -98,25 +142,29 @@ module _ (hash : List ℕ → List ℕ) (map : List ℕ) (q : Query) (proof byte
       (inr (inr (bytes, f, record { stands = s; are = are; judged = judged; collides = collides }, refl)))
       (finding_writes (proof_version bytes) f) files quiet result gives
 
-  pub unfetched_told : (e : NodesErr) (result : Result Ending Halt) → HasSomeCause s old.faults new.faults e
-      → SaysRefusal map (of_nodes e) result
-      → IfSome s.tree (λ t. ComesBut (comes (say_audit_of hash q (map_at s t) bytes)) old new result)
-  unfetched_told e result cause says = by_tree s.tree refl
-    where
-      by_tree : (o : Option Tree) → s.tree ≡ o
-          → IfSome o (λ t. ComesBut (comes (say_audit_of hash q (map_at s t) bytes)) old new result)
-      by_tree None told = tt
-      by_tree (Some t) told =
-          let stop = fetch_stopped map s t e old new result told cause says in
-          subst (ComesBut (comes (say_audit_of hash q (map_at s t) bytes)) old new) (sym stop.is)
-          (halted (say_audit_of hash q (map_at s t) bytes) stop.halt (audit_writes hash q (map_at s t) bytes)
-          stop.stops)
+-- of a count
+module _ (hash : List ℕ → List ℕ) (map : List ℕ) (way : Key → Way) (proof bytes : List ℕ) (old new : Shelved)
+    (s : MapModel)
+    (files : new.files ≡ old.files) (faults : old.faults ≤ new.faults) where
+  pub count_found_told : (f : ChoiceFinding) (result : Result Ending Halt)
+      → IfSome s.tree (λ t. f ≡ count_found (by s.version hash) t s.batch way bytes) → new.faults ≡ old.faults
+      → IsEndingOrHalt (say_count_finding way f) result
+      → IfSome s.tree (λ t. ComesBut (comes (say_audit_count_of hash way (map_at s t) bytes)) old new result)
+  count_found_told f result is quiet gives =
+      said_told map (λ m. say_audit_count_of hash way m bytes) old new s files faults (say_count_finding way f) result
+      (if_some s.tree (λ t. f ≡ count_found (by s.version hash) t s.batch way bytes)
+      (λ t. say_count_finding way f ≡ say_audit_count_of hash way (map_at s t) bytes)
+      (λ t same. says_count_finding hash way (map_at s t) bytes f same) is)
+      (count_finding_writes way f) quiet gives
 
-  pub unfetched_untold : (e : NodesErr) (result : Result Ending Halt) → HasSomeCause s old.faults new.faults e
-      → SaysRefusal map (of_nodes e) result → SaysUntold (MaySayAudit hash map q proof) old new result
-  unfetched_untold e result cause says =
-      says_refused hash (MaySayAudit hash map q proof) map (λ said is. inl is) old new files (of_nodes e) result
-      (fetch_blamed hash s e old new cause) says
+  pub count_found_untold : (f : ChoiceFinding) (result : Result Ending Halt) → AreBytes bytes
+      → choices.FindsForChoice hash s count_letter way bytes f → choices.ShowsCollision hash f
+      → new.faults ≡ old.faults → IsEndingOrHalt (say_count_finding way f) result
+      → SaysUntold (MaySayAuditCount hash map way proof) old new result
+  count_found_untold f result are judged collides quiet gives =
+      says_given (MaySayAuditCount hash map way proof) (say_count_finding way f) old new
+      (inr (inr (bytes, f, record { stands = s; are = are; judged = judged; collides = collides }, refl)))
+      (count_finding_writes way f) files quiet result gives
 
 -- ---- behind the file of a proof
 
@@ -183,57 +231,52 @@ untold_from may_say old mid new (Ok ending) files faults says = (
 untold_from may_say old mid new (Err halt) files faults says =
     (stops_before old mid new halt faults says.0, says.1 ∙ files)
 
-if_some : {A : Type 0} (o : Option A) (P Q : A → Type 0) → ((x : A) → P x → Q x) → IfSome o P → IfSome o Q
-if_some None P Q f p = tt
-if_some (Some x) P Q f p = f x p
-
-all_some : {A : Type 0} (o : Option A) (Q : A → Type 0) → ((x : A) → Q x) → IfSome o Q
-all_some None Q f = tt
-all_some (Some x) Q f = f x
-
 -- ---- how many reads
 
-module _ (hash : List ℕ → List ℕ) (q : Query) (s : MapModel) (pages : ℕ) (proof : List ℕ) (old mid new : Shelved) where
+module _ (hash : List ℕ → List ℕ) (opened_nodes : Opens) (s : MapModel) (pages : ℕ) (proof : List ℕ)
+    (old mid new : Shelved) where
   -- the proof, and what is read of the map beside it
   pub read_beside : (bytes : Vec ℕ) → ReadsInput proof old mid (Ok bytes)
-      → ReadsOpened hash q s pages bytes.items mid new → ReadsBeside hash q s pages proof old new
+      → ReadsOpened hash opened_nodes s pages bytes.items mid new → ReadsBeside hash opened_nodes s pages proof old new
   read_beside bytes is opened =
       if_some s.tree (λ t. (new.reads ≡ mid.reads) ⊎ ((room + 1 < pages)
-      × (new.reads ≤ mid.reads + opened_accepted (by s.version hash) t s.batch q bytes.items)))
+      × (new.reads ≤ mid.reads + opened_nodes (by s.version hash) t s.batch bytes.items)))
       (λ t. OfFiles old.files (λ files.
-      IsBeside (by s.version hash) t s.batch q pages (file files proof) old.reads new.reads))
+      IsBeside opened_nodes (by s.version hash) t s.batch pages (file files proof) old.reads new.reads))
       (λ t. by_files t old.files is.read.0 is.once) opened
     where
       by_files : (t : Tree) (o : Option Files) → IsInput o proof (Some bytes.items)
           → OnceFrom o proof old.reads mid.reads
           → (new.reads ≡ mid.reads) ⊎ ((room + 1 < pages)
-          × (new.reads ≤ mid.reads + opened_accepted (by s.version hash) t s.batch q bytes.items))
-          → OfFiles o (λ files. IsBeside (by s.version hash) t s.batch q pages (file files proof) old.reads new.reads)
+          × (new.reads ≤ mid.reads + opened_nodes (by s.version hash) t s.batch bytes.items))
+          → OfFiles o (λ files.
+          IsBeside opened_nodes (by s.version hash) t s.batch pages (file files proof) old.reads new.reads)
       by_files t None input once opened = tt
       by_files t (Some files) input once (inl same) = inl (omega (arith, once, same))
       by_files t (Some files) input once (inr large) =
-          let here = ap (opened_beside (by s.version hash) t s.batch q) input in
+          let here = ap (opened_beside opened_nodes (by s.version hash) t s.batch) input in
           inr (large.0, omega (arith, once, large.1, here))
 
   -- nothing is read beside it
   pub alone_beside : (result : Result (Vec ℕ) (Result Ending Halt)) → ReadsInput proof old new result
-      → ReadsBeside hash q s pages proof old new
+      → ReadsBeside hash opened_nodes s pages proof old new
   alone_beside result got =
       all_some s.tree (λ t. OfFiles old.files (λ files.
-      IsBeside (by s.version hash) t s.batch q pages (file files proof) old.reads new.reads))
+      IsBeside opened_nodes (by s.version hash) t s.batch pages (file files proof) old.reads new.reads))
       (λ t. by_files t old.files got.once)
     where
       by_files : (t : Tree) (o : Option Files) → OnceFrom o proof old.reads new.reads
-          → OfFiles o (λ files. IsBeside (by s.version hash) t s.batch q pages (file files proof) old.reads new.reads)
+          → OfFiles o (λ files.
+          IsBeside opened_nodes (by s.version hash) t s.batch pages (file files proof) old.reads new.reads)
       by_files t None once = tt
       by_files t (Some files) once = inl once
 
 -- ---- what is said
 
-module _ (hash : List ℕ → List ℕ) (map : List ℕ) (q : Query) (proof : List ℕ) (old mid new : Shelved)
+module _ (said : Opened → List ℕ → Outcome) (may_say : Outcome → Type 0) (proof : List ℕ) (old mid new : Shelved)
     (s : MapModel) where
   abbrev said_of : Tree → List ℕ → Outcome
-  said_of t bytes = say_audit_of hash q (map_at s t) bytes
+  said_of t bytes = said (map_at s t) bytes
 
   pub read_told : (bytes : Vec ℕ) (result : Result Ending Halt) → ReadsInput proof old mid (Ok bytes)
       → IfSome s.tree (λ t. ComesBut (comes (said_of t bytes.items)) mid new result)
@@ -245,10 +288,8 @@ module _ (hash : List ℕ → List ℕ) (map : List ℕ) (q : Query) (proof : Li
       (says_bytes (said_of t) old.files) (Ok bytes) (reads_both new.reads proof old mid bytes got) new result on) on
 
   pub read_untold : (bytes : Vec ℕ) (result : Result Ending Halt) → ReadsInput proof old mid (Ok bytes)
-      → SaysUntold (MaySayAudit hash map q proof) mid new result
-      → SaysUntold (MaySayAudit hash map q proof) old new result
-  read_untold bytes result got says =
-      untold_from (MaySayAudit hash map q proof) old mid new result got.files got.read.2 says
+      → SaysUntold may_say mid new result → SaysUntold may_say old new result
+  read_untold bytes result got says = untold_from may_say old mid new result got.files got.read.2 says
 
   -- where it was not read
   pub unread_told : (came : Result Ending Halt) → ReadsInput proof old new (Err came)
@@ -258,36 +299,34 @@ module _ (hash : List ℕ → List ℕ) (map : List ℕ) (q : Query) (proof : Li
       (λ t. goes_needed proof (λ b. comes (said_of t b)) (with_reads new.reads old) new
       (says_bytes (said_of t) old.files) (Err came) (reads_but proof old new came got))
 
-  pub unread_untold : (came : Result Ending Halt) → ReadsInput proof old new (Err came) → old.files ≡ None
-      → SaysUntold (MaySayAudit hash map q proof) old new came
-  unread_untold came got none =
-      says_unread (MaySayAudit hash map q proof) proof old new came (inr (inl refl)) none got
+  pub unread_untold : may_say (says_missing proof) → (came : Result Ending Halt) → ReadsInput proof old new (Err came)
+      → old.files ≡ None → SaysUntold may_say old new came
+  unread_untold may came got none = says_unread may_say proof old new came may none got
 
 -- ---- the whole of it
 
-pub auditing_unopened : (hash : List ℕ → List ℕ) (map : List ℕ) (q : Query) (proof : List ℕ) (before after : Shelved)
+pub auditing_unopened : (hash : List ℕ → List ℕ) (map : List ℕ) (opened_nodes : Opens) (proof : List ℕ)
+    (before after : Shelved)
     → OfFile before.files map (after.reads ≡ before.reads) (λ bytes. after.reads ≤ before.reads + pages_in bytes)
-    → ReadsWithinPlan (AllowsAudit hash map q proof) before after
-auditing_unopened hash map q proof before after few =
+    → ReadsWithinPlan (AllowsAudit hash map opened_nodes proof) before after
+auditing_unopened hash map opened_nodes proof before after few =
     few_refused before.files map before.reads after.reads
-    (λ files bytes n. IsFewBeside hash q bytes (file files proof) n) (λ files bytes. inl (omega arith)) few
+    (λ files bytes n. IsFewBeside hash opened_nodes bytes (file files proof) n) (λ files bytes. inl (omega arith)) few
 
 module _ {S H : Type 0} {G : shelves.Ghosts S} {K : hashes.Ghosts H} (hash : List ℕ → List ℕ)
-    (sized : (xs : List ℕ) → length (hash xs) ≡ 32) (map : List ℕ) (q : Query) (proof : List ℕ)
+    (sized : (xs : List ℕ) → length (hash xs) ≡ 32) (map : List ℕ) (opened_nodes : Opens)
+    (said : Opened → List ℕ → Outcome) (may : Outcome → Type 0) (proof : List ℕ)
     (before end : Shelved) (p : Paged S H G K) (o : OpensMap hash map before p)
     (counts : NoneFalls (shelved p) end)
-    (beside : ReadsBeside hash q (stands_for p) p.head.pages proof (shelved p) end) where
+    (beside : ReadsBeside hash opened_nodes (stands_for p) p.head.pages proof (shelved p) end) where
   abbrev on_map : Opened → Plan
-  on_map m = needs proof (λ bytes. comes (say_audit_of hash q m bytes))
+  on_map m = needs proof (λ bytes. comes (said m bytes))
 
   abbrev plan : Plan
-  plan = needs_map hash map on_map
-
-  abbrev may : Outcome → Type 0
-  may = MaySayAudit hash map q proof
+  plan = needs_beside hash map proof said
 
   abbrev allows : Files → ℕ → Type 0
-  allows = AllowsAudit hash map q proof
+  allows = AllowsAudit hash map opened_nodes proof
 
   abbrev s : MapModel
   s = stands_for p
@@ -300,21 +339,23 @@ module _ {S H : Type 0} {G : shelves.Ghosts S} {K : hashes.Ghosts H} (hash : Lis
   few_audited files told has =
       let is = counted hash sized map before p o files told has in
       few_there before.files files map has.bytes before.reads end.reads
-      (λ files bytes n. IsFewBeside hash q bytes (file files proof) n) told has.input
-      (few_beside hash q p.head.pages has.bytes (file files proof) before.reads mid.reads end.reads has.tree s.batch
-      is.stands is.pages is.few
-      (subst (λ v. IsBeside (by v hash) has.tree s.batch q p.head.pages (file files proof) mid.reads end.reads)
+      (λ files bytes n. IsFewBeside hash opened_nodes bytes (file files proof) n) told has.input
+      (few_beside hash opened_nodes p.head.pages has.bytes (file files proof) before.reads mid.reads end.reads has.tree
+      s.batch is.stands is.pages is.few
+      (subst (λ v. IsBeside opened_nodes (by v hash) has.tree s.batch p.head.pages (file files proof) mid.reads
+      end.reads)
       (sym is.own)
-      (subst (λ o. OfFiles o (λ files. IsBeside (by s.version hash) has.tree s.batch q p.head.pages (file files proof)
-      mid.reads end.reads))
+      (subst (λ o. OfFiles o (λ files. IsBeside opened_nodes (by s.version hash) has.tree s.batch p.head.pages
+      (file files proof) mid.reads end.reads))
       (o.files ∙ told)
-      (subst (λ o. IfSome o (λ t. OfFiles mid.files (λ files. IsBeside (by s.version hash) t s.batch q p.head.pages
-      (file files proof) mid.reads end.reads))) has.told beside))))
+      (subst (λ o. IfSome o (λ t. OfFiles mid.files (λ files. IsBeside opened_nodes (by s.version hash) t s.batch
+      p.head.pages (file files proof) mid.reads end.reads))) has.told beside))))
 
-  pub audited : (result : Result Ending Halt) → IfSome s.tree (λ t. ComesBut (on_map (map_at s t)) mid end result)
+  pub audited : ((said : Outcome) → IsRefused hash map said → may said) → (result : Result Ending Halt)
+      → IfSome s.tree (λ t. ComesBut (on_map (map_at s t)) mid end result)
       → (mid.files ≡ None → SaysUntold may mid end result)
       → ComesAsSaid plan may allows before end result
-  audited result told_so untold_so = by_files before.files refl
+  audited may_refuse result told_so untold_so = by_files before.files refl
     where
       all : NoneFalls before end
       all = record { faults = omega (arith, o.quiet, counts.faults); reads = omega (arith, o.more, counts.reads) }
@@ -322,13 +363,13 @@ module _ {S H : Type 0} {G : shelves.Ghosts S} {K : hashes.Ghosts H} (hash : Lis
       by_files : (f : Option Files) → before.files ≡ f
           → ComesAsSaid plan may allows before end result
       by_files None none =
-          comes_untold plan may allows before end none (says_missing map, inl (inl refl)) result all
-          (untold_from may before mid end result o.files o.quiet (untold_so (o.files ∙ none)))
+          comes_untold plan may allows before end none (says_missing map, may_refuse (says_missing map) (inl refl))
+          result all (untold_from may before mid end result o.files o.quiet (untold_so (o.files ∙ none)))
       by_files (Some files) told =
           let w = was_opened hash map before p o in
           let has = has_map hash sized map before s mid w files told in
           comes_told plan may allows before end files told result all.reads
           (few_audited files told has)
           (told_on hash sized map before s mid w on_map
-          (λ m. judged_needs proof (say_audit_of hash q m) before.files) has end result
+          (λ m. judged_needs proof (said m) before.files) has end result
           (subst (λ o. IfSome o (λ t. ComesBut (on_map (map_at s t)) mid end result)) has.told told_so))

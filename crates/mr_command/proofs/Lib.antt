@@ -16,6 +16,7 @@ pub mod Taking
 pub mod ToFault
 pub mod Verdicts
 pub mod Audits
+pub mod CountProofs
 pub mod Served
 pub mod Bundles
 pub mod Piecewise

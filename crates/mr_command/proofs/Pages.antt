@@ -1,6 +1,6 @@
--- `prove` and `audit` on a map that is opened page by page.
+-- Proofs that are made of a map that is opened page by page, or compared with it.
 use Rattle.std.proofs.Common.{◌≡◌, ℕ, ◌+◌, ◌*◌, ◌/◌, ◌<◌, ◌≤◌, List, length, refl, sym, ap, subst, ◌∙◌, inl, inr, arith}
-use Rattle.std.specs.Prelude.{⊤, ◌⊎◌, true, false, max, ltb, Option, Some, None, is_some, IfOk, IfErr, IfSome, IsSome, OnOk, MatchOption, Result, Ok, Err}
+use Rattle.std.specs.Prelude.{⊤, ◌⊎◌, true, false, max, ltb, Option, Some, None, IfOk, IfErr, IfSome, IsSome, OnOk, MatchOption, Result, Ok, Err}
 use Rattle.mr_outside.specs.Files.{Files, file}
 use Rattle.mr_outside.specs.Faults.{last_count}
 use Rattle.mr_outside.specs.State.{Shelved}
@@ -19,17 +19,15 @@ use Rattle.mr_pages.specs.File.{form_at, version_of}
 use Rattle.mr_pages.specs.Law.{AgreesWithFault, IsMap, IsMapFile, map_in}
 use Rattle.mr_pages.specs.Opening.{FailsWithoutFault, SomeFile, TellsBytes, pages_in, of_nodes}
 use Rattle.mr_pages.specs.Page.{Form}
-use Rattle.mr_pages.specs.PageBytes.{form_by, page_size}
+use Rattle.mr_pages.specs.PageBytes.{form_by}
 use Rattle.mr_pages.specs.declared.error.MapErr.{MapErr}
 use Rattle.mr_pages.specs.declared.error.MapErr.TheVariants as errors
 use Rattle.mr_pages.specs.declared.opening.Opened.{Opened}
 use Rattle.std.proofs.lemmas.Bool.{cases_Bool, ltb-true, ltb-false}
 use Rattle.mr_pages.proofs.Agreement.{agrees}
 use Rattle.mr_pages.proofs.Answered.{form_by_is, stands_version}
-use Rattle.mr_query.specs.declared.query.Query.{Query}
-use Rattle.mr_proof.specs.Honest.{proof as honest_proof, opened}
-use Rattle.mr_prove.specs.Causes.{rounds}
-use Rattle.mr_clash.specs.Finding.{opened_accepted}
+use Rattle.mr_proof.specs.Tight.{Question}
+use Rattle.mr_proof.specs.Honest.{proof_for, opened_for}
 use Rattle.mr_pages.specs.declared.head.MapHead.{MapHead}
 use Rattle.mr_store.specs.CachedFile.{name_of, page_form}
 use Rattle.mr_store.specs.Kept.{room}
@@ -37,15 +35,15 @@ use Rattle.mr_store.specs.Opening.{OpensMap, RefusesMap, TellsMap, page_total}
 use Rattle.mr_store.specs.Paged.{Keeps, ReadsFew as FewFetches, shelved, stands_for}
 use Rattle.mr_store.specs.Stored.{read_map, told_bytes}
 use Rattle.mr_store.specs.declared.paged.Paged.{Paged}
-use Rattle.mr_command.specs.Counting.{pieces_of, opened_beside, AllowsProve, IsFewOf, IsFewBeside, ReadsWithinPlan}
-use Rattle.mr_command.specs.Ending.{RunsPlan, ComesAsSaid, AreJudged, IsEndingOrHalt, NoneFalls, StopsCommand}
+use Rattle.mr_command.specs.Counting.{pieces_of, Opens, opened_beside, AllowsProof, IsFewOf, IsFewBeside, ReadsWithinPlan}
+use Rattle.mr_command.specs.Ending.{RunsPlan, ComesAsSaid, IsEndingOrHalt, NoneFalls, StopsCommand}
 use Rattle.mr_command.specs.private.Steps.{ComesBut, with_reads, map_at, GoesOn, HasReadMap, IsBeside, IsJudged, KeepsProof, ReadsOpened, SaysRefusal}
 use Rattle.mr_command.specs.private.Inputs.{IsUnopened, WasOpened}
 use Rattle.mr_plan.specs.Lines.{needs_version_2_line}
 use Rattle.mr_plan.specs.Outcome.{Outcome}
 use Rattle.mr_plan.specs.Plan.{Plan, comes, Input, IsInput}
-use Rattle.mr_plan.specs.Say.{ends, lacks_proof, unless_lacking, needs_map, say_prove_of, say_written, says_missing}
-use Rattle.mr_plan.specs.Untold.{IsRefused, MaySayProve}
+use Rattle.mr_plan.specs.Say.{ends, lacks_proof_for, unless_lacking, needs_map, say_proof_of, say_written, says_missing}
+use Rattle.mr_plan.specs.Untold.{IsRefused, MaySayProof}
 use Rattle.mr_plan.specs.declared.status.Status.TheVariants.{NeedsVersion2}
 use Rattle.mr_command.specs.declared.ending.Ending.{Ending}
 use Rattle.mr_command.specs.declared.ending.Halt.{Halt}
@@ -330,13 +328,14 @@ module _ {S H : Type 0} {G : shelves.Ghosts S} {K : hashes.Ghosts H} (hash : Lis
   }
 
 -- so few where a map is opened and its nodes are fetched for a proof
-few_pages : (hash : List ℕ → List ℕ) (q : Query) (pages : ℕ) (bytes : List ℕ) (r m e f : ℕ) (t : Tree) (batch : ℕ)
-    → IsMapFile hash bytes (map_in (version_of bytes) t batch) → lacks_proof (version_of bytes) q ≡ false
+few_pages : (hash : List ℕ → List ℕ) (times : ℕ) (a : Question) (pages : ℕ) (bytes : List ℕ) (r m e f : ℕ)
+    (t : Tree) (batch : ℕ)
+    → IsMapFile hash bytes (map_in (version_of bytes) t batch) → lacks_proof_for (version_of bytes) a ≡ false
     → pages ≡ pages_in bytes → m ≤ r + pages_in bytes → (pages ≤ room + 1 → e ≡ m) → FewFetches m 0 e f
-    → e ≤ max m last_count → f ≤ 0 + rounds q * opened (by (version_of bytes) hash) t q
-    → (n : ℕ) × (e ≤ r + n) × IsFewOf hash q bytes n
-few_pages hash q pages bytes r m e f t batch stands has_proof pages_are few still fetched most bound =
-    let all : ℕ = pages_in bytes + rounds q * opened (by (version_of bytes) hash) t q in
+    → e ≤ max m last_count → f ≤ 0 + times * opened_for (by (version_of bytes) hash) a t
+    → (n : ℕ) × (e ≤ r + n) × IsFewOf hash times a bytes n
+few_pages hash times a pages bytes r m e f t batch stands has_proof pages_are few still fetched most bound =
+    let all : ℕ = pages_in bytes + times * opened_for (by (version_of bytes) hash) a t in
     elim (cases_Bool (ltb (room + 1) pages)) [
       | inl large ↦ (
         all,
@@ -355,29 +354,31 @@ few_pages hash q pages bytes r m e f t batch stands has_proof pages_are few stil
     ]
 
 -- the same beside a proof, whose pieces come on top
-pub few_beside : (hash : List ℕ → List ℕ) (q : Query) (pages : ℕ) (bytes : List ℕ) (proof : Input) (r m e : ℕ)
-    (t : Tree) (batch : ℕ) → IsMapFile hash bytes (map_in (version_of bytes) t batch) → pages ≡ pages_in bytes
-    → m ≤ r + pages_in bytes → IsBeside (by (version_of bytes) hash) t batch q pages proof m e
-    → (n : ℕ) × (e ≤ r + n) × IsFewBeside hash q bytes proof n
-few_beside hash q pages bytes proof r m e t batch stands pages_are few (inl small) = (
+pub few_beside : (hash : List ℕ → List ℕ) (opened_nodes : Opens) (pages : ℕ) (bytes : List ℕ) (proof : Input)
+    (r m e : ℕ) (t : Tree) (batch : ℕ) → IsMapFile hash bytes (map_in (version_of bytes) t batch)
+    → pages ≡ pages_in bytes → m ≤ r + pages_in bytes
+    → IsBeside opened_nodes (by (version_of bytes) hash) t batch pages proof m e
+    → (n : ℕ) × (e ≤ r + n) × IsFewBeside hash opened_nodes bytes proof n
+few_beside hash opened_nodes pages bytes proof r m e t batch stands pages_are few (inl small) = (
   pages_in bytes + pieces_of proof,
   omega (arith, few, small),
   inr (t, batch, stands, inl (omega arith)),
 )
-few_beside hash q pages bytes proof r m e t batch stands pages_are few (inr large) =
-    let all : ℕ = pages_in bytes + pieces_of proof + opened_beside (by (version_of bytes) hash) t batch q proof in (
+few_beside hash opened_nodes pages bytes proof r m e t batch stands pages_are few (inr large) =
+    let opened : ℕ = opened_beside opened_nodes (by (version_of bytes) hash) t batch proof in
+    let all : ℕ = pages_in bytes + pieces_of proof + opened in (
       all,
       omega (arith, few, large.1),
       inr (t, batch, stands, inr (subst (λ n. room + 1 < n) pages_are large.0, omega arith)),
     )
 
 -- how many reads the fetches of an audit take
-pub reads_opened : {S H : Type 0} {G : shelves.Ghosts S} {K : hashes.Ghosts H} (hash : List ℕ → List ℕ) (q : Query)
-    (bytes : List ℕ) (p p' : Paged S H G K) → Keeps p p'
+pub reads_opened : {S H : Type 0} {G : shelves.Ghosts S} {K : hashes.Ghosts H} (hash : List ℕ → List ℕ)
+    (opened_nodes : Opens) (bytes : List ℕ) (p p' : Paged S H G K) → Keeps p p'
     → IfSome (stands_for p).tree
-    (λ t. p'.fetches ≤ p.fetches + opened_accepted (by (stands_for p).version hash) t (stands_for p).batch q bytes)
-    → p.fetches ≡ 0 → ReadsOpened hash q (stands_for p) p.head.pages bytes (shelved p) (shelved p')
-reads_opened hash q bytes p p' kept fetched none = by_tree (stands_for p).tree refl fetched
+    (λ t. p'.fetches ≤ p.fetches + opened_nodes (by (stands_for p).version hash) t (stands_for p).batch bytes)
+    → p.fetches ≡ 0 → ReadsOpened hash opened_nodes (stands_for p) p.head.pages bytes (shelved p) (shelved p')
+reads_opened hash opened_nodes bytes p p' kept fetched none = by_tree (stands_for p).tree refl fetched
   where
     batch : ℕ
     batch = (stands_for p).batch
@@ -385,9 +386,9 @@ reads_opened hash q bytes p p' kept fetched none = by_tree (stands_for p).tree r
     scheme : Scheme
     scheme = by (stands_for p).version hash
 
-    few : (t : Tree) → IsSome (shelved p).files → p'.fetches ≤ p.fetches + opened_accepted scheme t batch q bytes
+    few : (t : Tree) → IsSome (shelved p).files → p'.fetches ≤ p.fetches + opened_nodes scheme t batch bytes
         → ((shelved p').reads ≡ (shelved p).reads) ⊎ ((room + 1 < p.head.pages)
-        × ((shelved p').reads ≤ (shelved p).reads + opened_accepted scheme t batch q bytes))
+        × ((shelved p').reads ≤ (shelved p).reads + opened_nodes scheme t batch bytes))
     few t there bound = elim (cases_Bool (ltb (room + 1) p.head.pages)) [
       | inl large ↦ inr (
         ltb-true (room + 1) p.head.pages large,
@@ -400,9 +401,9 @@ reads_opened hash q bytes p p' kept fetched none = by_tree (stands_for p).tree r
     ]
 
     by_tree : (o : Option Tree) → (stands_for p).tree ≡ o
-        → IfSome o (λ t. p'.fetches ≤ p.fetches + opened_accepted scheme t batch q bytes)
+        → IfSome o (λ t. p'.fetches ≤ p.fetches + opened_nodes scheme t batch bytes)
         → IfSome o (λ t. ((shelved p').reads ≡ (shelved p).reads) ⊎ ((room + 1 < p.head.pages)
-        × ((shelved p').reads ≤ (shelved p).reads + opened_accepted scheme t batch q bytes)))
+        × ((shelved p').reads ≤ (shelved p).reads + opened_nodes scheme t batch bytes)))
     by_tree None is bound = tt
     by_tree (Some t) is bound = few t (files_told p (subst IsSome (sym is) refl)) bound
 
@@ -451,32 +452,33 @@ unopened_map hash sized map before may_say allows next goes may after result is 
 
 -- ---- a proof that is made
 
-pub proving_unopened : (hash : List ℕ → List ℕ) (map : List ℕ) (q : Query) (before after : Shelved)
+pub proving_unopened : (hash : List ℕ → List ℕ) (map : List ℕ) (times : ℕ) (a : Question) (before after : Shelved)
     → OfFile before.files map (after.reads ≡ before.reads) (λ bytes. after.reads ≤ before.reads + pages_in bytes)
-    → ReadsWithinPlan (AllowsProve hash map q) before after
-proving_unopened hash map q before after few =
-    few_refused before.files map before.reads after.reads (λ files bytes n. IsFewOf hash q bytes n)
+    → ReadsWithinPlan (AllowsProof hash map times a) before after
+proving_unopened hash map times a before after few =
+    few_refused before.files map before.reads after.reads (λ files bytes n. IsFewOf hash times a bytes n)
     (λ files bytes. inl (omega arith)) few
 
--- only a query that names a mask has no proof
-masked_of : (v : Version) (q : Query) → lacks_proof v q ≡ true → is_some q.mask ≡ true
-masked_of One q lacks = lacks
-masked_of Two q lacks = absurd cc
+-- only of what has proofs of the second version alone there is none
+two_only_of : (v : Version) (a : Question) → lacks_proof_for v a ≡ true → a.two_only ≡ true
+two_only_of One a lacks = lacks
+two_only_of Two a lacks = absurd cc
 
-says_lacking : (hash : List ℕ → List ℕ) (q : Query) (name : List ℕ) (map : Opened) → lacks_proof map.version q ≡ true
-    → ends NeedsVersion2 needs_version_2_line ≡ say_prove_of hash q name map
-unfolding say_prove_of
-says_lacking hash q name map lacks =
-    ap (λ b. unless_lacking b (say_written name (honest_proof (by map.version hash) map.tree map.batch q))) (sym lacks)
+says_lacking : (hash : List ℕ → List ℕ) (a : Question) (name : List ℕ) (map : Opened)
+    → lacks_proof_for map.version a ≡ true → ends NeedsVersion2 needs_version_2_line ≡ say_proof_of hash a name map
+unfolding say_proof_of
+says_lacking hash a name map lacks =
+    ap (λ b. unless_lacking b (say_written name (proof_for (by map.version hash) a map.tree map.batch))) (sym lacks)
 
--- the map has no proof for the query, so none is made
+-- the map has no proof of what is asked, so none is made
 pub unproved : {S H : Type 0} {G : shelves.Ghosts S} {K : hashes.Ghosts H} (hash : List ℕ → List ℕ)
-    (sized : (xs : List ℕ) → length (hash xs) ≡ 32) (map : List ℕ) (q : Query) (proof : List ℕ) (before : Shelved)
-    (p : Paged S H G K) → OpensMap hash map before p → lacks_proof (stands_for p).version q ≡ true
+    (sized : (xs : List ℕ) → length (hash xs) ≡ 32) (map : List ℕ) (times : ℕ) (a : Question) (proof : List ℕ)
+    (before : Shelved) (p : Paged S H G K) → OpensMap hash map before p
+    → lacks_proof_for (stands_for p).version a ≡ true
     → (result : Result Ending Halt) → IsEndingOrHalt (ends NeedsVersion2 needs_version_2_line) result
-    → ComesAsSaid (needs_map hash map (λ m. comes (say_prove_of hash q proof m))) (MaySayProve hash map q proof)
-    (AllowsProve hash map q) before (shelved p) result
-unproved hash sized map q proof before p o lacks result gives = by_files before.files refl
+    → ComesAsSaid (needs_map hash map (λ m. comes (say_proof_of hash a proof m))) (MaySayProof hash map a proof)
+    (AllowsProof hash map times a) before (shelved p) result
+unproved hash sized map times a proof before p o lacks result gives = by_files before.files refl
   where
     mid : Shelved
     mid = shelved p
@@ -485,48 +487,49 @@ unproved hash sized map q proof before p o lacks result gives = by_files before.
     said = ends NeedsVersion2 needs_version_2_line
 
     plan : Plan
-    plan = needs_map hash map (λ m. comes (say_prove_of hash q proof m))
+    plan = needs_map hash map (λ m. comes (say_proof_of hash a proof m))
 
-    may : MaySayProve hash map q proof said
-    may = inr (inl (masked_of (stands_for p).version q lacks, refl))
+    may : MaySayProof hash map a proof said
+    may = inr (inl (two_only_of (stands_for p).version a lacks, refl))
 
-    few : ReadsWithinPlan (AllowsProve hash map q) before mid
-    few = proving_unopened hash map q before mid (there_of before.files map (mid.reads ≡ before.reads)
+    few : ReadsWithinPlan (AllowsProof hash map times a) before mid
+    few = proving_unopened hash map times a before mid (there_of before.files map (mid.reads ≡ before.reads)
         (λ bytes. mid.reads ≤ before.reads + pages_in bytes) o.reads)
 
     by_files : (f : Option Files) → before.files ≡ f
-        → ComesAsSaid plan (MaySayProve hash map q proof) (AllowsProve hash map q) before mid result
+        → ComesAsSaid plan (MaySayProof hash map a proof) (AllowsProof hash map times a) before mid result
     by_files None none =
-        comes_untold plan (MaySayProve hash map q proof) (AllowsProve hash map q) before mid none (said, may) result
-        (record { faults = omega (arith, o.quiet); reads = o.more })
-        (says_given (MaySayProve hash map q proof) said before mid may refl o.files o.quiet result gives)
+        comes_untold plan (MaySayProof hash map a proof) (AllowsProof hash map times a) before mid none (said, may)
+        result (record { faults = omega (arith, o.quiet); reads = o.more })
+        (says_given (MaySayProof hash map a proof) said before mid may refl o.files o.quiet result gives)
     by_files (Some files) told =
         let w = was_opened hash map before p o in
         let has = has_map hash sized map before (stands_for p) mid w files told in
-        comes_told plan (MaySayProve hash map q proof) (AllowsProve hash map q) before mid files told result o.more few
-        (told_on hash sized map before (stands_for p) mid w (λ m. comes (say_prove_of hash q proof m)) (λ m. tt) has mid
+        comes_told plan (MaySayProof hash map a proof) (AllowsProof hash map times a) before mid files told result
+        o.more few
+        (told_on hash sized map before (stands_for p) mid w (λ m. comes (say_proof_of hash a proof m)) (λ m. tt) has mid
         result
         (subst (λ o. RunsPlan (comes o) mid mid result)
-        (says_lacking hash q proof (map_at (stands_for p) has.tree) lacks)
+        (says_lacking hash a proof (map_at (stands_for p) has.tree) lacks)
         (comes_given said mid result refl gives)))
 
 module _ {S H : Type 0} {G : shelves.Ghosts S} {K : hashes.Ghosts H} (hash : List ℕ → List ℕ)
-    (sized : (xs : List ℕ) → length (hash xs) ≡ 32) (map : List ℕ) (q : Query) (proof : List ℕ)
+    (sized : (xs : List ℕ) → length (hash xs) ≡ 32) (map : List ℕ) (times : ℕ) (a : Question) (proof : List ℕ)
     (before after : Shelved) (p p' : Paged S H G K) (o : OpensMap hash map before p)
-    (has_proof : lacks_proof (stands_for p).version q ≡ false) (kept : Keeps p p')
+    (has_proof : lacks_proof_for (stands_for p).version a ≡ false) (kept : Keeps p p')
     (fetched : IfSome (stands_for p).tree
-    (λ t. p'.fetches ≤ p.fetches + rounds q * opened (by (stands_for p).version hash) t q)) where
+    (λ t. p'.fetches ≤ p.fetches + times * opened_for (by (stands_for p).version hash) a t)) where
   abbrev on_map : Opened → Plan
-  on_map m = comes (say_prove_of hash q proof m)
+  on_map m = comes (say_proof_of hash a proof m)
 
   abbrev plan : Plan
   plan = needs_map hash map on_map
 
   abbrev may : Outcome → Type 0
-  may = MaySayProve hash map q proof
+  may = MaySayProof hash map a proof
 
   abbrev allows : Files → ℕ → Type 0
-  allows = AllowsProve hash map q
+  allows = AllowsProof hash map times a
 
   abbrev s : MapModel
   s = stands_for p
@@ -546,20 +549,20 @@ module _ {S H : Type 0} {G : shelves.Ghosts S} {K : hashes.Ghosts H} (hash : Lis
       → ReadsWithinPlan allows before after
   few_proved unread files told has =
       let is = counted hash sized map before p o files told has in
-      let bound = subst (λ o. IfSome o (λ t. p'.fetches ≤ p.fetches + rounds q * opened (by s.version hash) t q))
+      let bound = subst (λ o. IfSome o (λ t. p'.fetches ≤ p.fetches + times * opened_for (by s.version hash) a t))
       has.told fetched in
-      few_there before.files files map has.bytes before.reads after.reads (λ files bytes n. IsFewOf hash q bytes n) told
-      has.input
-      (subst (λ e. (n : ℕ) × (e ≤ before.reads + n) × IsFewOf hash q has.bytes n) (sym unread)
-      (few_pages hash q p.head.pages has.bytes before.reads mid.reads end.reads p'.fetches has.tree s.batch is.stands
-      (subst (λ v. lacks_proof v q ≡ false) (sym is.own) has_proof) is.pages is.few
+      few_there before.files files map has.bytes before.reads after.reads
+      (λ files bytes n. IsFewOf hash times a bytes n) told has.input
+      (subst (λ e. (n : ℕ) × (e ≤ before.reads + n) × IsFewOf hash times a has.bytes n) (sym unread)
+      (few_pages hash times a p.head.pages has.bytes before.reads mid.reads end.reads p'.fetches has.tree s.batch
+      is.stands (subst (λ v. lacks_proof_for v a ≡ false) (sym is.own) has_proof) is.pages is.few
       (λ small. kept.still (subst IsSome (sym (o.files ∙ told)) refl) small)
       (subst (λ x. FewFetches mid.reads x end.reads p'.fetches) o.none kept.few) kept.most
-      (subst (λ x. p'.fetches ≤ x + rounds q * opened (by (version_of has.bytes) hash) has.tree q) o.none
-      (subst (λ v. p'.fetches ≤ p.fetches + rounds q * opened (by v hash) has.tree q) (sym is.own) bound))))
+      (subst (λ x. p'.fetches ≤ x + times * opened_for (by (version_of has.bytes) hash) a has.tree) o.none
+      (subst (λ v. p'.fetches ≤ p.fetches + times * opened_for (by v hash) a has.tree) (sym is.own) bound))))
 
   pub proved : (made : Result Text NodesErr) (result : Result Ending Halt)
-      → IfSome s.tree (λ t. IfOk made (λ text. text.bytes.items ≡ honest_proof (by s.version hash) t s.batch q))
+      → IfSome s.tree (λ t. IfOk made (λ text. text.bytes.items ≡ proof_for (by s.version hash) a t s.batch))
       → IfErr made (HasSomeCause s mid.faults end.faults) → OnOk made (end.faults ≡ mid.faults)
       → KeepsProof map proof made end after result
       → ComesAsSaid plan may allows before after result
@@ -580,7 +583,7 @@ module _ {S H : Type 0} {G : shelves.Ghosts S} {K : hashes.Ghosts H} (hash : Lis
       by_files (Some files) told =
           let has = has_map hash sized map before s mid w files told in
           let m : Opened = map_at s has.tree in
-          let own = subst (λ o. IfSome o (λ t. text.bytes.items ≡ honest_proof (by s.version hash) t s.batch q))
+          let own = subst (λ o. IfSome o (λ t. text.bytes.items ≡ proof_for (by s.version hash) a t s.batch))
           has.told written in
           let said = say_written proof text.bytes.items in
           let unread = unread_of end.files files said end.reads after.reads (kept.files ∙ o.files ∙ told) keeps.few
@@ -589,7 +592,7 @@ module _ {S H : Type 0} {G : shelves.Ghosts S} {K : hashes.Ghosts H} (hash : Lis
           (few_proved unread files told has)
           (told_on hash sized map before s mid w on_map (λ m. tt) has after result
           (subst (λ o. RunsPlan (comes o) (with_reads after.reads mid) after result)
-          (says_proof hash q proof m text.bytes.items has_proof own)
+          (says_proof hash a proof m text.bytes.items has_proof own)
           (subst (λ w. RunsPlan (comes said) w after result) (with_same after.reads mid end kept.files calm)
           (comes_but said end after result keeps))))
   proved (Err e) result written cause calm keeps =

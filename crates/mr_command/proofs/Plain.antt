@@ -1,5 +1,5 @@
 -- The layers of the records of accepted proofs are those of the proof's version.
-use Rattle.std.proofs.Common.{◌≡◌, true, ℕ, ◌-◌, ◌^◌, ◌<◌, List, [], ◌∷◌, drop, refl, sym, ap, subst, ◌∙◌}
+use Rattle.std.proofs.Common.{◌≡◌, ℕ, ◌-◌, ◌^◌, ◌<◌, List, [], ◌∷◌, drop, refl, sym, subst}
 use Rattle.std.specs.Prelude.{All, Option, Some, None, Result, Ok, Err}
 use Rattle.std.specs.List.{AllByRecursion}
 use Rattle.std.proofs.lemmas.List.Elements.{All-nil, All-append, All-filter, All-take, All-drop, recursion_from_All, All-from_recursion}

@@ -18,9 +18,9 @@ use Rattle.mr_record.specs.declared.version.Version.TheVariants.{One}
 use Rattle.mr_tree.specs.Digest.{by}
 use Rattle.mr_batch.specs.Workload.{generated}
 use Rattle.mr_plan.specs.Lines.{made_line}
-use Rattle.mr_plan.specs.Say.{lacks_proof, unless_lacking, say_make_of, say_prove_of, say_text, say_written}
-use Rattle.mr_query.specs.declared.query.Query.{Query}
-use Rattle.mr_proof.specs.Honest.{proof}
+use Rattle.mr_plan.specs.Say.{lacks_proof_for, unless_lacking, say_make_of, say_proof_of, say_text, say_written}
+use Rattle.mr_proof.specs.Honest.{proof_for}
+use Rattle.mr_proof.specs.Tight.{Question}
 use Rattle.mr_pages.specs.declared.opening.Opened.{Opened}
 
 -- the call was refused, and so
@@ -117,13 +117,13 @@ module _ (name bytes : List ℕ) (before : Shelved) where
   }
 
 -- the honest proof is what was written, where there is one
-pub says_proof : (hash : List ℕ → List ℕ) (q : Query) (name : List ℕ) (map : Opened) (bytes : List ℕ)
-    → lacks_proof map.version q ≡ false → bytes ≡ proof (by map.version hash) map.tree map.batch q
-    → say_written name bytes ≡ say_prove_of hash q name map
-unfolding say_prove_of
-says_proof hash q name map bytes has is =
+pub says_proof : (hash : List ℕ → List ℕ) (a : Question) (name : List ℕ) (map : Opened) (bytes : List ℕ)
+    → lacks_proof_for map.version a ≡ false → bytes ≡ proof_for (by map.version hash) a map.tree map.batch
+    → say_written name bytes ≡ say_proof_of hash a name map
+unfolding say_proof_of
+says_proof hash a name map bytes has is =
     ap (say_written name) is
-    ∙ ap (λ b. unless_lacking b (say_written name (proof (by map.version hash) map.tree map.batch q))) (sym has)
+    ∙ ap (λ b. unless_lacking b (say_written name (proof_for (by map.version hash) a map.tree map.batch))) (sym has)
 
 -- the text of generated records is what was written
 pub says_made : (count seed : ℕ) (line name bytes : List ℕ) → line ≡ made_line count

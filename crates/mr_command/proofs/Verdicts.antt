@@ -5,7 +5,9 @@ use Rattle.mr_record.specs.declared.record.Record.{Record}
 use Rattle.mr_record.specs.declared.text_fault.TextFault.{TextFault}
 use Rattle.mr_record.specs.declared.version.Version.{Version}
 use Rattle.mr_tree.specs.declared.tree.Tree.{Tree}
+use Rattle.mr_query.specs.declared.key.Key.{Key}
 use Rattle.mr_query.specs.declared.query.Query.{Query}
+use Rattle.mr_proof.specs.declared.way.Way.{Way}
 use Rattle.mr_proof.specs.declared.rule.Fault.{Fault}
 use Rattle.mr_check.specs.declared.error.CheckErr.{CheckErr}
 use Rattle.mr_check.specs.Answers.{AnswersVerdict}
@@ -22,11 +24,15 @@ use Rattle.mr_tree.specs.WellFormed.{WellFormed, HasLayers}
 use Rattle.mr_clash.specs.Finding.{found}
 use Rattle.mr_clash.specs.declared.finding.Finding.{Finding}
 use Rattle.mr_clash.specs.declared.finding.Finding.TheVariants as findings
+use Rattle.mr_count.specs.declared.finding.ChoiceFinding.{ChoiceFinding}
+use Rattle.mr_count.specs.declared.finding.ChoiceFinding.TheVariants as counts
+use Rattle.mr_count.specs.declared.taken.Taken.{Taken}
+use Rattle.mr_plan.specs.Counts.{count_found, count_verdict}
 use Rattle.mr_command.specs.Answer.{IsSettled}
 use Rattle.mr_plan.specs.First.{first, first_map}
 use Rattle.mr_command.specs.Ending.{IsEndingOf, printed_of}
 use Rattle.mr_plan.specs.Outcome.{Outcome, Nothing}
-use Rattle.mr_plan.specs.Say.{say_verdict, say_check_of, say_finding, say_audit_of, say_root_of}
+use Rattle.mr_plan.specs.Say.{say_verdict, say_check_of, say_count_verdict, say_check_count_of, say_finding, say_audit_of, say_count_finding, say_audit_count_of, say_root_of}
 use Rattle.mr_command.specs.declared.ending.Ending.{Ending}
 use Rattle.mr_pages.specs.declared.opening.Opened.{Opened}
 use Rattle.mr_pages.specs.Law.{map_root}
@@ -65,6 +71,39 @@ pub finding_writes : (v : Version) (f : Finding) → (say_finding v f).written �
 finding_writes v (findings.Refused fault) = refl
 finding_writes v (findings.Sound answer) = refl
 finding_writes v (findings.Collision owned shown) = refl
+
+-- of a count
+pub says_count_verdict : (hash : List ℕ → List ℕ) (root : List ℕ) (way : Key → Way) (bytes : List ℕ)
+    (v : Result Taken Fault) → count_verdict hash root way bytes ≡ v
+    → say_check_count_of hash root way bytes ≡ say_count_verdict way v
+unfolding say_check_count_of
+says_count_verdict hash root way bytes v is = ap (say_count_verdict way) is
+
+count_verdict_writes : (way : Key → Way) (v : Result Taken Fault) → (say_count_verdict way v).written ≡ Nothing
+count_verdict_writes way (Ok taken) = refl
+count_verdict_writes way (Err fault) = refl
+
+pub check_count_writes : (hash : List ℕ → List ℕ) (root : List ℕ) (way : Key → Way) (bytes : List ℕ)
+    → (say_check_count_of hash root way bytes).written ≡ Nothing
+unfolding say_check_count_of
+check_count_writes hash root way bytes = count_verdict_writes way (count_verdict hash root way bytes)
+
+pub count_finding_writes : (way : Key → Way) (f : ChoiceFinding) → (say_count_finding way f).written ≡ Nothing
+count_finding_writes way (counts.Refused fault) = refl
+count_finding_writes way (counts.Sound taken) = refl
+count_finding_writes way (counts.Collision owned shown) = refl
+
+pub audit_count_writes : (hash : List ℕ → List ℕ) (way : Key → Way) (map : Opened) (bytes : List ℕ)
+    → (say_audit_count_of hash way map bytes).written ≡ Nothing
+unfolding say_audit_count_of
+audit_count_writes hash way map bytes =
+    count_finding_writes way (count_found (by map.version hash) map.tree map.batch way bytes)
+
+pub says_count_finding : (hash : List ℕ → List ℕ) (way : Key → Way) (map : Opened) (bytes : List ℕ) (f : ChoiceFinding)
+    → f ≡ count_found (by map.version hash) map.tree map.batch way bytes
+    → say_count_finding way f ≡ say_audit_count_of hash way map bytes
+unfolding say_audit_count_of
+says_count_finding hash way map bytes f is = ap (say_count_finding way) is
 
 -- nor does the command `root`
 pub root_writes : (v : Version) (hash : List ℕ → List ℕ) (found : Result (List Record) TextFault)

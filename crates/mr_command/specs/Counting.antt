@@ -18,16 +18,20 @@ use Rattle.mr_batch.specs.Applied.{IsAdmissible}
 use Rattle.mr_batch.specs.BatchText.{batch_of_text}
 use Rattle.mr_batch.specs.Changes.{Changes}
 use Rattle.mr_query.specs.declared.query.Query.{Query}
+use Rattle.mr_query.specs.declared.key.Key.{Key}
+use Rattle.mr_proof.specs.declared.way.Way.{Way}
 use Rattle.mr_proof.specs.Feeding.{IsUnsettled}
-use Rattle.mr_proof.specs.Tight.{question}
-use Rattle.mr_proof.specs.Honest.{opened}
+use Rattle.mr_proof.specs.Tight.{Question, question}
+use Rattle.mr_proof.specs.Honest.{opened_for}
 use Rattle.mr_prove.specs.Causes.{rounds}
 use Rattle.mr_clash.specs.Finding.{opened_accepted}
+use Rattle.mr_clash.specs.QuestionFindings.{opened_checked_by}
 use Rattle.mr_edit.specs.Reads.{reads_along}
 use Rattle.mr_store.specs.Kept.{room}
+use Rattle.mr_plan.specs.Counts.{count_ways, count_question}
 use Rattle.mr_plan.specs.Found.{Found, ShowsMap}
 use Rattle.mr_plan.specs.Plan.{Input, Plan, comes, reads, opens, seeks}
-use Rattle.mr_plan.specs.Say.{say, say_check, lacks_proof}
+use Rattle.mr_plan.specs.Say.{say, say_check, lacks_proof_for}
 use Rattle.mr_plan.specs.declared.words.Command.{Command}
 use Rattle.mr_plan.specs.declared.words.Command.TheVariants as commands
 
@@ -45,27 +49,39 @@ reads_taken _ input = pieces_of input
 abbrev pub IsLarge : List ℕ → Type 0
 IsLarge bytes = room + 1 < pages_in bytes
 
--- the pages of a map of these bytes, or of a large one that has a proof besides the nodes that this
--- opens, once or twice
-abbrev pub IsFewOf : (List ℕ → List ℕ) → Query → List ℕ → ℕ → Type 0
-IsFewOf hash q bytes n = (n ≤ pages_in bytes)
-    ⊎ (IsLarge bytes × (lacks_proof (version_of bytes) q ≡ false) × ((t : Tree) × (batch : ℕ)
-    × IsMapFile hash bytes (map_in (version_of bytes) t batch)
-    × (n ≤ pages_in bytes + rounds q * opened (by (version_of bytes) hash) t q)))
+-- the pages of a map of these bytes, or of a large one that has a proof of what is asked besides,
+-- so many times, the nodes that this opens
+abbrev pub IsFewOf : (List ℕ → List ℕ) → (times : ℕ) → Question → List ℕ → ℕ → Type 0
+IsFewOf hash times asked bytes n = (n ≤ pages_in bytes)
+    ⊎ (IsLarge bytes × (lacks_proof_for (version_of bytes) asked ≡ false)
+    × ((t : Tree) × (batch : ℕ) × IsMapFile hash bytes (map_in (version_of bytes) t batch)
+    × (n ≤ pages_in bytes + times * opened_for (by (version_of bytes) hash) asked t)))
 
--- the nodes that a proof opens, where it is there and is accepted against the map
-abbrev pub opened_beside : Scheme → Tree → (batch : ℕ) → Query → Input → ℕ
-opened_beside s t batch q None = 0
-opened_beside s t batch q (Some bytes) = opened_accepted s t batch q bytes
+-- how many nodes bytes open, by the map against which they are a proof
+abbrev pub Opens : Type 0
+Opens = Scheme → Tree → (batch : ℕ) → List ℕ → ℕ
+
+-- those of the proof of an answer to a query, where it is accepted
+abbrev pub opens_for : Query → Opens
+opens_for q s t batch bytes = opened_accepted s t batch q bytes
+
+-- those of the proof of a count
+abbrev pub opens_for_count : (Key → Way) → Opens
+opens_for_count way s t batch bytes = opened_checked_by s t batch (count_question way) bytes
+
+-- the nodes that a proof opens, where it is there
+abbrev pub opened_beside : Opens → Scheme → Tree → (batch : ℕ) → Input → ℕ
+opened_beside opened_nodes s t batch None = 0
+opened_beside opened_nodes s t batch (Some bytes) = opened_nodes s t batch bytes
 
 -- the pages of a file of these bytes; where it stands for a map the pieces of a proof besides, and
 -- where that is large the nodes that the proof opens
-abbrev pub IsFewBeside : (List ℕ → List ℕ) → Query → List ℕ → Input → ℕ → Type 0
-IsFewBeside hash q bytes proof n = (n ≤ pages_in bytes)
+abbrev pub IsFewBeside : (List ℕ → List ℕ) → Opens → List ℕ → Input → ℕ → Type 0
+IsFewBeside hash opened_nodes bytes proof n = (n ≤ pages_in bytes)
     ⊎ ((t : Tree) × (batch : ℕ) × IsMapFile hash bytes (map_in (version_of bytes) t batch)
     × ((n ≤ pages_in bytes + pieces_of proof) ⊎ (IsLarge bytes
     × (n ≤ pages_in bytes + pieces_of proof
-    + opened_beside (by (version_of bytes) hash) t batch q proof))))
+    + opened_beside opened_nodes (by (version_of bytes) hash) t batch proof))))
 
 -- the pages of a file of these bytes; where it stands for a map the pieces of a script besides, and
 -- where that is large each of its nodes once, of which there are fewer than pages
@@ -100,16 +116,17 @@ IsFewApplied hash bytes batch n = (n ≤ pages_in bytes)
     × (behind : ℕ) × (n ≤ pages_in bytes + pieces_of batch + behind)
     × IsFewOfBatch (version_of bytes) (pages_in bytes) t held batch behind)
 
--- so many reads of the map, for a proof
-abbrev pub AllowsProve : (List ℕ → List ℕ) → (map : List ℕ) → Query → Files → ℕ → Type 0
-AllowsProve hash map q files n =
-    MatchOption (file files map) (n ≡ 0) (λ bytes. IsFewOf hash q bytes n)
+-- so many reads of the map, for a proof that fetches its nodes so many times
+abbrev pub AllowsProof : (List ℕ → List ℕ) → (map : List ℕ) → (times : ℕ) → Question → Files → ℕ
+    → Type 0
+AllowsProof hash map times asked files n =
+    MatchOption (file files map) (n ≡ 0) (λ bytes. IsFewOf hash times asked bytes n)
 
 -- and of the proof, for an audit
-abbrev pub AllowsAudit : (List ℕ → List ℕ) → (map : List ℕ) → Query → (proof : List ℕ) → Files
+abbrev pub AllowsAudit : (List ℕ → List ℕ) → (map : List ℕ) → Opens → (proof : List ℕ) → Files
     → ℕ → Type 0
-AllowsAudit hash map q proof files n =
-    MatchOption (file files map) (n ≡ 0) (λ bytes. IsFewBeside hash q bytes (file files proof) n)
+AllowsAudit hash map opened_nodes proof files n = MatchOption (file files map) (n ≡ 0)
+    (λ bytes. IsFewBeside hash opened_nodes bytes (file files proof) n)
 
 -- of the map and the script, for a bundle
 abbrev pub AllowsServe : (List ℕ → List ℕ) → (map script : List ℕ) → Files → ℕ → Type 0
@@ -147,9 +164,14 @@ AllowsCheck hash root q proof files n = AllowsReads (say_check hash root q proof
 
 -- so many reads of a command: what its plan takes, where it reads no page and no proof otherwise
 abbrev pub MayRead : (List ℕ → List ℕ) → Option Command → Files → ℕ → Type 0
-MayRead hash (Some (commands.Prove map q proof)) files n = AllowsProve hash map.now q files n
+MayRead hash (Some (commands.Prove map q proof)) files n =
+    AllowsProof hash map.now (rounds q) (question q) files n
 MayRead hash (Some (commands.Audit map q proof)) files n =
-    AllowsAudit hash map.now q proof.now files n
+    AllowsAudit hash map.now (opens_for q) proof.now files n
+MayRead hash (Some (commands.Count map q proof)) files n =
+    AllowsProof hash map.now 1 (count_question (count_ways q)) files n
+MayRead hash (Some (commands.AuditCount map q proof)) files n =
+    AllowsAudit hash map.now (opens_for_count (count_ways q)) proof.now files n
 MayRead hash (Some (commands.Serve map script bundle)) files n =
     AllowsServe hash map.now script.now files n
 MayRead hash (Some (commands.Apply old batch new)) files n =

@@ -3,6 +3,7 @@
 ghost use Rattle.std.specs.Prelude.{◌≡◌, None, IfSome};
 ghost use Rattle.mr_query.specs.Word.{IsAskable};
 ghost use Rattle.mr_store.specs.Paged.{IsSameMap, shelved, stands_for};
+ghost use Rattle.mr_command.specs.Counting.{opens_for};
 ghost use Rattle.mr_command.specs.Ending.{IsEndingOrHalt, IsCarriedOut, NoneFalls};
 ghost use Rattle.mr_command.specs.private.Steps.{map_at, ComesBut, HasAnswerLines, ReadsInput, ReadsBeside, ReadsOpened, SaysUntold};
 ghost use Rattle.mr_plan.specs.Plan.{comes};
@@ -64,9 +65,9 @@ fn audit_bytes<H: Hash32, S: Shelf>(
         (shelved paged.new) result }
     ensures files { (shelved paged.new).files ≡ (shelved paged.old).files }
     ensures counts { NoneFalls (shelved paged.old) (shelved paged.new) }
-    ensures reads_at_most { paged.old.fetches ≡ 0 → ReadsOpened H.of query.now
-        (stands_for paged.old)
-        paged.old.head.pages bytes.now (shelved paged.old) (shelved paged.new) }
+    ensures reads_at_most { paged.old.fetches ≡ 0 → ReadsOpened H.of (opens_for query.now)
+        (stands_for paged.old) paged.old.head.pages bytes.now (shelved paged.old)
+        (shelved paged.new) }
 {
     are_bytes(bytes);
     match finding_of_nodes(alloc, paged, query, bytes) {
@@ -104,9 +105,9 @@ fn audit_file<H: Hash32, S: Shelf>(
         SaysUntold (MaySayAudit H.of map.now query.now proof.now) (shelved paged.old)
         (shelved paged.new) result }
     ensures counts { NoneFalls (shelved paged.old) (shelved paged.new) }
-    ensures reads_at_most { paged.old.fetches ≡ 0 → ReadsBeside H.of query.now
-        (stands_for paged.old)
-        paged.old.head.pages proof.now (shelved paged.old) (shelved paged.new) }
+    ensures reads_at_most { paged.old.fetches ≡ 0 → ReadsBeside H.of (opens_for query.now)
+        (stands_for paged.old) paged.old.head.pages proof.now (shelved paged.old)
+        (shelved paged.new) }
 {
     match needed_beside::<H, S>(alloc, proof, paged) {
         Ok(bytes) => audit_bytes::<H, S>(alloc, map, query, proof, &bytes, paged),

@@ -5,7 +5,7 @@ ghost use Rattle.mr_tree.specs.Digest.{by};
 ghost use Rattle.mr_tree.specs.Nodes.{HasSomeCause, TellsRefusal};
 ghost use Rattle.mr_query.specs.Word.{IsAskable};
 ghost use Rattle.mr_clash.specs.Finding.{found, opened_accepted, ShowsCollision, FetchesFew, FindsFor};
-ghost use Rattle.mr_bundle.specs.Proofs.{as_given};
+ghost use Rattle.mr_bundle.specs.Proofs.{as_given, IsLastRefusal};
 ghost use Rattle.mr_command.specs.private.Steps.{SaysRefusal};
 ghost use Rattle.mr_pages.specs.Opening.{of_nodes};
 
@@ -39,6 +39,7 @@ pub(crate) fn finding_of_nodes<N: Nodes>(
         (N.fetches nodes.old) (N.fetches nodes.new) }
     ensures cause { IfErr result (HasSomeCause (N.stands nodes.old) (N.faults nodes.old)
         (N.faults nodes.new)) }
+    ensures refused { IfErr result (IsLastRefusal (N.refusal nodes.new)) }
     ensures answered { TellsRefusal as_given (N.refusal nodes.old) (N.refusal nodes.new) result }
     ensures quiet { OnOk result (N.faults nodes.new ≡ N.faults nodes.old) }
 {

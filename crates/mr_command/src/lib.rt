@@ -6,10 +6,14 @@
 
 mod apply_command;
 mod audit_command;
+mod audit_count_command;
 mod build_command;
 mod bundling;
 mod check_all_command;
 mod check_command;
+mod check_count_command;
+mod count_command;
+mod counted;
 mod demo_command;
 mod ending;
 mod fetching;
@@ -27,9 +31,12 @@ mod upgrade_command;
 
 pub use apply_command::apply;
 pub use audit_command::audit_query;
+pub use audit_count_command::audit_count;
 pub use build_command::build;
 pub use check_all_command::check_bundle;
 pub use check_command::check_proof;
+pub use check_count_command::check_count;
+pub use count_command::count;
 pub use demo_command::demo;
 pub use ending::{Ending, Halt, RecordsOut};
 pub use list_command::{list, write_tree};

@@ -33,7 +33,7 @@ fn write_proof<S: Shelf>(
 }
 
 // A proof in a file, or what the command comes to without a node of the map.
-fn keep_proof<S: Shelf>(
+pub(crate) fn keep_proof<S: Shelf>(
     alloc: Global,
     map: &str,
     name: &str,

@@ -11,10 +11,12 @@ use Rattle.mr_record.proofs.Decimals.{u64_of-decimal, u64_of-text}
 use Rattle.mr_query.specs.Word.{IsQuery, query_of, word_of}
 use Rattle.mr_query.specs.declared.query.Query.{Query}
 use Rattle.mr_query.specs.declared.query.QueryFault.{QueryFault}
+use Rattle.mr_query.specs.declared.query.Shape.{Shape}
+use Rattle.mr_query.specs.declared.query.Shape.TheVariants as shapes
 use Rattle.mr_query.proofs.Words.{query_read, query_written}
-use Rattle.mr_plan.specs.private.Kinds.{Kind, key_word, file_word, digest_word, query_word, number_word, Reading, kind_of, is_fresh, no_query, within, fits, word_in, word_next, past, all_next, past_all, last_behind, earlier_behind, is_complete}
+use Rattle.mr_plan.specs.private.Kinds.{Kind, key_word, file_word, digest_word, query_word, window_word, number_word, Reading, kind_of, is_fresh, is_window, if_window, no_query, within, fits, word_in, word_next, past, all_next, past_all, last_behind, earlier_behind, is_complete}
 use Rattle.mr_plan.specs.private.Asking.{digest_of_word}
-use Rattle.mr_plan.specs.Words.{Word, key, file, digest, query, number, spelled, IsDigest, IsWord, file_names, AreApart}
+use Rattle.mr_plan.specs.Words.{Word, key, file, digest, query, window, number, spelled, IsDigest, IsWindow, IsWord, file_names, AreApart}
 use Rattle.mr_plan.proofs.Digests.{digest_read, digest_written}
 
 abbrev pub reading_at : (words : List (List ℕ)) (last earlier : List ℕ) → Bool → Reading
@@ -32,6 +34,7 @@ is_low (key name) = true
 is_low (file name) = true
 is_low (digest bytes) = true
 is_low (query asked) = true
+is_low (window asked) = true
 
 -- ---- what is read stands there
 
@@ -59,6 +62,24 @@ found_query : (word : List ℕ) (o : Result Query QueryFault) → query_of word 
 found_query word (Err fault) e is = absurd cc
 found_query word (Ok q) e is = let w = query_written word q e in (w.1, w.0)
 
+is_window_so : (s : Shape) → is_window s ≡ true → IsWindow s
+is_window_so (shapes.Window w) is = tt
+is_window_so (shapes.Nearest p k) is = absurd cc
+
+-- the word spells this query, which is for a window
+abbrev IsFoundWindow : List ℕ → Query → Type 0
+IsFoundWindow word q = (word ≡ word_of q) × (IsQuery q × IsWindow q.shape)
+
+found_window : (word : List ℕ) (o : Result Query QueryFault) → query_of word ≡ o → is_some (if_window o) ≡ true
+    → IsFoundWindow word (unwrap_or (if_window o) no_query)
+found_window word (Err fault) e is = absurd cc
+found_window word (Ok q) e is =
+    let w = query_written word q e in
+    cond_both (is_window q.shape) (Some q) None
+    (λ o. is_some o ≡ true → IsFoundWindow word (unwrap_or o no_query))
+    (λ t some. (w.1, (w.0, is_window_so q.shape t)))
+    (λ f some. absurd cc) is
+
 abbrev IsFound : (least most : ℕ) (word : List ℕ) → ℕ → Type 0
 IsFound least most word n = (word ≡ decimal n) × ((least ≤ n) × (n ≤ most))
 
@@ -79,6 +100,7 @@ stands file_word word last earlier is =
     (refl, (fresh_so word last earlier is).0)
 stands digest_word word last earlier is = found_digest word (digest_of_word word) refl is
 stands query_word word last earlier is = found_query word (query_of word) refl is
+stands window_word word last earlier is = found_window word (query_of word) refl is
 stands (number_word least most) word last earlier is =
     found_number least most word (u64_of word) (u64_of-text word) is
 
@@ -90,6 +112,7 @@ new_behind file_word word last earlier words is rest =
     let fresh = fresh_so word last earlier is in (fresh.1, fresh.2, rest)
 new_behind digest_word word last earlier words is rest = rest
 new_behind query_word word last earlier words is rest = rest
+new_behind window_word word last earlier words is rest = rest
 new_behind (number_word least most) word last earlier words is rest = rest
 
 -- words stand there as they are read
@@ -157,6 +180,14 @@ found_within least most value low is =
     ∙ cond-true (leb least value && leb value most) (Some value) None
     (and_from (leb least value) (leb value most) (le-leb least value is.0) (le-leb value most is.1))
 
+window_kept : (s : Shape) → IsWindow s → is_window s ≡ true
+window_kept (shapes.Window w) is = refl
+window_kept (shapes.Nearest p k) is = absurd is
+
+kept_window : (q : Query) → IsQuery q × IsWindow q.shape → if_window (query_of (word_of q)) ≡ Some q
+kept_window q is =
+    ap if_window (query_read q is.0) ∙ cond-true (is_window q.shape) (Some q) None (window_kept q.shape is.1)
+
 read_so : (word : Word) → is_low word ≡ true → IsWord word → word_in (kind_of word) (spelled word) ≡ word
 read_so (key name) low is = refl
 read_so (file name) low is = refl
@@ -164,6 +195,7 @@ read_so (digest bytes) low is =
     ap (λ (o : Option (List ℕ)). digest (unwrap_or o (replicate 32 0))) (digest_read bytes is)
 read_so (query asked) low is =
     ap (λ (o : Result Query QueryFault). query (result_unwrap_or o no_query)) (query_read asked is)
+read_so (window asked) low is = ap (λ (o : Option Query). window (unwrap_or o no_query)) (kept_window asked is)
 read_so (number least most value) low is =
     ap (λ (o : Option ℕ). number least most (unwrap_or o 0)) (found_within least most value low is)
 
@@ -175,6 +207,7 @@ fits_so (file name) words last earlier low is new =
     (and_from _ _ (keeps_apart name last new.0) (keeps_apart name earlier new.1))
 fits_so (digest bytes) words last earlier low is new = ap is_some (digest_read bytes is)
 fits_so (query asked) words last earlier low is new = ap is_ok (query_read asked is)
+fits_so (window asked) words last earlier low is new = ap is_some (kept_window asked is)
 fits_so (number least most value) words last earlier low is new =
     ap is_some (found_within least most value low is)
 
@@ -186,6 +219,7 @@ new_rest (key name) words last earlier new = new
 new_rest (file name) words last earlier new = new.2
 new_rest (digest bytes) words last earlier new = new
 new_rest (query asked) words last earlier new = new
+new_rest (window asked) words last earlier new = new
 new_rest (number least most value) words last earlier new = new
 
 pub read_again : (words : List Word) (last earlier : List ℕ) (right : Bool) → list_all is_low words ≡ true
@@ -255,4 +289,5 @@ names_named (key name ∷ words) each = names_named words each.1
 names_named (file name ∷ words) each = (each.0, names_named words each.1)
 names_named (digest bytes ∷ words) each = names_named words each.1
 names_named (query asked ∷ words) each = names_named words each.1
+names_named (window asked ∷ words) each = names_named words each.1
 names_named (number least most value ∷ words) each = names_named words each.1

@@ -7,7 +7,7 @@ use Rattle.std.proofs.lemmas.Bool.{and_parts, both_ways, leb-true}
 use Rattle.mr_query.specs.declared.query.Query.{Query}
 use Rattle.mr_plan.specs.private.Kinds.{Reading, kinds_of, name_of, no_query, first_word, start, all_next, past_all, is_complete, GivesCommand}
 use Rattle.mr_plan.specs.Spelling.{IsSpelled, AsksAs}
-use Rattle.mr_plan.specs.Words.{Word, key, file, digest, query, number, spelled, words_of, IsWord, AreApart, file_names, SpellsCommand}
+use Rattle.mr_plan.specs.Words.{Word, key, file, digest, query, window, number, spelled, words_of, IsWord, AreApart, file_names, SpellsCommand}
 use Rattle.mr_plan.specs.declared.words.Command.{Command}
 use Rattle.mr_plan.specs.declared.words.Command.TheVariants as commands
 use Rattle.mr_plan.proofs.Reading.{AreNew, is_low, stand, read_again, read_whole, apart_new, new_apart, names_named}
@@ -20,10 +20,12 @@ bytes_in (key name) = name
 bytes_in (file name) = name
 bytes_in (digest bytes) = bytes
 bytes_in (query asked) = []
+bytes_in (window asked) = []
 bytes_in (number least most value) = []
 
 abbrev query_in : Word → Query
 query_in (query asked) = asked
+query_in (window asked) = asked
 query_in word = no_query
 
 abbrev value_in : Word → ℕ
@@ -62,6 +64,9 @@ rows =
     row (codes "prove") (λ ws. commands.Prove (text_at 1 ws) (query_at 2 ws) (text_at 3 ws)) ∷
     row (codes "check") (λ ws. commands.Check (bytes_at 1 ws) (query_at 2 ws) (text_at 3 ws)) ∷
     row (codes "audit") (λ ws. commands.Audit (text_at 1 ws) (query_at 2 ws) (text_at 3 ws)) ∷
+    row (codes "count") (λ ws. commands.Count (text_at 1 ws) (query_at 2 ws) (text_at 3 ws)) ∷
+    row (codes "check-count") (λ ws. commands.CheckCount (bytes_at 1 ws) (query_at 2 ws) (text_at 3 ws)) ∷
+    row (codes "audit-count") (λ ws. commands.AuditCount (text_at 1 ws) (query_at 2 ws) (text_at 3 ws)) ∷
     row (codes "serve") (λ ws. commands.Serve (text_at 1 ws) (text_at 2 ws) (text_at 3 ws)) ∷
     row (codes "check-all") (λ ws. commands.CheckAll (bytes_at 1 ws) (text_at 2 ws) (text_at 3 ws)) ∷
     row (codes "make") (λ ws. commands.Make (value_at 1 ws) (value_at 2 ws) (text_at 3 ws)) ∷
@@ -95,13 +100,16 @@ pub no_command : (old new : Reading) (name : List ℕ) → name ≡ first_word o
     → (name ≡ codes "prove" → ⊥)
     → (name ≡ codes "check" → ⊥)
     → (name ≡ codes "audit" → ⊥)
+    → (name ≡ codes "count" → ⊥)
+    → (name ≡ codes "check-count" → ⊥)
+    → (name ≡ codes "audit-count" → ⊥)
     → (name ≡ codes "serve" → ⊥)
     → (name ≡ codes "check-all" → ⊥)
     → (name ≡ codes "make" → ⊥)
     → (name ≡ codes "demo" → ⊥)
     → GivesCommand old None new
-no_command old new name same a b c d e f g h j k l m n o (commands.Root records) is = a (same ∙ sym is)
-no_command old new name same a b c d e f g h j k l m n o command is = search (same ∙ sym is)
+no_command old new name same a b c d e f g h j k l m n o p q r (commands.Root records) is = a (same ∙ sym is)
+no_command old new name same a b c d e f g h j k l m n o p q r command is = search (same ∙ sym is)
 
 -- ---- for all commands
 

@@ -1,6 +1,7 @@
 pub mod Status
 pub mod First
 pub mod Words
+pub mod Counts
 pub mod Found
 pub mod Outcome
 pub mod Lines

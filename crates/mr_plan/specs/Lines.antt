@@ -15,7 +15,7 @@ digest_line digest = encode_lower digest ++ 10 ∷ []
 abbrev pub bad_words_line : List ℕ
 bad_words_line = codes "bad words" ++ 10 ∷ []
 
--- the map is of the first version, and a query names a mask, of which that has no proofs
+-- the map is of the first version, and what is asked for has proofs of the second one alone
 abbrev pub needs_version_2_line : List ℕ
 needs_version_2_line = codes "needs version 2" ++ 10 ∷ []
 
@@ -65,6 +65,10 @@ served_line queries size =
 -- a name and a number, as `records 5`
 abbrev pub count_line : (name : List ℕ) → ℕ → List ℕ
 count_line name n = name ++ 32 ∷ decimal n ++ 10 ∷ []
+
+-- `count NUMBER`
+unfoldable pub counted_line : ℕ → List ℕ
+counted_line n = count_line (codes "count") n
 
 -- `made NUMBER`
 unfoldable pub made_line : ℕ → List ℕ

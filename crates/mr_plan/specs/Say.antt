@@ -21,21 +21,27 @@ use Rattle.mr_batch.specs.declared.admission.BatchFault.{BatchFault}
 use Rattle.mr_query.specs.Scan.{by_number}
 use Rattle.mr_query.specs.Script.{queries_of_text}
 use Rattle.mr_query.specs.declared.query.Query.{Query}
+use Rattle.mr_query.specs.declared.key.Key.{Key}
 use Rattle.mr_proof.specs.declared.rule.Fault.{Fault}
-use Rattle.mr_proof.specs.Honest as honest
+use Rattle.mr_proof.specs.declared.way.Way.{Way}
+use Rattle.mr_proof.specs.Honest.{proof_for}
 use Rattle.mr_proof.specs.Reading.{verdict}
+use Rattle.mr_proof.specs.Tight.{Question, question}
 use Rattle.mr_check.specs.Versions.{proof_version}
 use Rattle.mr_clash.specs.Finding.{found}
+use Rattle.mr_count.specs.Chosen.{total_whole}
+use Rattle.mr_count.specs.declared.taken.Taken.{Taken}
+use Rattle.mr_plan.specs.Counts.{count_ways, count_question, count_found, count_verdict}
 use Rattle.mr_plan.specs.Demo.{demo_lines}
 use Rattle.mr_plan.specs.First.{pages_by}
 use Rattle.mr_plan.specs.Found.{Found, bad_map_line}
-use Rattle.mr_plan.specs.Lines.{digest_line, bad_words_line, bad_text_line, bad_batch_line, made_line, recovered_line}
+use Rattle.mr_plan.specs.Lines.{digest_line, bad_words_line, bad_text_line, bad_batch_line, counted_line, made_line, recovered_line}
 use Rattle.mr_plan.specs.Outcome.{Outcome, File, map_of, changed}
 use Rattle.mr_plan.specs.Plan.{Input, Plan, comes, reads, opens, seeks}
 pub use Rattle.mr_plan.specs.Saying.{ends, prints, says_missing, say_text, say_written}
-pub use Rattle.mr_plan.specs.Saying.{lacks_proof, unless_lacking}
+pub use Rattle.mr_plan.specs.Saying.{lacks_proof, lacks_proof_for, unless_lacking}
 pub use Rattle.mr_plan.specs.Saying.{journal_of, say_in_place}
-pub use Rattle.mr_plan.specs.Saying.{say_finding, say_bundle, opened_in}
+pub use Rattle.mr_plan.specs.Saying.{say_finding, say_count_finding, say_bundle, opened_in}
 pub use Rattle.mr_plan.specs.Saying.{say_serve_of, say_verdicts, say_parts_of}
 use Rattle.mr_plan.specs.Refusal.{refused_line}
 use Rattle.mr_pages.specs.File.{version_of}
@@ -154,15 +160,23 @@ say_change hash batch new pages map =
 abbrev pub say_apply : (List ℕ → List ℕ) → (old batch new : List ℕ) → Plan
 say_apply hash old batch new = needs_sized_map hash old (say_change hash batch new)
 
--- the honest proof for a query on a map in a file, and its length; or that there is none
-unfoldable pub say_prove_of : (List ℕ → List ℕ) → Query → List ℕ → Opened → Outcome
-say_prove_of hash query proof map = unless_lacking (lacks_proof map.version query)
-    (say_written proof (honest.proof (by map.version hash) map.tree map.batch query))
+-- the honest proof of what is asked of a map, in a file, and its length; or that there is none
+unfoldable pub say_proof_of : (List ℕ → List ℕ) → Question → List ℕ → Opened → Outcome
+say_proof_of hash asked proof map = unless_lacking (lacks_proof_for map.version asked)
+    (say_written proof (proof_for (by map.version hash) asked map.tree map.batch))
 
--- `prove MAP QUERY PROOF`: the proof for a query on the map in a file, written to another one
+-- that of the map in a file, written to another one
+abbrev pub say_proof : (List ℕ → List ℕ) → List ℕ → Question → List ℕ → Plan
+say_proof hash name asked proof =
+    needs_map hash name (λ map. comes (say_proof_of hash asked proof map))
+
+-- `prove MAP QUERY PROOF`: the proof for a query
 abbrev pub say_prove : (List ℕ → List ℕ) → List ℕ → Query → List ℕ → Plan
-say_prove hash name query proof =
-    needs_map hash name (λ map. comes (say_prove_of hash query proof map))
+say_prove hash name query proof = say_proof hash name (question query) proof
+
+-- `count MAP QUERY PROOF`: the proof of how many records are taken whole
+abbrev pub say_count : (List ℕ → List ℕ) → List ℕ → (Key → Way) → List ℕ → Plan
+say_count hash name way proof = say_proof hash name (count_question way) proof
 
 -- the answer that a proof of this version proves, a line of the version for each record, or its
 -- fault
@@ -180,6 +194,27 @@ abbrev pub say_check : (List ℕ → List ℕ) → List ℕ → Query → List �
 say_check hash root query proof =
     needs proof (λ bytes. comes (say_check_of hash root query bytes))
 
+-- how many records are taken whole, by what the proof of a count gives; or its fault
+abbrev pub say_count_verdict : (Key → Way) → Result Taken Fault → Outcome
+say_count_verdict way (Ok taken) = prints (counted_line (total_whole way taken))
+say_count_verdict way (Err fault) = ends Refused (refused_line fault)
+
+-- what is said of the bytes of such a proof
+unfoldable pub say_check_count_of : (List ℕ → List ℕ) → List ℕ → (Key → Way) → List ℕ → Outcome
+say_check_count_of hash root way proof =
+    say_count_verdict way (count_verdict hash root way proof)
+
+-- `check-count ROOT QUERY PROOF`: the number that the proof in a file proves
+abbrev pub say_check_count : (List ℕ → List ℕ) → List ℕ → (Key → Way) → List ℕ → Plan
+say_check_count hash root way proof =
+    needs proof (λ bytes. comes (say_check_count_of hash root way bytes))
+
+-- what is said of the bytes of a file, by the map in another one
+abbrev pub needs_beside : (List ℕ → List ℕ) → (map proof : List ℕ) → (Opened → List ℕ → Outcome)
+    → Plan
+needs_beside hash map proof said =
+    needs_map hash map (λ held. needs proof (λ bytes. comes (said held bytes)))
+
 -- what is said of the bytes of a proof and of a map
 unfoldable pub say_audit_of : (List ℕ → List ℕ) → Query → Opened → List ℕ → Outcome
 say_audit_of hash query map bytes = say_finding (proof_version bytes)
@@ -187,8 +222,16 @@ say_audit_of hash query map bytes = say_finding (proof_version bytes)
 
 -- `audit MAP QUERY PROOF`: what the proof in a file is worth against the map in another one
 abbrev pub say_audit : (List ℕ → List ℕ) → List ℕ → Query → List ℕ → Plan
-say_audit hash name query proof = needs_map hash name
-    (λ map. needs proof (λ bytes. comes (say_audit_of hash query map bytes)))
+say_audit hash name query proof = needs_beside hash name proof (say_audit_of hash query)
+
+-- what is said of the bytes of a proof of a count and of a map
+unfoldable pub say_audit_count_of : (List ℕ → List ℕ) → (Key → Way) → Opened → List ℕ → Outcome
+say_audit_count_of hash way map bytes = say_count_finding way
+    (count_found (by map.version hash) map.tree map.batch way bytes)
+
+-- `audit-count MAP QUERY PROOF`: what such a proof in a file is worth against the map in another
+abbrev pub say_audit_count : (List ℕ → List ℕ) → List ℕ → (Key → Way) → List ℕ → Plan
+say_audit_count hash name way proof = needs_beside hash name proof (say_audit_count_of hash way)
 
 -- the bundle for the script in a file on a map, in another file
 abbrev pub say_script : (List ℕ → List ℕ) → (script bundle : List ℕ) → Opened → Plan
@@ -300,6 +343,12 @@ say hash (Some (commands.Apply old batch new)) = say_apply hash old.now batch.no
 say hash (Some (commands.Prove map query proof)) = say_prove hash map.now query proof.now
 say hash (Some (commands.Check root query proof)) = say_check hash root query proof.now
 say hash (Some (commands.Audit map query proof)) = say_audit hash map.now query proof.now
+say hash (Some (commands.Count map query proof)) =
+    say_count hash map.now (count_ways query) proof.now
+say hash (Some (commands.CheckCount root query proof)) =
+    say_check_count hash root (count_ways query) proof.now
+say hash (Some (commands.AuditCount map query proof)) =
+    say_audit_count hash map.now (count_ways query) proof.now
 say hash (Some (commands.Serve map script bundle)) =
     say_serve hash map.now script.now bundle.now
 say hash (Some (commands.CheckAll root script bundle)) =

@@ -1,5 +1,5 @@
 -- Outcomes, by what they say.
-use Rattle.std.specs.Prelude.{ℕ, Bool, false, if◌then◌else◌, List, ◌++◌, length, codes, Option, is_some, Result, Ok, Err}
+use Rattle.std.specs.Prelude.{ℕ, Bool, false, if◌then◌else◌, List, ◌++◌, length, codes, Option, Result, Ok, Err}
 use Rattle.std.specs.List.{list_any}
 use Rattle.mr_record.specs.RecordText.{text_of}
 use Rattle.mr_record.specs.declared.version.Version.{Version}
@@ -11,6 +11,12 @@ use Rattle.mr_tree.specs.declared.nodes.Top.{Top}
 use Rattle.mr_tree.specs.declared.stored.Stored.{Stored}
 use Rattle.mr_pages.specs.declared.opening.Opened.{Opened}
 use Rattle.mr_query.specs.declared.query.Query.{Query}
+use Rattle.mr_query.specs.declared.key.Key.{Key}
+use Rattle.mr_proof.specs.Tight.{Question, question}
+use Rattle.mr_proof.specs.declared.way.Way.{Way}
+use Rattle.mr_count.specs.Chosen.{total_whole}
+use Rattle.mr_count.specs.declared.finding.ChoiceFinding.{ChoiceFinding}
+use Rattle.mr_count.specs.declared.finding.ChoiceFinding.TheVariants as counts
 use Rattle.mr_bundle.specs.Bundle.{parts}
 use Rattle.mr_bundle.specs.Proofs.{bundle}
 use Rattle.mr_bundle.specs.Verdicts.{verdicts}
@@ -18,7 +24,7 @@ use Rattle.mr_bundle.specs.declared.verdict.Verdict.{Verdict}
 use Rattle.mr_clash.specs.declared.finding.Finding.{Finding}
 use Rattle.mr_clash.specs.declared.finding.Finding.TheVariants as findings
 use Rattle.mr_plan.specs.Judged.{bundle_text, bundle_status}
-use Rattle.mr_plan.specs.Lines.{bad_text_line, needs_version_2_line, missing_line, proof_line, served_line, sound_line, collision_lines}
+use Rattle.mr_plan.specs.Lines.{bad_text_line, needs_version_2_line, missing_line, proof_line, served_line, sound_line, collision_lines, counted_line}
 use Rattle.mr_plan.specs.Outcome.{Outcome, Content, Nothing, File, InPlace}
 use Rattle.mr_plan.specs.Outcome as content
 use Rattle.mr_plan.specs.Refusal.{refused_line}
@@ -68,11 +74,23 @@ say_finding v (findings.Refused fault) = ends Refused (refused_line fault)
 say_finding v (findings.Sound answer) = prints (sound_line ++ text_of v answer)
 say_finding v (findings.Collision owned shown) = ends Collision (collision_lines owned shown)
 
--- whether a map of this version has no proof for the query: one of the first version for a query
--- that names a mask
+-- the same of the bytes of a proof of a count: in place of the answer the number of the records
+-- that are taken whole
+abbrev pub say_count_finding : (Key → Way) → ChoiceFinding → Outcome
+say_count_finding way (counts.Refused fault) = ends Refused (refused_line fault)
+say_count_finding way (counts.Sound taken) =
+    prints (sound_line ++ counted_line (total_whole way taken))
+say_count_finding way (counts.Collision owned shown) = ends Collision (collision_lines owned shown)
+
+-- whether a map of this version has no proof of what is asked: one of the first version where only
+-- proofs of the second may come
+abbrev pub lacks_proof_for : Version → Question → Bool
+lacks_proof_for One asked = asked.two_only
+lacks_proof_for Two asked = false
+
+-- for a query: where it names a mask
 abbrev pub lacks_proof : Version → Query → Bool
-lacks_proof One query = is_some query.mask
-lacks_proof Two query = false
+lacks_proof v query = lacks_proof_for v (question query)
 
 -- this is said, unless a map lacks a proof that is asked for
 abbrev pub unless_lacking : Bool → Outcome → Outcome

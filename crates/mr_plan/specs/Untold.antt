@@ -1,6 +1,6 @@
 -- What a command may come to over files that are not told. Where it reads pages of a map again, a
 -- page may be another one by then; over files that are told none ever is.
-use Rattle.std.specs.Prelude.{◌≡◌, ◌≢◌, ◌⊎◌, ◌↔◌, ⊤, true, ℕ, ◌^◌, ◌<◌, ◌≤◌, Bool, List, length, Option, Some, None, is_some, IfSome, IsNone, Ok, Err}
+use Rattle.std.specs.Prelude.{◌≡◌, ◌≢◌, ◌⊎◌, ◌↔◌, ⊤, true, ℕ, ◌^◌, ◌<◌, ◌≤◌, Bool, List, length, Option, Some, None, IfSome, IsNone, Ok, Err}
 use Rattle.mr_outside.specs.Files.{Files}
 use Rattle.mr_record.specs.private.Bytes.{AreBytes}
 use Rattle.mr_record.specs.declared.record.Record.{Record}
@@ -27,12 +27,18 @@ use Rattle.mr_query.specs.declared.query.Query.{Query}
 use Rattle.mr_check.specs.Versions.{proof_version}
 use Rattle.mr_clash.specs.Finding.{ShowsCollision, FindsFor}
 use Rattle.mr_clash.specs.declared.finding.Finding.{Finding}
+use Rattle.mr_query.specs.declared.key.Key.{Key}
+use Rattle.mr_proof.specs.Tight.{Question, question}
+use Rattle.mr_proof.specs.declared.way.Way.{Way}
+use Rattle.mr_count.specs.Finding as choices
+use Rattle.mr_count.specs.declared.finding.ChoiceFinding.{ChoiceFinding}
+use Rattle.mr_plan.specs.Counts.{count_letter, count_question, count_ways}
 use Rattle.mr_plan.specs.Found.{bad_map_line}
 use Rattle.mr_plan.specs.Lines.{digest_line, needs_version_2_line, bad_text_line, bad_batch_line, recovered_line}
 use Rattle.mr_plan.specs.Outcome.{Outcome}
 use Rattle.mr_plan.specs.Plan.{LeadsToOutcome}
 use Rattle.mr_plan.specs.Say.{say}
-use Rattle.mr_plan.specs.Saying.{ends, says_missing, say_text, say_written, say_finding, say_in_place, say_serve_of}
+use Rattle.mr_plan.specs.Saying.{ends, says_missing, say_text, say_written, say_finding, say_count_finding, say_in_place, say_serve_of}
 use Rattle.mr_plan.specs.declared.status.Status.TheVariants.{Done, BadText, BadMap, BadBatch, NeedsVersion2}
 use Rattle.mr_plan.specs.declared.words.Command.{Command}
 use Rattle.mr_plan.specs.declared.words.Command.TheVariants as commands
@@ -70,10 +76,18 @@ pub record IsFinding (hash : List ℕ → List ℕ) (query : Query) (bytes : Lis
   pub judged : FindsFor hash stands query bytes finding
   pub collides : ShowsCollision hash finding
 
--- the query names a mask, of which a map of the first version has no proof
-abbrev pub LacksProof : Query → Outcome → Type 0
-LacksProof query said =
-    (is_some query.mask ≡ true) × (said ≡ ends NeedsVersion2 needs_version_2_line)
+-- the same of the bytes of a proof of a count
+pub record IsCountFinding (hash : List ℕ → List ℕ) (way : Key → Way) (bytes : List ℕ)
+    (finding : ChoiceFinding) : Type 0 where
+  pub stands : MapModel
+  pub are : AreBytes bytes
+  pub judged : choices.FindsForChoice hash stands count_letter way bytes finding
+  pub collides : choices.ShowsCollision hash finding
+
+-- only proofs of the second version may come of what is asked, of which a map of the first has none
+abbrev pub LacksProof : Question → Outcome → Type 0
+LacksProof asked said =
+    (asked.two_only ≡ true) × (said ≡ ends NeedsVersion2 needs_version_2_line)
 
 -- some text has this first fault as a batch of some version
 abbrev pub IsBadText : Outcome → Type 0
@@ -107,17 +121,30 @@ IsSomeRoot hash new said = (digest : List ℕ) × (length digest ≡ 32) × IsRo
 -- ---- what is said of a map of which not all reads give the same bytes
 
 -- it is refused, or lacks the proof, or some bytes are written
-abbrev pub MaySayProve : (List ℕ → List ℕ) → (map : List ℕ) → Query → (proof : List ℕ) → Outcome
-    → Type 0
-MaySayProve hash map query proof said = IsRefused hash map said ⊎ LacksProof query said
+abbrev pub MaySayProof : (List ℕ → List ℕ) → (map : List ℕ) → Question → (proof : List ℕ)
+    → Outcome → Type 0
+MaySayProof hash map asked proof said = IsRefused hash map said ⊎ LacksProof asked said
     ⊎ ((bytes : List ℕ) × (said ≡ say_written proof bytes))
 
--- it is refused, or what was found of some bytes is said, in lines of their version
+-- it is refused, or the proof is missing, or what was found of some bytes is said
+abbrev pub MaySayBeside : (List ℕ → List ℕ) → (map proof : List ℕ) → (Outcome → Type 0) → Outcome
+    → Type 0
+MaySayBeside hash map proof finds said =
+    IsRefused hash map said ⊎ (said ≡ says_missing proof) ⊎ finds said
+
+-- of a query: in lines of their version
 abbrev pub MaySayAudit : (List ℕ → List ℕ) → (map : List ℕ) → Query → (proof : List ℕ) → Outcome
     → Type 0
-MaySayAudit hash map query proof said = IsRefused hash map said ⊎ (said ≡ says_missing proof)
-    ⊎ ((bytes : List ℕ) × (finding : Finding) × IsFinding hash query bytes finding
+MaySayAudit hash map query proof = MaySayBeside hash map proof (λ said. (bytes : List ℕ)
+    × (finding : Finding) × IsFinding hash query bytes finding
     × (said ≡ say_finding (proof_version bytes) finding))
+
+-- of a count
+abbrev pub MaySayAuditCount : (List ℕ → List ℕ) → (map : List ℕ) → (Key → Way) → (proof : List ℕ)
+    → Outcome → Type 0
+MaySayAuditCount hash map way proof = MaySayBeside hash map proof (λ said. (bytes : List ℕ)
+    × (finding : ChoiceFinding) × IsCountFinding hash way bytes finding
+    × (said ≡ say_count_finding way finding))
 
 -- it is refused, or what is said is the bundle of some map, for the queries of some script
 abbrev pub MaySayServe : (List ℕ → List ℕ) → (map script bundle : List ℕ) → Outcome → Type 0
@@ -136,9 +163,13 @@ MaySayApply hash old batch new said = IsRefused hash old said ⊎ (said ≡ says
 -- what its plan leads to, by some content of each file.
 abbrev pub MaySayUntold : (List ℕ → List ℕ) → Option Command → Outcome → Type 0
 MaySayUntold hash (Some (commands.Prove map query proof)) said =
-    MaySayProve hash map.now query proof.now said
+    MaySayProof hash map.now (question query) proof.now said
 MaySayUntold hash (Some (commands.Audit map query proof)) said =
     MaySayAudit hash map.now query proof.now said
+MaySayUntold hash (Some (commands.Count map query proof)) said =
+    MaySayProof hash map.now (count_question (count_ways query)) proof.now said
+MaySayUntold hash (Some (commands.AuditCount map query proof)) said =
+    MaySayAuditCount hash map.now (count_ways query) proof.now said
 MaySayUntold hash (Some (commands.Serve map script bundle)) said =
     MaySayServe hash map.now script.now bundle.now said
 MaySayUntold hash (Some (commands.Apply old batch new)) said =

@@ -6,6 +6,8 @@ use Rattle.mr_record.specs.private.Bytes.{AreBytes}
 use Rattle.mr_tree.specs.Limits.{count_limit}
 use Rattle.mr_query.specs.Word.{IsQuery, word_of}
 use Rattle.mr_query.specs.declared.query.Query.{Query}
+use Rattle.mr_query.specs.declared.query.Shape.{Shape}
+use Rattle.mr_query.specs.declared.query.Shape.TheVariants.{Window, Nearest}
 use Rattle.mr_plan.specs.declared.words.Command.{Command}
 use Rattle.mr_plan.specs.declared.words.Command.TheVariants as commands
 
@@ -17,6 +19,8 @@ pub data Word : Type 0 where
   file : (name : List ℕ) → Word
   digest : (bytes : List ℕ) → Word
   query : (asked : Query) → Word
+  -- a query for a window
+  window : (asked : Query) → Word
   -- a number from the one to the other of two bounds
   number : (least most value : ℕ) → Word
 
@@ -26,6 +30,7 @@ spelled (key name) = name
 spelled (file name) = name
 spelled (digest bytes) = encode_lower bytes
 spelled (query asked) = word_of asked
+spelled (window asked) = word_of asked
 spelled (number least most value) = decimal value
 
 -- 32 bytes
@@ -33,12 +38,18 @@ pub record IsDigest (bytes : List ℕ) : Type 0 where
   pub size : length bytes ≡ 32
   pub each : AreBytes bytes
 
+-- a window is asked for, and not the nearest records
+abbrev pub IsWindow : Shape → Type 0
+IsWindow (Window w) = ⊤
+IsWindow (Nearest p k) = ⊥
+
 -- what such a word may stand for: a file's name is not empty
 abbrev pub IsWord : Word → Type 0
 IsWord (key name) = ⊤
 IsWord (file name) = 0 < length name
 IsWord (digest bytes) = IsDigest bytes
 IsWord (query asked) = IsQuery asked
+IsWord (window asked) = IsQuery asked × IsWindow asked.shape
 IsWord (number least most value) = (least ≤ value) × (value ≤ most)
 
 -- the most records of a demonstration
@@ -68,6 +79,12 @@ words_of (commands.Check root asked proof) =
     key (codes "check") ∷ digest root ∷ query asked ∷ file proof.now ∷ []
 words_of (commands.Audit map asked proof) =
     key (codes "audit") ∷ file map.now ∷ query asked ∷ file proof.now ∷ []
+words_of (commands.Count map asked proof) =
+    key (codes "count") ∷ file map.now ∷ window asked ∷ file proof.now ∷ []
+words_of (commands.CheckCount root asked proof) =
+    key (codes "check-count") ∷ digest root ∷ window asked ∷ file proof.now ∷ []
+words_of (commands.AuditCount map asked proof) =
+    key (codes "audit-count") ∷ file map.now ∷ window asked ∷ file proof.now ∷ []
 words_of (commands.Serve map script bundle) =
     key (codes "serve") ∷ file map.now ∷ file script.now ∷ file bundle.now ∷ []
 words_of (commands.CheckAll root script bundle) =
@@ -84,6 +101,7 @@ file_names (file name ∷ words) = name ∷ file_names words
 file_names (key name ∷ words) = file_names words
 file_names (digest bytes ∷ words) = file_names words
 file_names (query asked ∷ words) = file_names words
+file_names (window asked ∷ words) = file_names words
 file_names (number least most value ∷ words) = file_names words
 
 -- the files that a command reads or writes and no word names: today there is none

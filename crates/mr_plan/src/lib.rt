@@ -11,9 +11,9 @@ mod words;
 
 pub use judged::{count_accepted, judged_status, judged_text};
 pub use lines::{
-    bad_batch_line, bad_map_line, bad_text_line, collision_lines, digest_line, made_line,
-    map_lines, missing_line, needs_version_2_line, proof_line, push_queries, push_totals,
-    refused_line, served_line, sound_line,
+    bad_batch_line, bad_map_line, bad_text_line, collision_lines, counted_line, digest_line,
+    made_line, map_lines, missing_line, needs_version_2_line, proof_line, push_queries,
+    push_totals, refused_line, served_line, sound_line,
 };
 pub use status::Status;
 pub use text::text_of_records;

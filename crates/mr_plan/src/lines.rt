@@ -5,7 +5,7 @@ ghost use Rattle.std.specs.String.{string_bytes};
 ghost use Rattle.hex.specs.Hex.{encode_lower};
 ghost use Rattle.mr_plan.specs.Demo.{map_lines as lines_on_map, query_lines as lines_on_queries, total_lines as lines_on_totals};
 ghost use Rattle.mr_plan.specs.Found.{kept_text, bad_map_line};
-ghost use Rattle.mr_plan.specs.Lines.{bad_text_line, bad_batch_line, batch_fault_text, numbers_text, needs_version_2_line as line_of_need, missing_line, proof_line as line_of_proof, served_line as line_of_served, count_line as line_of_count, made_line as line_made, digest_line, collision_lines as collision_text, sound_line as line_of_sound};
+ghost use Rattle.mr_plan.specs.Lines.{bad_text_line, bad_batch_line, batch_fault_text, numbers_text, needs_version_2_line as line_of_need, missing_line, proof_line as line_of_proof, served_line as line_of_served, count_line as line_of_count, counted_line as line_counted, made_line as line_made, digest_line, collision_lines as collision_text, sound_line as line_of_sound};
 ghost use Rattle.mr_plan.specs.Refusal.{found_text, refused_line};
 
 use mr_batch::BatchFault;
@@ -181,6 +181,14 @@ pub fn made_line(alloc: Global, count: u32) -> Result<String, AllocError>
     count_line(alloc, "made", u128::from(count))
 }
 
+/// The line on records that are counted: `count NUMBER`.
+#[tactic(auto, unfolding(crate::specs::Lines::counted_line))]
+pub fn counted_line(alloc: Global, count: u64) -> Result<String, AllocError>
+    ensures { IfOk result (λ s. string_bytes s ≡ line_counted count) }
+{
+    count_line(alloc, "count", u128::from(count))
+}
+
 // Puts a line of a name and a number.
 fn push_count(alloc: Global, lines: &mut String, name: &str, number: u128) -> Result<(), AllocError>
     ensures { OnOk result
@@ -269,7 +277,7 @@ pub fn sound_line(alloc: Global) -> Result<String, AllocError>
     Ok(line)
 }
 
-/// The line on a map of version 1, where a query names a mask, of which that has no proofs: `needs
+/// The line on a map of version 1, where what is asked for has proofs of version 2 alone: `needs
 /// version 2`.
 pub fn needs_version_2_line(alloc: Global) -> Result<String, AllocError>
     ensures { IfOk result (λ line. string_bytes line ≡ line_of_need) }

@@ -2,18 +2,19 @@
 
 ghost use Rattle.std.specs.Prelude.{◌≡◌, ◌≤◌, map, string_bytes};
 ghost use Rattle.std.specs.List.{list_all};
+ghost use Rattle.mr_query.specs.Word.{query_of};
 ghost use Rattle.mr_record.specs.Decimal.{u64_of};
 ghost use Rattle.mr_record.specs.RecordText.{is_lower_digit};
-ghost use Rattle.mr_plan.specs.private.Kinds.{HasReadWord, first_word, is_complete, is_fresh, named, noted, reading_of, start, taken, within};
+ghost use Rattle.mr_plan.specs.private.Kinds.{HasReadWord, first_word, if_window, is_complete, is_fresh, is_window as has_window, named, noted, reading_of, start, taken, within};
 ghost use Rattle.mr_plan.specs.private.Asking.{digest_of_word};
-ghost use Rattle.mr_plan.specs.Words.{key, file, digest, query, number};
+ghost use Rattle.mr_plan.specs.Words.{key, file, digest, query, window, number};
 
 use hex::FromHex;
 use mr_geom::Point;
 use mr_query::{Query, Shape, read_query};
 use mr_record::read_u64;
 
-// What stands where a word is no query. Nothing is asked with it.
+// What stands where a word is no query, or none for a window. Nothing is asked with it.
 const NO_QUERY: Query = Query {
     shape: Shape::Nearest {
         center: Point { x: 0, y: 0 },
@@ -39,6 +40,29 @@ fn read_digest(word: &str) -> Option<[u8; 32]>
         return None;
     }
     <[u8; 32] as FromHex>::from_hex(word).ok()
+}
+
+// Whether a window is asked for, and not the nearest records.
+fn is_window(shape: &Shape) -> bool
+    ensures { result ≡ has_window shape.now }
+{
+    matches!(shape, Shape::Window(_))
+}
+
+// The query for a window that a word spells.
+fn read_window(word: &str) -> Option<Query>
+    ensures { result ≡ if_window (query_of word.now) }
+{
+    match read_query(word) {
+        Ok(query) => {
+            if is_window(&query.shape) {
+                Some(query)
+            } else {
+                None
+            }
+        }
+        Err(_) => None,
+    }
 }
 
 // The number between two bounds that a word writes in decimal.
@@ -162,6 +186,16 @@ impl<'a> Reader<'a> {
     {
         let query = read_query(self.next());
         self.note(query.is_ok());
+        query.unwrap_or(NO_QUERY)
+    }
+
+    // A query for a window.
+    #[tactic(auto, unfolding(crate::specs::private::Kinds::word_next, crate::specs::private::Kinds::past))]
+    pub(crate) fn window(&mut self) -> Query
+        ensures { HasReadWord (window result) (reading_of self.old) (reading_of self.new) }
+    {
+        let query = read_window(self.next());
+        self.note(query.is_some());
         query.unwrap_or(NO_QUERY)
     }
 

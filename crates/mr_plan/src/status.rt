@@ -24,7 +24,7 @@ pub enum Status {
     Outside,
     /// There was no memory.
     NoMemory,
-    /// A map is of version 1, and a query names a mask, of which that has no proof.
+    /// A map is of version 1, and what is asked for has proofs of version 2 alone.
     NeedsVersion2,
 }
 

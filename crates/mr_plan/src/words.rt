@@ -42,6 +42,15 @@ pub enum Command<'a> {
     /// Say what the proof in the second file is worth against the map in the first one, for a
     /// query.
     Audit(&'a str, Query, &'a str),
+    /// Write the proof of how many records of the map in the first file lie inside a window, on the
+    /// layers asked for, to the second file, and print its length. The map has to be of version 2.
+    Count(&'a str, Query, &'a str),
+    /// Print how many records lie inside a window, as the proof in a file proves it against a root
+    /// digest.
+    CheckCount([u8; 32], Query, &'a str),
+    /// Say what the proof of such a number in the second file is worth against the map in the first
+    /// one.
+    AuditCount(&'a str, Query, &'a str),
     /// Write the proofs for the queries of the script in the second file, on the map in the first
     /// one, to the third one as a bundle, and print how many they are and the bundle's length.
     Serve(&'a str, &'a str, &'a str),
@@ -72,6 +81,9 @@ fn command_of<'a>(words: &mut Reader<'a>) -> Option<Command<'a>>
         "prove" => Some(Command::Prove(words.file(), words.query(), words.file())),
         "check" => Some(Command::Check(words.digest(), words.query(), words.file())),
         "audit" => Some(Command::Audit(words.file(), words.query(), words.file())),
+        "count" => Some(Command::Count(words.file(), words.window(), words.file())),
+        "check-count" => Some(Command::CheckCount(words.digest(), words.window(), words.file())),
+        "audit-count" => Some(Command::AuditCount(words.file(), words.window(), words.file())),
         "serve" => Some(Command::Serve(words.file(), words.file(), words.file())),
         "check-all" => Some(Command::CheckAll(words.digest(), words.file(), words.file())),
         "make" => {

@@ -1,3 +1,5 @@
 pub mod Runs
+pub mod CountWorth
 pub mod Promises
+pub mod Counts
 pub mod WholeRuns

@@ -1,7 +1,7 @@
 -- What a run promises of inputs that are in order, of honest proofs and of accepted ones: by what its command came
 -- to, and how that was printed.
 use Rattle.std.proofs.Common.{◌≡◌, ℕ, ◌<◌, ◌^◌, List, [], ◌∷◌, ◌++◌, refl, sym, ap, subst, ◌∙◌, inl, inr}
-use Rattle.std.specs.Prelude.{◌⊎◌, Option, Some, None, option_map, IfSome, Result, Ok, Err}
+use Rattle.std.specs.Prelude.{◌⊎◌, false, Option, Some, None, option_map, IfSome, Result, Ok, Err}
 use Rattle.std.specs.List.{AllByRecursion}
 use Rattle.mr_outside.specs.Faults.{Rose}
 use Rattle.mr_outside.specs.Files.{Files, with_file}
@@ -24,10 +24,10 @@ use Rattle.mr_query.specs.declared.query.Query.{Query}
 use Rattle.mr_proof.specs.declared.rule.Fault.{Fault}
 use Rattle.mr_proof.specs.Clash.{Pair, clash, IsCollision, NoneAnd}
 use Rattle.mr_proof.specs.Headline.{IsHonest}
-use Rattle.mr_proof.specs.Honest.{honest_head, honest_part, proof, IsProof}
+use Rattle.mr_proof.specs.Honest.{honest_head, honest_part, proof_for, IsProof}
 use Rattle.mr_proof.specs.Spelling.{part_bytes}
 use Rattle.mr_proof.specs.Reading.{verdict}
-use Rattle.mr_proof.specs.Tight.{MayCome, question}
+use Rattle.mr_proof.specs.Tight.{Question, MayCome, question}
 use Rattle.mr_proof.proofs.PreimageBytes.{IsSized}
 use Rattle.mr_proof.proofs.Complete.{accepts_honest}
 use Rattle.mr_proof.proofs.Completeness.{verdict_from}
@@ -36,6 +36,7 @@ use Rattle.mr_proof.proofs.SameNodes.{none_more}
 use Rattle.mr_proof.proofs.NoClash.{honest_quiet}
 use Rattle.mr_proof.proofs.Worth.{headline, accepted_headline}
 use Rattle.mr_check.specs.Versions.{proof_version}
+use Rattle.mr_count.specs.Chosen.{taken_of}
 use Rattle.mr_check.proofs.Versions.{head_version}
 use Rattle.mr_clash.specs.Finding.{finding_of, ShowsCollision}
 use Rattle.mr_clash.specs.declared.finding.Finding.{Finding}
@@ -53,13 +54,14 @@ use Rattle.mr_batch.specs.declared.admission.BatchFault.{BatchFault}
 use Rattle.mr_command.specs.Answer.{World, HasStopped, IsWhole}
 use Rattle.mr_command.specs.Ending.{EndsPlan, EndsAsSaid, FindsMap, IsCarriedOut, IsWell, printed_of}
 use Rattle.mr_command.specs.private.Steps.{PrintsEnding}
+use Rattle.mr_plan.specs.Counts.{count_question, count_ways}
 use Rattle.mr_plan.specs.First.{pages_by}
 use Rattle.mr_plan.specs.Found.{Found, ShowsMap}
 use Rattle.mr_plan.specs.Outcome.{Outcome, IsHeld}
 use Rattle.mr_plan.specs.Plan.{Plan, comes, opens, Input, IsInput, LeadsToOutcome}
-use Rattle.mr_plan.specs.Untold.{MaySayApply, MaySayAudit, MaySayServe, MaySayUntold}
-use Rattle.mr_tool.specs.Promises.{HoldsBytes, HoldsRecords, HoldsMap, HoldsProof, HoldsBatch, HoldsScript, HoldsBundle, IsInOrder, CompletesWords, AnswersHonest, PrintsScan, IsWorth, AcceptsHonestOrCollides, DeliversOutcome, SaysWorth, AuditsAccepted, CollidesRightly, IsApplied, AppliesAlike, IsUpgraded, UpgradesAll}
-use Rattle.mr_plan.specs.Say.{given, given_map, needs, needs_map, unless_lacking, say_written, prints, say, say_root_of, say_build_of, say_list_of, say_upgrade, say_upgrade_of, say_admitted, say_batch, say_change, say_apply, say_apply_of, say_prove_of, say_check, say_check_of, say_audit, say_audit_of, say_finding, say_script, say_serve, say_serve_of, given_queries, say_parts, say_parts_of, say_check_all, say_make_of}
+use Rattle.mr_plan.specs.Untold.{IsFinding, MaySayApply, MaySayAudit, MaySayBeside, MaySayServe, MaySayUntold}
+use Rattle.mr_tool.specs.Promises.{HoldsBytes, HoldsRecords, HoldsMap, HoldsProof, HoldsCut, HoldsBatch, HoldsScript, HoldsBundle, IsInOrder, CompletesWords, AnswersHonest, PrintsScan, IsWorth, AcceptsHonestOrCollides, DeliversOutcome, SaysWorth, AuditsAccepted, IsApplied, AppliesAlike, IsUpgraded, UpgradesAll}
+use Rattle.mr_plan.specs.Say.{given, given_map, needs, needs_map, needs_beside, lacks_proof_for, unless_lacking, say_written, prints, say, say_root_of, say_build_of, say_list_of, say_upgrade, say_upgrade_of, say_admitted, say_batch, say_change, say_apply, say_apply_of, say_proof_of, say_check, say_check_of, say_check_count, say_check_count_of, say_audit, say_audit_of, say_audit_count_of, say_finding, say_script, say_serve, say_serve_of, given_queries, say_parts, say_parts_of, say_check_all, say_make_of}
 use Rattle.mr_plan.specs.Lines.{digest_line, sound_line, collision_lines}
 use Rattle.mr_plan.specs.Words.{IsWord, words_of, SpellsCommand}
 use Rattle.mr_command.specs.declared.ending.Ending.{Ending}
@@ -71,17 +73,18 @@ use Rattle.mr_plan.specs.declared.status.Status.TheVariants.{Done, Refused, BadM
 use Rattle.mr_plan.specs.declared.words.Command.{Command}
 use Rattle.mr_plan.specs.declared.words.Command.TheVariants as commands
 use Rattle.mr_command.proofs.Batches.{fits_if_none, says_applied}
-use Rattle.mr_command.proofs.Bundles.{lacks_by, lacks_none, parts_done, served_done}
+use Rattle.mr_command.proofs.Bundles.{lacks_none, parts_done, served_done}
 use Rattle.mr_command.proofs.Going.{version_by}
-use Rattle.mr_command.proofs.Verdicts.{says_verdict, says_finding}
+use Rattle.mr_command.proofs.Verdicts.{says_verdict, says_count_verdict, says_finding}
+use Rattle.mr_tool.proofs.CountWorth.{count_shown, narrow_ways, own_found}
 
 -- ---- to the end, or stopped
 
 -- a command came to its end, and its text was printed
-record HasRun (plan : Plan) (may : Outcome → Type 0) (before after : World) (status : Status) : Type 0 where
-  text : List ℕ
-  ends : EndsAsSaid plan may before.shelf.files after.shelf.files status text
-  printed : TakesBytes before.sink after.sink text
+pub record HasRun (plan : Plan) (may : Outcome → Type 0) (before after : World) (status : Status) : Type 0 where
+  pub text : List ℕ
+  pub ends : EndsAsSaid plan may before.shelf.files after.shelf.files status text
+  pub printed : TakesBytes before.sink after.sink text
 
 -- what stopped the printing stopped the run
 stopped_printing : (before after : World) (status : Status)
@@ -90,15 +93,15 @@ stopped_printing : (before after : World) (status : Status)
 stopped_printing before after status (inl none) = inl none
 stopped_printing before after status (inr failed) = inr (failed.0, inr failed.1)
 
-abbrev may_be : (List ℕ → List ℕ) → Command → Outcome → Type 0
+abbrev pub may_be : (List ℕ → List ℕ) → Command → Outcome → Type 0
 may_be hash command = MaySayUntold hash (Some command)
 
 -- so a command is run, or it stopped
-abbrev IsRunOr : (List ℕ → List ℕ) → Command → World → World → Status → Type 0
+abbrev pub IsRunOr : (List ℕ → List ℕ) → Command → World → World → Status → Type 0
 IsRunOr hash command before after status =
     HasRun (say hash (Some command)) (may_be hash command) before after status ⊎ HasStopped before after status
 
-ran : (hash : List ℕ → List ℕ) (command : Command) (before after : World) (status : Status)
+pub ran : (hash : List ℕ → List ℕ) (command : Command) (before after : World) (status : Status)
     (came : Result Ending Halt) → IsCarriedOut hash command before.shelf after.shelf came
     → PrintsEnding came before.sink after.sink status → IsRunOr hash command before after status
 ran hash command before after status (Ok ending) came ended = elim ended.printed [
@@ -130,7 +133,7 @@ of_told None name bytes P held of = absurd held
 of_told (Some files) name bytes P held of = of
 
 -- where this file is told, a command came to its end by its plan
-told_ends : (told after : Option Files) (name bytes : List ℕ) (plan : Plan) (may : Outcome → Type 0)
+pub told_ends : (told after : Option Files) (name bytes : List ℕ) (plan : Plan) (may : Outcome → Type 0)
     (status : Status) (text : List ℕ) → HoldsBytes told name bytes → EndsAsSaid plan may told after status text
     → EndsPlan plan told after status text
 told_ends None after name bytes plan may status text held ends = absurd held
@@ -139,12 +142,12 @@ told_ends (Some files) after name bytes plan may status text held ends = ends
 -- a command that reads this file came to its end by its bytes
 module _ (name bytes : List ℕ) (before after : Option Files) (status : Status) (text : List ℕ)
     (held : HoldsBytes before name bytes) where
-  taken_on : (next : List ℕ → Plan) → EndsPlan (needs name next) before after status text
+  pub taken_on : (next : List ℕ → Plan) → EndsPlan (needs name next) before after status text
       → AreBytes bytes
   taken_on next ends = subst (λ input. IfSome input AreBytes)
       (input_is before name bytes ends.0 held ends.1) ends.2
 
-  ends_on : (next : List ℕ → Plan) → EndsPlan (needs name next) before after status text
+  pub ends_on : (next : List ℕ → Plan) → EndsPlan (needs name next) before after status text
       → EndsPlan (next bytes) before after status text
   ends_on next ends = subst (λ input. EndsPlan (given name next input) before after status text)
       (input_is before name bytes ends.0 held ends.1) ends.3
@@ -173,10 +176,23 @@ map_on v hash name held t batch before after status text holds stands next ends 
     (ends_on name held before after status text holds (λ bytes. opens (version_of bytes) hash bytes (given_map next))
     ends))
 
+-- a command that reads a file beside the map came to its end by both
+pub beside_on : (v : Version) (hash : List ℕ → List ℕ) (map held : List ℕ) (t : Tree) (batch : ℕ)
+    (before after : Option Files) (status : Status) (text : List ℕ) → HoldsBytes before map held
+    → IsMapFile hash held (map_in v t batch) → (name bytes : List ℕ) → HoldsBytes before name bytes
+    → (said : Opened → List ℕ → Outcome) (may : Outcome → Type 0)
+    → EndsAsSaid (needs_beside hash map name said) may before after status text
+    → EndsPlan (comes (said (map_in v t batch) bytes)) before after status text
+beside_on v hash map held t batch before after status text map_held stands name bytes name_held said may ends =
+    let next : Opened → Plan = λ m. needs name (λ bytes. comes (said m bytes)) in
+    let mapped = map_on v hash map held t batch before after status text map_held stands next
+    (told_ends before after map held (needs_beside hash map name said) may status text map_held ends) in
+    ends_on name bytes before after status text name_held (λ bytes. comes (said (map_in v t batch) bytes)) mapped
+
 -- ---- a proof beside the map
 
 -- the layers of a map are those of its version
-layers_of : (v : Version) (hash : List ℕ → List ℕ) (held : List ℕ) (t : Tree) (batch : ℕ)
+pub layers_of : (v : Version) (hash : List ℕ → List ℕ) (held : List ℕ) (t : Tree) (batch : ℕ)
     → IsMapFile hash held (map_in v t batch) → HasLayers v t
 layers_of v hash held t batch stands = subst (λ u. HasLayers u t) (version_by v) stands.layers
 
@@ -204,12 +220,8 @@ module _ (v : Version) (hash : List ℕ → List ℕ) where
     audited_ends : EndsAsSaid (say_audit hash map q name) (MaySayAudit hash map q name) before after status text
         → EndsPlan (comes (say_audit_of hash q (map_in v t batch) bytes)) before after status text
     audited_ends ends =
-        let next : Opened → Plan = λ m. needs name (λ bytes. comes (say_audit_of hash q m bytes)) in
-        let mapped = map_on v hash map held t batch before after status text map_held stands next
-        (told_ends before after map held (say_audit hash map q name) (MaySayAudit hash map q name) status text map_held
-        ends) in
-        ends_on name bytes before after status text name_held
-        (λ bytes. comes (say_audit_of hash q (map_in v t batch) bytes)) mapped
+        beside_on v hash map held t batch before after status text map_held stands name bytes name_held
+        (say_audit_of hash q) (MaySayAudit hash map q name) ends
 
     audit_done : IsSized hash → IsQuery q → IsProof scheme t batch q bytes
         → EndsAsSaid (say_audit hash map q name) (MaySayAudit hash map q name) before after status text
@@ -227,7 +239,7 @@ module _ (v : Version) (hash : List ℕ → List ℕ) where
         ∙ ap (λ (o : Outcome). o.status) (says_found q t batch bytes (Ok (scan (records t) q)) None accepted quiet)
 
 -- an outcome without a file, to its end
-whole_of : (said : Outcome) (other : Outcome) (before after : World) (status : Status) (text : List ℕ)
+pub whole_of : (said : Outcome) (other : Outcome) (before after : World) (status : Status) (text : List ℕ)
     → said ≡ other → EndsPlan (comes said) before.shelf.files after.shelf.files status text
     → TakesBytes before.sink after.sink text → IsWhole other before after status
 whole_of said other before after status text e on printed =
@@ -267,14 +279,15 @@ module _ (v : Version) (hash : List ℕ → List ℕ) (before after : World) (st
 -- ---- two strings that are printed
 
 -- a status that is not that of a collision
-other_status : {A : Type 0} (status other : Status) → status ≡ Collision → status ≡ other → (Collision ≡ other → ⊥) → A
+pub other_status : {A : Type 0} (status other : Status) → status ≡ Collision → status ≡ other
+    → (Collision ≡ other → ⊥) → A
 other_status status other is was not = absurd (not (sym is ∙ was))
 
 -- the two strings that the text names
-record Shown (hash : List ℕ → List ℕ) (text : List ℕ) : Type 0 where
-  pair : Pair
-  collides : IsCollision hash pair
-  is : text ≡ collision_lines pair.owned pair.shown
+pub record Shown (hash : List ℕ → List ℕ) (text : List ℕ) : Type 0 where
+  pub pair : Pair
+  pub collides : IsCollision hash pair
+  pub is : text ≡ collision_lines pair.owned pair.shown
 
 module _ (v : Version) (hash : List ℕ → List ℕ) (sized : IsSized hash) (q : Query) (may : IsQuery q) (t : Tree)
     (batch : ℕ) (bytes : List ℕ) (well : WellFormed t) (layers : HasLayers v t) (low : batch < 2 ^ 64)
@@ -303,19 +316,22 @@ module _ (v : Version) (hash : List ℕ → List ℕ) (sized : IsSized hash) (q 
       (subst (λ said. EndsPlan (comes said) before after status text)
       (says_found v hash q t batch bytes r o refl refl) ends)
 
-module _ (hash : List ℕ → List ℕ) (sized : IsSized hash) (q : Query) (may : IsQuery q) (name : List ℕ)
-    (before after : Option Files) (status : Status) (text : List ℕ) (is : status ≡ Collision) where
+-- whatever an audit says of the bytes of a proof and of a map
+module _ (hash : List ℕ → List ℕ) (name : List ℕ) (before after : Option Files) (status : Status) (text : List ℕ)
+    (is : status ≡ Collision) (said_of : Opened → List ℕ → Outcome) (finds : Outcome → Type 0)
+    (shows : (m : Opened) → WellFormed m.tree → HasLayers m.version m.tree → m.batch < 2 ^ 64 → (bytes : List ℕ)
+    → AreBytes bytes → EndsPlan (comes (said_of m bytes)) before after status text → Shown hash text)
+    (finds_shown : (said : Outcome) → finds said → status ≡ said.status → text ≡ said.printed → Shown hash text) where
   -- what is said of the proof, by the map
   abbrev proof_plan : Opened → Plan
-  proof_plan m = needs name (λ bytes. comes (say_audit_of hash q m bytes))
+  proof_plan m = needs name (λ bytes. comes (said_of m bytes))
 
   shown_with : (m : Opened) → WellFormed m.tree → HasLayers m.version m.tree → m.batch < 2 ^ 64 → (input : Input)
       → IfSome input AreBytes
-      → EndsPlan (given name (λ bytes. comes (say_audit_of hash q m bytes)) input) before after status text
+      → EndsPlan (given name (λ bytes. comes (said_of m bytes)) input) before after status text
       → Shown hash text
   shown_with m well layers low None taken ends = other_status status Outside is ends.0 (λ c. cc)
-  shown_with m well layers low (Some bytes) taken ends =
-      shown_of m.version hash sized q may m.tree m.batch bytes well layers low taken before after status text is ends
+  shown_with m well layers low (Some bytes) taken ends = shows m well layers low bytes taken ends
 
   shown_found : (v : Version) (held : List ℕ) (found : Found) → ShowsMap v hash held found → IsWell found
       → EndsPlan (given_map proof_plan found) before after status text → Shown hash text
@@ -331,7 +347,34 @@ module _ (hash : List ℕ → List ℕ) (sized : IsSized hash) (q : Query) (may 
   shown_opened map None ends = other_status status Outside is ends.0 (λ c. cc)
   shown_opened map (Some bytes) ends = shown_found (version_of bytes) bytes ends.0 ends.1.0 ends.2 ends.3
 
-  -- over files that are not told, by what was found
+  shown_untold : (map : List ℕ) (said : Outcome) → MaySayBeside hash map name finds said → status ≡ said.status
+      → text ≡ said.printed → Shown hash text
+  shown_untold map said (inl (inl e)) st tx =
+      other_status status Outside is (st ∙ ap (λ (o : Outcome). o.status) e) (λ c. cc)
+  shown_untold map said (inl (inr bad)) st tx =
+      other_status status BadMap is (st ∙ ap (λ (o : Outcome). o.status) bad.2) (λ c. cc)
+  shown_untold map said (inr (inl e)) st tx =
+      other_status status Outside is (st ∙ ap (λ (o : Outcome). o.status) e) (λ c. cc)
+  shown_untold map said (inr (inr found)) st tx = finds_shown said found st tx
+
+  pub shown_beside : (map : List ℕ)
+      → EndsAsSaid (needs_beside hash map name said_of) (MaySayBeside hash map name finds) before after status text
+      → Shown hash text
+  shown_beside map ends = by_files before refl
+    where
+      by_files : (o : Option Files) → before ≡ o → Shown hash text
+      by_files None e =
+          let on = subst (λ o. EndsAsSaid (needs_beside hash map name said_of) (MaySayBeside hash map name finds) o
+          after status text) e ends in
+          shown_untold map on.0 on.1 on.2 on.3
+      by_files (Some files) e =
+          let on = subst (λ o. EndsPlan (needs_map hash map proof_plan) o after status text) (sym e)
+          (subst (λ o. EndsAsSaid (needs_beside hash map name said_of) (MaySayBeside hash map name finds) o after
+          status text) e ends) in
+          shown_opened map on.0 on.3
+
+-- by what was found of the proof of an answer
+module _ (hash : List ℕ → List ℕ) (status : Status) (text : List ℕ) (is : status ≡ Collision) where
   shown_finding : (v : Version) (f : Finding) (said : Outcome) → ShowsCollision hash f → said ≡ say_finding v f
       → status ≡ said.status → text ≡ said.printed → Shown hash text
   shown_finding v (findings.Refused fault) said collides e st tx =
@@ -344,35 +387,19 @@ module _ (hash : List ℕ → List ℕ) (sized : IsSized hash) (q : Query) (may 
     is = tx ∙ ap (λ (o : Outcome). o.printed) e;
   }
 
-  shown_untold : (map : List ℕ) (said : Outcome) → MaySayAudit hash map q name said → status ≡ said.status
-      → text ≡ said.printed → Shown hash text
-  shown_untold map said (inl (inl e)) st tx =
-      other_status status Outside is (st ∙ ap (λ (o : Outcome). o.status) e) (λ c. cc)
-  shown_untold map said (inl (inr bad)) st tx =
-      other_status status BadMap is (st ∙ ap (λ (o : Outcome). o.status) bad.2) (λ c. cc)
-  shown_untold map said (inr (inl e)) st tx =
-      other_status status Outside is (st ∙ ap (λ (o : Outcome). o.status) e) (λ c. cc)
-  shown_untold map said (inr (inr found)) st tx =
-      shown_finding (proof_version found.0) found.1 said found.2.collides found.3 st tx
-
-  shown_audit : (map : List ℕ)
-      → EndsAsSaid (say_audit hash map q name) (MaySayAudit hash map q name) before after status text
+  pub shown_audit : IsSized hash → (q : Query) → IsQuery q → (name : List ℕ) (before after : Option Files)
+      (map : List ℕ) → EndsAsSaid (say_audit hash map q name) (MaySayAudit hash map q name) before after status text
       → Shown hash text
-  shown_audit map ends = by_files before refl
-    where
-      by_files : (o : Option Files) → before ≡ o → Shown hash text
-      by_files None e =
-          let on = subst (λ o. EndsAsSaid (say_audit hash map q name) (MaySayAudit hash map q name) o after status
-          text) e ends in
-          shown_untold map on.0 on.1 on.2 on.3
-      by_files (Some files) e =
-          let on = subst (λ o. EndsPlan (needs_map hash map proof_plan) o after status text) (sym e)
-          (subst (λ o. EndsAsSaid (say_audit hash map q name) (MaySayAudit hash map q name) o after status text) e
-          ends) in
-          shown_opened map on.0 on.3
+  shown_audit sized q may name before after map ends =
+      shown_beside hash name before after status text is (say_audit_of hash q)
+      (λ said. (bytes : List ℕ) × (finding : Finding) × IsFinding hash q bytes finding
+      × (said ≡ say_finding (proof_version bytes) finding))
+      (λ m well layers low bytes taken ends.
+      shown_of m.version hash sized q may m.tree m.batch bytes well layers low taken before after status text is ends)
+      (λ said found st tx. shown_finding (proof_version found.0) found.1 said found.2.collides found.3 st tx) map ends
 
 -- what stopped a run was no collision
-not_collided : {A : Type 0} (before after : World) (status : Status) → status ≡ Collision
+pub not_collided : {A : Type 0} (before after : World) (status : Status) → status ≡ Collision
     → HasStopped before after status → A
 not_collided before after status is (inl none) = other_status status NoMemory is none (λ c. cc)
 not_collided before after status is (inr failed) = other_status status Outside is failed.0 (λ c. cc)
@@ -382,12 +409,16 @@ not_bad status done bad = absurd (cc)
 
 -- ---- inputs that are in order
 
-prove_done : (hash : List ℕ → List ℕ) (q : Query) (name : List ℕ) (map : Opened) → MayCome (question q) map.version
-    → (say_prove_of hash q name map).status ≡ Done
-unfolding say_prove_of
-prove_done hash q name map may =
-    ap (λ b. (unless_lacking b (say_written name (proof (by map.version hash) map.tree map.batch q))).status)
-    (lacks_by map.version q may)
+has_of : (v : Version) (a : Question) → MayCome a v → lacks_proof_for v a ≡ false
+has_of One a may = may
+has_of Two a may = refl
+
+proof_done : (hash : List ℕ → List ℕ) (a : Question) (name : List ℕ) (map : Opened) → MayCome a map.version
+    → (say_proof_of hash a name map).status ≡ Done
+unfolding say_proof_of
+proof_done hash a name map may =
+    ap (λ b. (unless_lacking b (say_written name (proof_for (by map.version hash) a map.tree map.batch))).status)
+    (has_of map.version a may)
 
 make_done : (count seed : ℕ) (records : List ℕ) → (say_make_of count seed records).status ≡ Done
 unfolding say_make_of
@@ -486,6 +517,18 @@ module _ (hash : List ℕ → List ℕ) (before after : Option Files) (status : 
       let proved = verdict_from hash root q holds.bytes holds.answer asked holds.proves in
       on.0 ∙ ap (λ (o : Outcome). o.status) (says_verdict hash root q holds.bytes (Ok holds.answer) proved)
 
+  check_count_done : (root : List ℕ) (q : Query) (name : List ℕ) (may : Outcome → Type 0)
+      → HoldsCut hash before root (count_question (count_ways q)) name
+      → EndsAsSaid (say_check_count hash root (count_ways q) name) may before after status text → status ≡ Done
+  check_count_done root q name may holds ends =
+      let way = count_ways q in
+      let on = ends_on name holds.bytes before after status text holds.held
+      (λ bytes. comes (say_check_count_of hash root way bytes))
+      (told_ends before after name holds.bytes (say_check_count hash root way name) may status text holds.held ends) in
+      on.0
+      ∙ ap (λ (o : Outcome). o.status) (says_count_verdict hash root way holds.bytes (Ok (taken_of way holds.said))
+      (count_shown hash root q holds.bytes holds.said holds.shows))
+
   serve_done : (map script bundle : List ℕ) → HoldsScript hash before map script
       → EndsAsSaid (say_serve hash map script bundle) (MaySayServe hash map script bundle) before after status text
       → status ≡ Done
@@ -540,14 +583,29 @@ module _ (hash : List ℕ → List ℕ) (before after : Option Files) (status : 
       (may_be hash (commands.Upgrade old new)) holds.1 ends).0
   done sized (commands.Apply old name new) each holds ends = apply_done old.now name.now new.now holds ends
   done sized (commands.Prove map q name) each holds ends =
-      (map_done holds.version map.now (λ m. comes (say_prove_of hash q name.now m))
+      (map_done holds.version map.now (λ m. comes (say_proof_of hash (question q) name.now m))
       (may_be hash (commands.Prove map q name)) holds.on ends).0
-      ∙ prove_done hash q name.now (map_in holds.version holds.on.tree holds.on.batch) holds.may
+      ∙ proof_done hash (question q) name.now (map_in holds.version holds.on.tree holds.on.batch) holds.may
   done sized (commands.Check root q name) each holds ends =
       check_done root q name.now (may_be hash (commands.Check root q name)) each.1.1.0 holds ends
   done sized (commands.Audit map q name) each holds ends =
       audit_done holds.version hash before after status text map.now q name.now holds.on.tree holds.on.batch
       holds.on.bytes holds.bytes holds.on.held holds.on.stands holds.beside sized each.1.1.0 holds.own ends
+  done sized (commands.Count map q name) each holds ends =
+      let asked = count_question (count_ways q) in
+      (map_done Two map.now (λ m. comes (say_proof_of hash asked name.now m)) (may_be hash (commands.Count map q name))
+      holds ends).0
+      ∙ proof_done hash asked name.now (map_in Two holds.tree holds.batch) tt
+  done sized (commands.CheckCount root q name) each holds ends =
+      check_count_done root q name.now (may_be hash (commands.CheckCount root q name)) holds ends
+  done sized (commands.AuditCount map q name) each holds ends =
+      (beside_on holds.version hash map.now holds.on.bytes holds.on.tree holds.on.batch before after status text
+      holds.on.held holds.on.stands name.now holds.bytes holds.beside (say_audit_count_of hash (count_ways q))
+      (may_be hash (commands.AuditCount map q name)) ends).0
+      ∙ ap (λ (o : Outcome). o.status)
+      (own_found holds.version hash sized (count_ways q) (narrow_ways q) holds.on.tree holds.on.batch holds.bytes
+      holds.on.stands.well (layers_of holds.version hash holds.on.bytes holds.on.tree holds.on.batch holds.on.stands)
+      holds.on.stands.stands.batch_fits holds.own)
   done sized (commands.Serve map script bundle) each holds ends =
       serve_done map.now script.now bundle.now holds ends
   done sized (commands.CheckAll root script bundle) each holds ends =
@@ -559,13 +617,13 @@ module _ (hash : List ℕ → List ℕ) (before after : Option Files) (status : 
 -- ---- the proofs of a map, checked against its root digest
 
 -- what stopped a run was not that all was done
-not_stopped : {A : Type 0} (before after : World) (status : Status) → status ≡ Done
+pub not_stopped : {A : Type 0} (before after : World) (status : Status) → status ≡ Done
     → HasStopped before after status → A
 not_stopped before after status done (inl none) = absurd (cc)
 not_stopped before after status done (inr failed) =
     let outside : status ≡ Outside = failed.0 in absurd (cc)
 
-not_refused : {A : Type 0} (status : Status) → status ≡ Done → status ≡ Refused → A
+pub not_refused : {A : Type 0} (status : Status) → status ≡ Done → status ≡ Refused → A
 not_refused status done refused = absurd (cc)
 
 module _ (v : Version) (hash : List ℕ → List ℕ) (sized : IsSized hash) (before after : World) (status : Status)
@@ -734,12 +792,3 @@ module _ (hash : List ℕ → List ℕ) (words : List (List ℕ)) (before after 
                 on.2.0 told on.2.2;
             stands = on.2.1.stands;
           }
-
-  pub collided_rightly : IsSized hash → CollidesRightly hash words before after status
-  collided_rightly sized map q name spells is = elim (ran_as (commands.Audit map q name) spells) [
-    | inl run ↦
-        let x = shown_audit hash sized q spells.each.1.1.0 name.now before.shelf.files after.shelf.files
-        status run.text is map.now run.ends in
-        (x.pair, x.collides, subst (TakesBytes before.sink after.sink) x.is run.printed)
-    | inr stop ↦ not_collided before after status is stop
-  ]

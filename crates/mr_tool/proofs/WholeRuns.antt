@@ -3,6 +3,8 @@ use Rattle.std.proofs.Common.{◌≡◌, ℕ, List, sym, ap, subst, arith, inl, 
 use Rattle.std.specs.Prelude.{Option, Some, None, Result, Err}
 use Rattle.mr_outside.specs.State.{Shelved}
 use Rattle.mr_proof.proofs.PreimageBytes.{IsSized}
+use Rattle.mr_query.specs.Word.{asks}
+use Rattle.mr_query.specs.declared.query.Shape.TheVariants.{Window}
 use Rattle.mr_outside.specs.Files.{Files}
 use Rattle.mr_command.specs.Answer.{World, IsQuiet}
 use Rattle.mr_command.specs.Counting.{AllowsReads, MayRead}
@@ -25,7 +27,8 @@ use Rattle.mr_plan.specs.declared.words.Command.{Command}
 use Rattle.mr_plan.specs.declared.words.Command.TheVariants as commands
 use Rattle.mr_command.proofs.Counting.{few_none}
 use Rattle.mr_command.proofs.Rereading.{carried_alike, comes_plain}
-use Rattle.mr_tool.proofs.Promises.{completes, honest_answered, accepted_worth, accepted_audited, collided_rightly, applied_alike, upgraded_all}
+use Rattle.mr_tool.proofs.Counts.{counted_honest, counted_worth, counted_audited, collided_rightly}
+use Rattle.mr_tool.proofs.Promises.{completes, honest_answered, accepted_worth, accepted_audited, applied_alike, upgraded_all}
 use Rattle.mr_tool.proofs.Runs.{answer_of, from_sink, outside_of, quiet_of, words_answered}
 
 -- a command that is its plan over any files is carried out
@@ -69,6 +72,9 @@ module _ (hash : List ℕ → List ℕ) (words : List (List ℕ)) (before after 
         worth = accepted_worth hash words before after status came carried ended sized;
         audited = accepted_audited hash words before after status came carried ended sized;
         collides = collided_rightly hash words before after status came carried ended sized;
+        count_honest = counted_honest hash words before after status came carried ended sized;
+        count_worth = counted_worth hash words before after status came carried ended sized;
+        count_audited = counted_audited hash words before after status came carried ended sized;
         alike = applied_alike hash words before after status came carried ended;
         upgrades = upgraded_all hash words before after status came carried ended;
       }
@@ -118,7 +124,16 @@ module _ (hash : List ℕ → List ℕ) (words : List (List ℕ)) (before after 
         absurd (none (commands.Check root q name) spells);
     audited = λ v t batch map q name held bytes answer spells map_held stands name_held proves.
         absurd (none (commands.Audit map q name) spells);
-    collides = λ map q name spells is. absurd (none (commands.Audit map q name) spells);
+    collides = λ map q name spells is. elim spells [
+      | inl audit ↦ absurd (none (commands.Audit map q name) audit)
+      | inr count ↦ absurd (none (commands.AuditCount map q name) count)
+    ];
+    count_honest = λ t batch root w mask name bytes well low is_root spells held own.
+        absurd (none (commands.CheckCount root (asks (Window w) mask) name) spells);
+    count_worth = λ v t batch root w mask name bytes well layers low is_root spells held done.
+        absurd (none (commands.CheckCount root (asks (Window w) mask) name) spells);
+    count_audited = λ v t batch map w mask name held bytes said spells map_held stands name_held shows.
+        absurd (none (commands.AuditCount map (asks (Window w) mask) name) spells);
     alike = λ v t held old batch new bytes text b spells there stands beside right done.
         absurd (none (commands.Apply old batch new) spells);
     upgrades = λ v t batch old new bytes spells held stands done. absurd (none (commands.Upgrade old new) spells);

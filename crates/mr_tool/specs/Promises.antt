@@ -3,6 +3,7 @@
 -- but for the commands that read none.
 use Rattle.std.specs.Prelude.{◌≡◌, ◌⊎◌, ⊤, ℕ, ◌^◌, ◌<◌, List, [], ◌∷◌, ◌++◌, length, All, Option, Some, None, Ok}
 use Rattle.std.specs.Borrow.{Bor}
+use Rattle.mr_geom.specs.Rectangle.{Rectangle}
 use Rattle.mr_outside.specs.Files.{Files, file}
 use Rattle.mr_outside.specs.Told.{TakesBytes}
 use Rattle.mr_record.specs.RecordText.{records_of_text, text_of}
@@ -19,20 +20,27 @@ use Rattle.mr_batch.specs.Applied.{IsAdmissible}
 use Rattle.mr_batch.specs.BatchText.{batch_of_text}
 use Rattle.mr_batch.specs.Changes.{Changes}
 use Rattle.mr_batch.specs.Replay.{replay}
+use Rattle.mr_query.specs.Layers.{layers_named}
 use Rattle.mr_query.specs.Scan.{scan}
 use Rattle.mr_query.specs.Script.{queries_of_text}
+use Rattle.mr_query.specs.Word.{asks}
 use Rattle.mr_query.specs.declared.query.Query.{Query}
-use Rattle.mr_proof.specs.Accepted.{ProvesAnswer}
-use Rattle.mr_proof.specs.Clash.{Pair, clash, IsCollision, NoneAnd}
-use Rattle.mr_proof.specs.Honest.{IsProof}
-use Rattle.mr_proof.specs.Tight.{MayCome, question}
+use Rattle.mr_query.specs.declared.query.Shape.TheVariants.{Window}
+use Rattle.mr_proof.specs.Accepted.{ShowsCut, ProvesAnswer}
+use Rattle.mr_proof.specs.Clash.{Pair, clash_of, clash, IsCollision, NoneAnd}
+use Rattle.mr_proof.specs.Honest.{IsProofFor, IsProof}
+use Rattle.mr_proof.specs.Spelling.{Parsed}
+use Rattle.mr_proof.specs.Tight.{Question, MayCome, question}
+use Rattle.mr_proof.specs.declared.head.Kind.TheVariants as kind
+use Rattle.mr_count.specs.Inside.{inside_way, count_inside}
 use Rattle.mr_bundle.specs.Bundle.{parts}
 use Rattle.mr_bundle.specs.Proofs.{HasProofs}
 use Rattle.mr_bundle.specs.Verdicts.{verdicts}
 use Rattle.mr_command.specs.Answer.{World, IsWhole, HasStopped}
+use Rattle.mr_plan.specs.Counts.{count_letter, count_question, count_ways}
 use Rattle.mr_plan.specs.Judged.{IsAccepted}
 use Rattle.mr_plan.specs.Outcome.{Outcome}
-use Rattle.mr_plan.specs.Lines.{digest_line, sound_line, collision_lines}
+use Rattle.mr_plan.specs.Lines.{digest_line, counted_line, sound_line, collision_lines}
 use Rattle.mr_plan.specs.Say.{ends, prints}
 use Rattle.mr_plan.specs.Words.{SpellsCommand}
 use Rattle.mr_plan.specs.declared.status.Status.{Status}
@@ -73,6 +81,14 @@ pub record HoldsProof (hash : List ℕ → List ℕ) (told : Option Files) (root
   pub answer : List Record
   pub proves : ProvesAnswer hash root q bytes answer
 
+-- it shows what is asked
+pub record HoldsCut (hash : List ℕ → List ℕ) (told : Option Files) (root : List ℕ)
+    (asked : Question) (name : List ℕ) : Type 0 where
+  pub bytes : List ℕ
+  pub held : HoldsBytes told name bytes
+  pub said : Parsed
+  pub shows : ShowsCut hash root asked bytes said
+
 -- a map that has a proof for the query: one of version 2, or the query names no mask
 pub record HoldsProvable (hash : List ℕ → List ℕ) (told : Option Files) (map : List ℕ) (q : Query)
     : Type 0 where
@@ -80,14 +96,14 @@ pub record HoldsProvable (hash : List ℕ → List ℕ) (told : Option Files) (m
   pub on : HoldsMap version hash told map
   pub may : MayCome (question q) version
 
--- a map of either version, and the honest proof of the answer to a query on it
-pub record HoldsHonest (hash : List ℕ → List ℕ) (told : Option Files) (map : List ℕ) (q : Query)
-    (name : List ℕ) : Type 0 where
+-- a map of either version, and the honest proof of what is asked of it
+pub record HoldsHonest (hash : List ℕ → List ℕ) (told : Option Files) (map : List ℕ)
+    (asked : Question) (name : List ℕ) : Type 0 where
   pub version : Version
   pub on : HoldsMap version hash told map
   pub bytes : List ℕ
   pub beside : HoldsBytes told name bytes
-  pub own : IsProof (by version hash) on.tree on.batch q bytes
+  pub own : IsProofFor (by version hash) asked on.tree on.batch bytes
 
 -- a map of either version, and a text of a batch without a fault in that version, which may be
 -- applied to it
@@ -138,7 +154,13 @@ IsInOrder hash told (commands.Upgrade old new) = HoldsAnyMap hash told old.now
 IsInOrder hash told (commands.Apply old batch new) = HoldsBatch hash told old.now batch.now
 IsInOrder hash told (commands.Prove map q proof) = HoldsProvable hash told map.now q
 IsInOrder hash told (commands.Check root q proof) = HoldsProof hash told root q proof.now
-IsInOrder hash told (commands.Audit map q proof) = HoldsHonest hash told map.now q proof.now
+IsInOrder hash told (commands.Audit map q proof) =
+    HoldsHonest hash told map.now (question q) proof.now
+IsInOrder hash told (commands.Count map q proof) = HoldsMap Two hash told map.now
+IsInOrder hash told (commands.CheckCount root q proof) =
+    HoldsCut hash told root (count_question (count_ways q)) proof.now
+IsInOrder hash told (commands.AuditCount map q proof) =
+    HoldsHonest hash told map.now (count_question (count_ways q)) proof.now
 IsInOrder hash told (commands.Serve map script bundle) =
     HoldsScript hash told map.now script.now
 IsInOrder hash told (commands.CheckAll root script bundle) =
@@ -199,16 +221,20 @@ AcceptsHonestOrCollides hash words before after status =
     proof.now bytes
     → status ≡ Done → IsWorth (by v hash) t batch q bytes before after
 
--- What `audit` says of accepted bytes, by the first two strings that differ: that they are the
--- honest proof, and the scan; or the two strings, which have one hash.
+-- What an audit says of accepted bytes, by the first two strings that differ: that they are the
+-- honest proof, and then these lines; or the two strings, which have one hash.
+abbrev pub SaysSoundOrPair : (List ℕ → List ℕ) → (own : Type 0) → (lines : List ℕ) → Option Pair
+    → World → World → Status → Type 0
+SaysSoundOrPair hash own lines None before after status =
+    own × DeliversOutcome (prints (sound_line ++ lines)) before after status
+SaysSoundOrPair hash own lines (Some p) before after status = IsCollision hash p
+    × DeliversOutcome (ends Collision (collision_lines p.owned p.shown)) before after status
+
+-- `audit` says the scan
 abbrev pub SaysWorth : Scheme → Tree → (batch : ℕ) → Query → List ℕ → Option Pair
     → World → World → Status → Type 0
-SaysWorth s t batch q bytes None before after status = IsProof s t batch q bytes
-    × DeliversOutcome (prints (sound_line ++ text_of s.version (scan (records t) q))) before after
-    status
-SaysWorth s t batch q bytes (Some p) before after status =
-    IsCollision s.of p
-    × DeliversOutcome (ends Collision (collision_lines p.owned p.shown)) before after status
+SaysWorth s t batch q bytes pair before after status = SaysSoundOrPair s.of (IsProof s t batch q
+    bytes) (text_of s.version (scan (records t) q)) pair before after status
 
 -- So it says of each proof that is accepted against the root digest of the map, of either version,
 -- that a file stands for.
@@ -221,15 +247,88 @@ AuditsAccepted hash words before after status =
     → ProvesAnswer hash (map_root hash (map_in v t batch)) q bytes answer
     → SaysWorth (by v hash) t batch q bytes (clash (by v hash) t batch bytes) before after status
 
--- Two strings that `audit` shows as a collision differ and have one hash, whether files are told or
--- not; that they are the printed ones is known where the sink tells what it takes.
+-- the words spell an audit of the proof of an answer, or of a count
+abbrev pub SpellsAudit : List (List ℕ) → (map : Bor (List ℕ)) → Query → (proof : Bor (List ℕ))
+    → Type 0
+SpellsAudit words map q proof = SpellsCommand words (commands.Audit map q proof)
+    ⊎ SpellsCommand words (commands.AuditCount map q proof)
+
+-- Two strings that an audit shows as a collision differ and have one hash, whether files are told
+-- or not; that they are the printed ones is known where the sink tells what it takes.
 abbrev pub CollidesRightly : (List ℕ → List ℕ) → List (List ℕ) → World → World → Status → Type 0
 CollidesRightly hash words before after status =
-    (map : Bor (List ℕ)) (q : Query) (proof : Bor (List ℕ))
-    → SpellsCommand words (commands.Audit map q proof)
+    (map : Bor (List ℕ)) (q : Query) (proof : Bor (List ℕ)) → SpellsAudit words map q proof
     → status ≡ Collision
     → (p : Pair) × IsCollision hash p
     × TakesBytes before.sink after.sink (collision_lines p.owned p.shown)
+
+-- ---- counts
+
+-- `check-count` of the proof that an honest server gives, against the root digest of its map of
+-- version 2, prints how many of the map's records lie inside the window and are on one of the
+-- layers asked for.
+abbrev pub CountsHonest : (List ℕ → List ℕ) → List (List ℕ) → World → World → Status → Type 0
+CountsHonest hash words before after status =
+    (t : Tree) (batch : ℕ) (root : List ℕ) (window : Rectangle) (mask : Option ℕ)
+    (proof : Bor (List ℕ)) (bytes : List ℕ)
+    → WellFormed t → batch < 2 ^ 64 → root ≡ map_root hash (map_in Two t batch)
+    → SpellsCommand words (commands.CheckCount root (asks (Window window) mask) proof)
+    → HoldsBytes before.shelf.files proof.now bytes
+    → IsProofFor (by Two hash) (count_question (inside_way window (layers_named mask))) t batch
+    bytes
+    → DeliversOutcome (prints (counted_line (count_inside window (layers_named mask) (records t))))
+    before after status
+
+-- the bytes are those that an honest server gives, and what was printed is how many of the map's
+-- records lie inside the window and are on one of the layers
+pub record PrintsCount (s : Scheme) (t : Tree) (batch : ℕ) (window : Rectangle) (layers : ℕ)
+    (bytes : List ℕ) (before after : World) : Type 0 where
+  pub own : IsProofFor s (count_question (inside_way window layers)) t batch bytes
+  pub printed : TakesBytes before.sink after.sink
+      (counted_line (count_inside window layers (records t)))
+
+-- the bytes show what is asked; and no two strings stand at one place of the map and of the bytes
+-- and differ, the bytes are the honest proof and what was printed is the number, or the first two
+-- that do differ have one hash
+pub record IsCountWorth (s : Scheme) (t : Tree) (batch : ℕ) (window : Rectangle) (layers : ℕ)
+    (bytes : List ℕ) (before after : World) : Type 0 where
+  pub said : Parsed
+  pub shows : ShowsCut s.of (digests.root s t batch) (count_question (inside_way window layers))
+      bytes said
+  pub worth : NoneAnd s.of (clash_of (kind.Choice count_letter) s t batch bytes)
+      (PrintsCount s t batch window layers bytes before after)
+
+-- What it is worth that `check-count` accepts bytes against the root digest of a map, for every map
+-- of either version, window, mask and bytes. (A map of version 1 has no honest proof of a count, so
+-- there two strings always have one hash.)
+abbrev pub CountsOrCollides : (List ℕ → List ℕ) → List (List ℕ) → World → World → Status → Type 0
+CountsOrCollides hash words before after status =
+    (v : Version) (t : Tree) (batch : ℕ) (root : List ℕ) (window : Rectangle) (mask : Option ℕ)
+    (proof : Bor (List ℕ)) (bytes : List ℕ)
+    → WellFormed t → HasLayers v t → batch < 2 ^ 64 → root ≡ map_root hash (map_in v t batch)
+    → SpellsCommand words (commands.CheckCount root (asks (Window window) mask) proof)
+    → HoldsBytes before.shelf.files proof.now bytes
+    → status ≡ Done
+    → IsCountWorth (by v hash) t batch window (layers_named mask) bytes before after
+
+-- What `audit-count` says of each proof of a count that is accepted against the root digest of the
+-- map, of either version, that a file stands for: that it is the honest proof, and the number; or
+-- the first two strings that differ, which have one hash.
+abbrev pub AuditsAcceptedCount : (List ℕ → List ℕ) → List (List ℕ) → World → World → Status → Type 0
+AuditsAcceptedCount hash words before after status =
+    (v : Version) (t : Tree) (batch : ℕ) (map : Bor (List ℕ)) (window : Rectangle)
+    (mask : Option ℕ) (proof : Bor (List ℕ)) (held bytes : List ℕ) (said : Parsed)
+    → SpellsCommand words (commands.AuditCount map (asks (Window window) mask) proof)
+    → HoldsBytes before.shelf.files map.now held
+    → IsMapFile hash held (map_in v t batch) → HoldsBytes before.shelf.files proof.now bytes
+    → ShowsCut hash (map_root hash (map_in v t batch))
+    (count_question (inside_way window (layers_named mask))) bytes said
+    → SaysSoundOrPair hash
+    (IsProofFor (by v hash) (count_question (inside_way window (layers_named mask))) t batch bytes)
+    (counted_line (count_inside window (layers_named mask) (records t)))
+    (clash_of (kind.Choice count_letter) (by v hash) t batch bytes) before after status
+
+-- ---- changes
 
 -- what `apply` prints and leaves of a batch on a map: the batch may be applied, the root digest of
 -- the map after it is printed, and the new file stands for that

@@ -1,7 +1,7 @@
 -- A run of the program on some words, as the clauses of `run` say it.
 use Rattle.std.specs.Prelude.{◌≡◌, ℕ, List, Option}
 use Rattle.mr_command.specs.Answer.{World, NoCountFalls, HasOutsideCause, IsAnswer, IsQuiet}
-use Rattle.mr_tool.specs.Promises.{CompletesWords, AnswersHonest, AcceptsHonestOrCollides, AuditsAccepted, CollidesRightly, AppliesAlike, UpgradesAll}
+use Rattle.mr_tool.specs.Promises.{CompletesWords, AnswersHonest, AcceptsHonestOrCollides, AuditsAccepted, CollidesRightly, CountsHonest, CountsOrCollides, AuditsAcceptedCount, AppliesAlike, UpgradesAll}
 use Rattle.mr_command.specs.Counting.{MayRead, ReadsWithinPlan}
 use Rattle.mr_plan.specs.Say.{say}
 use Rattle.mr_plan.specs.Spelling.{IsSpelled}
@@ -39,6 +39,9 @@ pub record IsRun (hash : List ℕ → List ℕ) (words : List (List ℕ)) (befor
   pub worth : AcceptsHonestOrCollides hash words before after status
   pub audited : AuditsAccepted hash words before after status
   pub collides : CollidesRightly hash words before after status
+  pub count_honest : CountsHonest hash words before after status
+  pub count_worth : CountsOrCollides hash words before after status
+  pub count_audited : AuditsAcceptedCount hash words before after status
   pub alike : AppliesAlike hash words before after status
   pub upgrades : UpgradesAll hash words before after status
 

@@ -5,23 +5,43 @@ ghost use Rattle.std.specs.String.{string_bytes};
 ghost use Rattle.mr_record.specs.private.Bytes.{AreBytes};
 ghost use Rattle.mr_command.specs.Answer.{NoCountFalls, IsQuiet, world};
 ghost use Rattle.mr_command.specs.Ending.{RunsPlan, IsCarriedOut};
-ghost use Rattle.mr_tool.specs.Promises.{CompletesWords, AnswersHonest, AcceptsHonestOrCollides, AuditsAccepted, CollidesRightly, AppliesAlike, UpgradesAll};
+ghost use Rattle.mr_tool.specs.Promises.{CompletesWords, AnswersHonest, AcceptsHonestOrCollides, AuditsAccepted, CollidesRightly, CountsHonest, CountsOrCollides, AuditsAcceptedCount, AppliesAlike, UpgradesAll};
 ghost use Rattle.mr_tool.specs.Run.{AnswersWords, BlamesRightly, IsRun, ReadsFewWords};
-ghost use Rattle.mr_plan.specs.Say.{say_build};
+ghost use Rattle.mr_plan.specs.Say.{say_root, say_build};
 ghost use Rattle.mr_plan.specs.Spelling.{IsSpelled};
 ghost use Rattle.mr_plan.specs.private.Asking.{MayBeAsked};
+ghost use Rattle.mr_plan.specs.declared.words.Command.TheVariants as commands;
+ghost use Rattle.mr_query.specs.Word.{IsAskable};
 
 use crate::finish::finish;
 use mr_command::{
-    Ending, Halt, apply, audit_query, build, check_bundle, check_proof, demo, list, make,
-    prove_query, root, serve, upgrade,
+    Ending, Halt, apply, audit_count, audit_query, build, check_bundle, check_count, check_proof,
+    count, demo, list, make, prove_query, root, serve, upgrade,
 };
 use mr_outside::{Gate, Shelf, Sink};
 use mr_plan::{Command, Status, read_words};
+use mr_query::Query;
 use mr_record::Version;
 use mr_tree::Hash32;
 use std::alloc::Global;
 use std::thread::Threads;
+
+// Prints the root of records in this version, and hands the shelf back.
+fn root_on<H: Hash32, S: Shelf, G: Gate, R: Threads + Sync>(
+    rt: &R,
+    alloc: Global,
+    version: Version,
+    records: &str,
+    shelf: S,
+    gate: &G,
+) -> (Result<Ending, Halt>, S)
+    ensures { RunsPlan (say_root version H.of records.now) (S.state shelf) (S.state result.1)
+        result.0 }
+{
+    let mut shelf = shelf;
+    let came = root::<H, S, G, R>(rt, alloc, version, records, &mut shelf, gate);
+    (came, shelf)
+}
 
 // Makes a map file of records in this version, and hands the shelf back.
 fn build_on<H: Hash32, S: Shelf, G: Gate, R: Threads + Sync>(
@@ -42,6 +62,23 @@ fn build_on<H: Hash32, S: Shelf, G: Gate, R: Threads + Sync>(
     (came, shelf)
 }
 
+// Checks a proof, and hands the shelf back.
+fn check_on<H: Hash32, S: Shelf>(
+    alloc: Global,
+    root: &[u8; 32],
+    query: &Query,
+    proof: &str,
+    shelf: S,
+) -> (Result<Ending, Halt>, S)
+    requires { IsAskable query.now }
+    ensures { IsCarriedOut H.of (commands.Check root.now query.now proof.entry) (S.state shelf)
+        (S.state result.1) result.0 }
+{
+    let mut shelf = shelf;
+    let came = check_proof::<H, S>(alloc, root, query, proof, &mut shelf);
+    (came, shelf)
+}
+
 // Carries out a command, and hands the shelf back.
 fn carry_out<H: Hash32, S: Shelf, G: Gate, R: Threads + Sync>(
     rt: &R,
@@ -55,14 +92,10 @@ fn carry_out<H: Hash32, S: Shelf, G: Gate, R: Threads + Sync>(
 {
     match command {
         Command::Root(records) => {
-            let mut shelf = shelf;
-            let came = root::<H, S, G, R>(rt, alloc, Version::One, *records, &mut shelf, gate);
-            (came, shelf)
+            root_on::<H, S, G, R>(rt, alloc, Version::One, *records, shelf, gate)
         }
         Command::Root2(records) => {
-            let mut shelf = shelf;
-            let came = root::<H, S, G, R>(rt, alloc, Version::Two, *records, &mut shelf, gate);
-            (came, shelf)
+            root_on::<H, S, G, R>(rt, alloc, Version::Two, *records, shelf, gate)
         }
         Command::Build(map, records) => {
             build_on::<H, S, G, R>(rt, alloc, Version::One, *map, *records, shelf, gate)
@@ -85,12 +118,19 @@ fn carry_out<H: Hash32, S: Shelf, G: Gate, R: Threads + Sync>(
             prove_query::<H, S>(alloc, *map, query, *proof, shelf)
         }
         Command::Check(digest, query, proof) => {
-            let mut shelf = shelf;
-            let came = check_proof::<H, S>(alloc, digest, query, *proof, &mut shelf);
-            (came, shelf)
+            check_on::<H, S>(alloc, digest, query, *proof, shelf)
         }
         Command::Audit(map, query, proof) => {
             audit_query::<H, S>(alloc, *map, query, *proof, shelf)
+        }
+        Command::Count(map, query, proof) => count::<H, S>(alloc, *map, query, *proof, shelf),
+        Command::CheckCount(digest, query, proof) => {
+            let mut shelf = shelf;
+            let came = check_count::<H, S>(alloc, digest, query, *proof, &mut shelf);
+            (came, shelf)
+        }
+        Command::AuditCount(map, query, proof) => {
+            audit_count::<H, S>(alloc, *map, query, *proof, shelf)
         }
         Command::Serve(map, script, bundle) => {
             serve::<H, S, G, R>(rt, alloc, *map, *script, *bundle, shelf, gate)
@@ -182,7 +222,7 @@ pub fn run<H: Hash32, S: Shelf, W: Sink, G: Gate, R: Threads + Sync>(
     // Words that spell no command leave the shelf alone.
     ensures unspoken { IsSpelled (map string_bytes words.now) None → result.1 ≡ shelf }
     // Inputs that are in order are dealt with to the end. A map that is proved is in order where it
-    // is of version 2, or the queries name no mask.
+    // is of version 2, or the queries name no mask; of a count, where it is of version 2.
     ensures complete { let before = world (S.state shelf) (W.state out.old) in
         let after = world (S.state result.1) (W.state out.new) in
         CompletesWords H.of (map string_bytes words.now) before after result.0 }
@@ -204,6 +244,20 @@ pub fn run<H: Hash32, S: Shelf, W: Sink, G: Gate, R: Threads + Sync>(
     ensures collides { let before = world (S.state shelf) (W.state out.old) in
         let after = world (S.state result.1) (W.state out.new) in
         CollidesRightly H.of (map string_bytes words.now) before after result.0 }
+    // The proof of a count that an honest server gives of a map of version 2 is accepted, with the
+    // number of the records inside the window that are on one of the layers asked for.
+    ensures count_honest { let before = world (S.state shelf) (W.state out.old) in
+        let after = world (S.state result.1) (W.state out.new) in
+        CountsHonest H.of (map string_bytes words.now) before after result.0 }
+    // What is accepted as such a proof is that one, and the number printed is right; or the hash
+    // function has a collision.
+    ensures count_worth { let before = world (S.state shelf) (W.state out.old) in
+        let after = world (S.state result.1) (W.state out.new) in
+        CountsOrCollides H.of (map string_bytes words.now) before after result.0 }
+    // An audit of it says which of the two it is.
+    ensures count_audited { let before = world (S.state shelf) (W.state out.old) in
+        let after = world (S.state result.1) (W.state out.new) in
+        AuditsAcceptedCount H.of (map string_bytes words.now) before after result.0 }
     // What is made of a map by a batch goes by the map, of either version, and not by the layout of
     // its file.
     ensures alike { let before = world (S.state shelf) (W.state out.old) in

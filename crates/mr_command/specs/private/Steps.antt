@@ -22,15 +22,13 @@ use Rattle.mr_pages.specs.declared.error.MapErr.TheVariants as errors
 use Rattle.mr_tree.specs.declared.nodes.NodesErr.{NodesErr}
 use Rattle.mr_tree.specs.declared.tree.Tree.{Tree}
 use Rattle.mr_tree.specs.Nodes.{MapModel}
-use Rattle.mr_query.specs.declared.query.Query.{Query}
-use Rattle.mr_clash.specs.Finding.{opened_accepted}
 use Rattle.mr_clash.specs.declared.finding.Finding.{Finding}
 use Rattle.mr_clash.specs.declared.finding.Finding.TheVariants as findings
 use Rattle.mr_store.specs.Kept.{room}
 use Rattle.mr_plan.specs.Found.{bad_map_line}
 use Rattle.mr_plan.specs.Lines.{bad_words_line, shelf_fault_line}
 use Rattle.mr_plan.specs.Outcome.{Outcome, Content, File, LeavesWritten, MayLeave}
-use Rattle.mr_command.specs.Counting.{pieces_of, opened_beside}
+use Rattle.mr_command.specs.Counting.{pieces_of, Opens, opened_beside}
 use Rattle.mr_plan.specs.Plan.{Plan, comes, Input, IsInput, IsAbsent}
 use Rattle.mr_plan.specs.Say.{ends, needs_map, says_missing, say_written}
 use Rattle.mr_command.specs.declared.ending.Ending.{Ending}
@@ -129,23 +127,25 @@ abbrev pub map_at : MapModel → Tree → Opened
 map_at s t = map_in s.version t s.batch
 
 -- behind an opened map nothing is read, or of a large one the nodes that the bytes of a proof open
-abbrev pub ReadsOpened : (List ℕ → List ℕ) → Query → MapModel → (pages : ℕ) → List ℕ → Shelved
+abbrev pub ReadsOpened : (List ℕ → List ℕ) → Opens → MapModel → (pages : ℕ) → List ℕ → Shelved
     → Shelved → Type 0
-ReadsOpened hash q s pages bytes before after = IfSome s.tree (λ t.
+ReadsOpened hash opened_nodes s pages bytes before after = IfSome s.tree (λ t.
     (after.reads ≡ before.reads) ⊎ ((room + 1 < pages)
-    × (after.reads ≤ before.reads + opened_accepted (by s.version hash) t s.batch q bytes)))
+    × (after.reads ≤ before.reads + opened_nodes (by s.version hash) t s.batch bytes)))
 
 -- the pieces of a proof, and of a large map the nodes that it opens
-abbrev pub IsBeside : Scheme → Tree → (batch : ℕ) → Query → (pages : ℕ) → Input
+abbrev pub IsBeside : Opens → Scheme → Tree → (batch : ℕ) → (pages : ℕ) → Input
     → (before after : ℕ) → Type 0
-IsBeside s t batch q pages proof before after = (after ≤ before + pieces_of proof)
-    ⊎ ((room + 1 < pages) × (after ≤ before + pieces_of proof + opened_beside s t batch q proof))
+IsBeside opened_nodes s t batch pages proof before after = (after ≤ before + pieces_of proof)
+    ⊎ ((room + 1 < pages)
+    × (after ≤ before + pieces_of proof + opened_beside opened_nodes s t batch proof))
 
 -- so many are read of the file of a proof and of the map
-abbrev pub ReadsBeside : (List ℕ → List ℕ) → Query → MapModel → (pages : ℕ) → List ℕ → Shelved
+abbrev pub ReadsBeside : (List ℕ → List ℕ) → Opens → MapModel → (pages : ℕ) → List ℕ → Shelved
     → Shelved → Type 0
-ReadsBeside hash q s pages proof before after = IfSome s.tree (λ t. OfFiles before.files (λ files.
-    IsBeside (by s.version hash) t s.batch q pages (file files proof) before.reads after.reads))
+ReadsBeside hash opened_nodes s pages proof before after =
+    IfSome s.tree (λ t. OfFiles before.files (λ files. IsBeside opened_nodes (by s.version hash) t
+    s.batch pages (file files proof) before.reads after.reads))
 
 -- an input that has to be there was read, or the command ends without it
 pub record ReadsInput (name : List ℕ) (before after : Shelved)

@@ -1,13 +1,15 @@
 -- How the words of a command are read, one after the other, each as what it has to be. Nothing of
 -- this has to be believed: no public contract cites it.
-use Rattle.std.specs.Prelude.{◌≡◌, ℕ, pos, nat_eq, nat_le, Bool, true, false, not, ◌&&◌, if◌then◌else◌, List, [], ◌∷◌, length, map, replicate, bytes_eq, string_bytes, Option, Some, None, is_some, is_ok, unwrap_or}
+use Rattle.std.specs.Prelude.{◌≡◌, ℕ, pos, nat_eq, nat_le, Bool, true, false, not, ◌&&◌, if◌then◌else◌, List, [], ◌∷◌, length, map, replicate, bytes_eq, string_bytes, Option, Some, None, is_some, is_ok, unwrap_or, Result, Ok, Err}
 use Rattle.std.specs.Result.{result_unwrap_or}
 use Rattle.mr_record.specs.Decimal.{u64_of}
 use Rattle.mr_query.specs.Word.{asks, query_of}
 use Rattle.mr_query.specs.declared.query.Query.{Query}
+use Rattle.mr_query.specs.declared.query.Shape.{Shape}
 use Rattle.mr_query.specs.declared.query.Shape.TheVariants as shapes
+use Rattle.mr_query.specs.declared.query.QueryFault.{QueryFault}
 use Rattle.mr_plan.specs.private.Asking.{digest_of_word}
-use Rattle.mr_plan.specs.Words.{Word, key, file, digest, query, number, spelled, words_of}
+use Rattle.mr_plan.specs.Words.{Word, key, file, digest, query, window, number, spelled, words_of}
 use Rattle.mr_plan.specs.declared.reader.Reader.{Reader}
 use Rattle.mr_plan.specs.declared.words.Command.{Command}
 
@@ -17,6 +19,7 @@ pub data Kind : Type 0 where
   file_word : Kind
   digest_word : Kind
   query_word : Kind
+  window_word : Kind
   number_word : (least most : ℕ) → Kind
 
 abbrev pub kind_of : Word → Kind
@@ -24,6 +27,7 @@ kind_of (key name) = key_word
 kind_of (file name) = file_word
 kind_of (digest bytes) = digest_word
 kind_of (query asked) = query_word
+kind_of (window asked) = window_word
 kind_of (number least most value) = number_word least most
 
 -- what the words of a command have to be
@@ -106,15 +110,25 @@ abbrev pub within : (least most : ℕ) → Option ℕ → Option ℕ
 within least most None = None
 within least most (Some n) = if nat_le least n && nat_le n most then Some n else None
 
+abbrev pub is_window : Shape → Bool
+is_window (shapes.Window w) = true
+is_window (shapes.Nearest p k) = false
+
+-- the query of a word, if it is for a window
+abbrev pub if_window : Result Query QueryFault → Option Query
+if_window (Ok q) = if is_window q.shape then Some q else None
+if_window (Err fault) = None
+
 -- the word is what it has to be, where these were the last two files
 abbrev pub fits : Kind → (word last earlier : List ℕ) → Bool
 fits key_word word last earlier = true
 fits file_word word last earlier = is_fresh word last earlier
 fits digest_word word last earlier = is_some (digest_of_word word)
 fits query_word word last earlier = is_ok (query_of word)
+fits window_word word last earlier = is_some (if_window (query_of word))
 fits (number_word least most) word last earlier = is_some (within least most (u64_of word))
 
--- what stands where a word is no query
+-- what stands where a word is no query, or none for a window
 abbrev pub no_query : Query
 no_query = asks (shapes.Nearest (record { x = pos 0; y = pos 0 }) 1) None
 
@@ -124,6 +138,7 @@ word_in key_word word = key word
 word_in file_word word = file word
 word_in digest_word word = digest (unwrap_or (digest_of_word word) (replicate 32 0))
 word_in query_word word = query (result_unwrap_or (query_of word) no_query)
+word_in window_word word = window (unwrap_or (if_window (query_of word)) no_query)
 word_in (number_word least most) word =
     number least most (unwrap_or (within least most (u64_of word)) 0)
 

@@ -1,17 +1,20 @@
-use Rattle.std.proofs.Common.{◌≡◌, ℕ, List, sym, subst}
+use Rattle.std.proofs.Common.{◌≡◌, ℕ, List, sym, subst, inl}
 use Rattle.std.specs.Prelude.{Result}
 use Rattle.mr_record.specs.declared.version.Version.{Version}
 use Rattle.mr_check.specs.Versions.{proof_version}
 use Rattle.mr_clash.specs.declared.finding.Finding.{Finding}
+use Rattle.mr_command.specs.Counting.{opens_for}
 use Rattle.mr_command.specs.Ending.{IsEndingOrHalt}
 use Rattle.mr_command.specs.declared.ending.Ending.{Ending}
 use Rattle.mr_command.specs.declared.ending.Halt.{Halt}
 use Rattle.mr_command.specs.private.Steps.{HasAnswerLines}
-use Rattle.mr_plan.specs.Say.{say_finding}
+use Rattle.mr_plan.specs.Say.{say_audit_of, say_finding}
+use Rattle.mr_plan.specs.Untold.{MaySayAudit}
 use Rattle.mr_store.specs.Paged.{shelved, stands_for}
 use Rattle.mr_command.proofs.Audits.{found_told, found_untold, unfetched_told, unfetched_untold}
 use Rattle.mr_command.proofs.Pages.{reads_opened}
 use Rattle.mr_command.proofs.Plain.{finding_layers}
+use Rattle.mr_command.proofs.Verdicts.{audit_writes}
 use Rattle.mr_command.proofs.audit_command.audit_bytes.Goals as goal
 
 said : (bytes : List ℕ) (v : Version) (f : Finding) (result : Result Ending Halt) → v ≡ proof_version bytes
@@ -46,26 +49,33 @@ pub returns-in-Err-clause-told : goal.returns-in-Err-clause-told
 returns-in-Err-clause-told g c =
     let paged = c.args.paged.now in
     let e = c.in-Err.ensures in
-    unfetched_told g.H.Hashes.of c.args.map.now c.args.query.now c.args.proof.now c.args.bytes.now (shelved paged)
+    let hash = g.H.Hashes.of in
+    let q = c.args.query.now in
+    let bytes = c.args.bytes.now in
+    unfetched_told c.args.map.now (λ m. say_audit_of hash q m bytes) (shelved paged)
     (shelved c.finding_of_nodes.new.nodes) (stands_for paged) e.kept.files e.kept.faults
-    c.in-Err.error c.unfetched.result e.cause c.unfetched.ensures
+    (λ m. audit_writes hash q m bytes) c.in-Err.error c.unfetched.result e.cause c.unfetched.ensures
 
 pub returns-in-Err-clause-untold : goal.returns-in-Err-clause-untold
 returns-in-Err-clause-untold g c = λ none.
     let paged = c.args.paged.now in
     let e = c.in-Err.ensures in
-    unfetched_untold g.H.Hashes.of c.args.map.now c.args.query.now c.args.proof.now c.args.bytes.now (shelved paged)
-    (shelved c.finding_of_nodes.new.nodes) (stands_for paged) e.kept.files e.kept.faults
+    let hash = g.H.Hashes.of in
+    let map = c.args.map.now in
+    unfetched_untold hash map (MaySayAudit hash map c.args.query.now c.args.proof.now) (shelved paged)
+    (shelved c.finding_of_nodes.new.nodes) (stands_for paged) (λ said is. inl is) e.kept.files
     c.in-Err.error c.unfetched.result e.cause c.unfetched.ensures
 
 pub returns-in-Ok-clause-reads_at_most : goal.returns-in-Ok-clause-reads_at_most
 returns-in-Ok-clause-reads_at_most g c = λ none.
     let e = c.in-Ok.ensures in
-    reads_opened g.H.Hashes.of c.args.query.now c.args.bytes.now c.args.paged.now c.finding_of_nodes.new.nodes
+    reads_opened g.H.Hashes.of (opens_for c.args.query.now) c.args.bytes.now c.args.paged.now
+    c.finding_of_nodes.new.nodes
     e.kept e.fetched none
 
 pub returns-in-Err-clause-reads_at_most : goal.returns-in-Err-clause-reads_at_most
 returns-in-Err-clause-reads_at_most g c = λ none.
     let e = c.in-Err.ensures in
-    reads_opened g.H.Hashes.of c.args.query.now c.args.bytes.now c.args.paged.now c.finding_of_nodes.new.nodes
+    reads_opened g.H.Hashes.of (opens_for c.args.query.now) c.args.bytes.now c.args.paged.now
+    c.finding_of_nodes.new.nodes
     e.kept e.fetched none

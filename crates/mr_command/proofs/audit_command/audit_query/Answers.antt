@@ -1,6 +1,6 @@
 use Rattle.std.proofs.Common.{◌≡◌, ℕ, List, length, sym, ap, subst, inl}
 use Rattle.mr_store.specs.Paged.{shelved}
-use Rattle.mr_command.specs.Counting.{AllowsAudit}
+use Rattle.mr_command.specs.Counting.{AllowsAudit, opens_for}
 use Rattle.mr_command.specs.Ending.{IsCarriedOut}
 use Rattle.mr_plan.specs.Plan.{comes}
 use Rattle.mr_plan.specs.Say.{needs, say_audit_of}
@@ -23,10 +23,11 @@ returns-in-Err g c =
     let proof = c.args.proof.now in
     let before = g.S.Shelf.state c.args.shelf in
     let after = g.S.Shelf.state c.in-Err.ended.1 in
-    unopened_map hash (sized g) map before (MaySayAudit hash map q proof) (AllowsAudit hash map q proof)
+    unopened_map hash (sized g) map before (MaySayAudit hash map q proof)
+    (AllowsAudit hash map (opens_for q) proof)
     (λ m. needs proof (λ bytes. comes (say_audit_of hash q m bytes)))
     (λ m. judged_needs proof (say_audit_of hash q m) before.files) (λ said is. inl is) after
-    c.in-Err.ended.0 c.in-Err.ensures (auditing_unopened hash map q proof before after)
+    c.in-Err.ended.0 c.in-Err.ensures (auditing_unopened hash map (opens_for q) proof before after)
 
 pub returns-in-Ok : goal.returns-in-Ok
 returns-in-Ok g c =
@@ -34,8 +35,10 @@ returns-in-Ok g c =
     let o = c.in-Ok.ensures in
     let before = g.S.Shelf.state c.args.shelf in
     let e = c.audit_file-came.ensures in
-    subst (λ w. IsCarriedOut hash (commands.Audit c.args.map c.args.query.now c.args.proof) before w
+    let q = c.args.query.now in
+    subst (λ w. IsCarriedOut hash (commands.Audit c.args.map q c.args.proof) before w
     c.audit_file-came.result) (sym (ap g.S.Shelf.state c.close.ensures))
-    (audited hash (sized g) c.args.map.now c.args.query.now c.args.proof.now before
-    (shelved c.audit_file-came.new.paged) c.in-Ok.paged o e.counts (e.reads_at_most o.none)
+    (audited hash (sized g) c.args.map.now (opens_for q) (say_audit_of hash q)
+    (MaySayAudit hash c.args.map.now q c.args.proof.now) c.args.proof.now before
+    (shelved c.audit_file-came.new.paged) c.in-Ok.paged o e.counts (e.reads_at_most o.none) (λ said is. inl is)
     c.audit_file-came.result e.told e.untold)

@@ -3,7 +3,6 @@ use Rattle.std.specs.List.{AllByRecursion, enumerate_from}
 use Rattle.std.proofs.lemmas.List.Elements.{All-from_recursion}
 use Rattle.mr_record.specs.declared.version.Version.TheVariants.{One}
 use Rattle.mr_batch.specs.Workload.{of_each, words, query_of_word, generated_queries}
-use Rattle.mr_query.specs.declared.query.Query.{Query}
 use Rattle.mr_proof.specs.Tight.{MayCome, question}
 use Rattle.mr_bundle.specs.Proofs.{HasProofs}
 use Rattle.mr_command.proofs.demo_command.demo_lines.Goals as goal

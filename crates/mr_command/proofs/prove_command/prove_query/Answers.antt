@@ -1,10 +1,12 @@
 use Rattle.std.proofs.Common.{◌≡◌, ℕ, List, length, ap, sym, subst, ◌∙◌, inl}
-use Rattle.mr_command.specs.Counting.{AllowsProve}
+use Rattle.mr_prove.specs.Causes.{rounds}
+use Rattle.mr_proof.specs.Tight.{question}
+use Rattle.mr_command.specs.Counting.{AllowsProof}
 use Rattle.mr_command.specs.Ending.{IsCarriedOut}
 use Rattle.mr_command.specs.private.Steps.{KeepsProof}
 use Rattle.mr_plan.specs.Plan.{comes}
-use Rattle.mr_plan.specs.Say.{lacks_proof, say_prove_of}
-use Rattle.mr_plan.specs.Untold.{MaySayProve}
+use Rattle.mr_plan.specs.Say.{lacks_proof, say_proof_of}
+use Rattle.mr_plan.specs.Untold.{MaySayProof}
 use Rattle.mr_plan.specs.declared.words.Command.TheVariants as commands
 use Rattle.mr_command.proofs.Bundles.{has_by}
 use Rattle.mr_command.proofs.Pages.{unopened_map, proving_unopened, proved, unproved}
@@ -23,9 +25,10 @@ returns-in-Err g c =
     let proof = c.args.proof.now in
     let before = g.S.Shelf.state c.args.shelf in
     let after = g.S.Shelf.state c.in-Err.ended.1 in
-    unopened_map hash (sized g) map before (MaySayProve hash map q proof) (AllowsProve hash map q)
-    (λ m. comes (say_prove_of hash q proof m)) (λ m. tt) (λ said is. inl is) after c.in-Err.ended.0 c.in-Err.ensures
-    (proving_unopened hash map q before after)
+    unopened_map hash (sized g) map before (MaySayProof hash map (question q) proof)
+    (AllowsProof hash map (rounds q) (question q)) (λ m. comes (say_proof_of hash (question q) proof m)) (λ m. tt)
+    (λ said is. inl is) after c.in-Err.ended.0 c.in-Err.ensures
+    (proving_unopened hash map (rounds q) (question q) before after)
 
 -- the map has no proof
 pub returns-then-lacks_proof : goal.returns-then-lacks_proof
@@ -34,8 +37,8 @@ returns-then-lacks_proof g c =
     let q = c.args.query.now in
     subst (λ w. IsCarriedOut hash (commands.Prove c.args.map q c.args.proof) (g.S.Shelf.state c.args.shelf) w
     c.without_proof.result) (sym (ap g.S.Shelf.state c.close.ensures))
-    (unproved hash (sized g) c.args.map.now q c.args.proof.now (g.S.Shelf.state c.args.shelf) c.in-Ok.paged
-    c.in-Ok.ensures
+    (unproved hash (sized g) c.args.map.now (rounds q) (question q) c.args.proof.now (g.S.Shelf.state c.args.shelf)
+    c.in-Ok.paged c.in-Ok.ensures
     (ap (λ v. lacks_proof v q) (sym c.version.ensures) ∙ sym c.lacks_proof.ensures ∙ c.if-lacks_proof.true)
     c.without_proof.result c.without_proof.ensures)
 
@@ -50,8 +53,8 @@ returns-else-lacks_proof g c =
     let made = c.proof_of_nodes-made in
     let q = c.args.query.now in
     let after = g.S.Shelf.state c.keep_proof-came.new.shelf in
-    proved g.H.Hashes.of (sized g) c.args.map.now q c.args.proof.now (g.S.Shelf.state c.args.shelf)
-    after c.in-Ok.paged made.new.nodes c.in-Ok.ensures
+    proved g.H.Hashes.of (sized g) c.args.map.now (rounds q) (question q) c.args.proof.now
+    (g.S.Shelf.state c.args.shelf) after c.in-Ok.paged made.new.nodes c.in-Ok.ensures
     (ap (λ v. lacks_proof v q) (sym c.version.ensures) ∙ sym c.lacks_proof.ensures ∙ c.if-lacks_proof.false)
     made.ensures.kept made.ensures.fetched made.result
     c.keep_proof-came.result made.ensures.written made.ensures.cause made.ensures.quiet

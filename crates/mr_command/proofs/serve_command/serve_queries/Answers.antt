@@ -1,8 +1,7 @@
-use Rattle.std.proofs.Common.{◌≡◌, true, false, Bool, List, length, refl, ap, sym, subst, ◌∙◌}
+use Rattle.std.proofs.Common.{length, refl, ap, sym, subst, ◌∙◌}
 use Rattle.std.specs.List.{list_any}
-use Rattle.mr_record.specs.declared.version.Version.{Version}
 use Rattle.mr_bundle.specs.Bundle.{bundle_of}
-use Rattle.mr_command.specs.Ending.{RunsPlan, IsEndingOrHalt}
+use Rattle.mr_command.specs.Ending.{RunsPlan}
 use Rattle.mr_plan.specs.Lines.{served_line, needs_version_2_line}
 use Rattle.mr_plan.specs.Plan.{comes}
 use Rattle.mr_plan.specs.declared.status.Status.TheVariants.{NeedsVersion2}

@@ -5,9 +5,9 @@ use Rattle.mr_tool.proofs.program.carry_out.Goals as goal
 
 pub returns-in-Root : goal.returns-in-Root
 returns-in-Root g c =
-    as_plain g.H.Hashes.of _ _ _ _ c.root-came.result c.in-Root.is
+    as_plain g.H.Hashes.of _ _ _ _ c.root_on.result.0 c.in-Root.is
     (λ said leads. leads) (λ files n few. few)
-    c.root-came.ensures
+    c.root_on.ensures
 
 pub returns-in-Build : goal.returns-in-Build
 returns-in-Build g c =
@@ -17,9 +17,9 @@ returns-in-Build g c =
 
 pub returns-in-Root2 : goal.returns-in-Root2
 returns-in-Root2 g c =
-    as_plain g.H.Hashes.of _ _ _ _ c.root-came-in-Root2.result c.in-Root2.is
+    as_plain g.H.Hashes.of _ _ _ _ c.root_on-in-Root2.result.0 c.in-Root2.is
     (λ said leads. leads) (λ files n few. few)
-    c.root-came-in-Root2.ensures
+    c.root_on-in-Root2.ensures
 
 pub returns-in-Build2 : goal.returns-in-Build2
 returns-in-Build2 g c =
@@ -47,10 +47,23 @@ returns-in-Prove g c = as_carried g.H.Hashes.of _ _ _ _ c.prove_query.result.0 c
 
 pub returns-in-Check : goal.returns-in-Check
 returns-in-Check g c =
-    as_carried g.H.Hashes.of _ _ _ _ c.check_proof-came.result c.in-Check.is c.check_proof-came.ensures
+    as_carried g.H.Hashes.of _ _ _ _ c.check_on.result.0 c.in-Check.is c.check_on.ensures
 
 pub returns-in-Audit : goal.returns-in-Audit
 returns-in-Audit g c = as_carried g.H.Hashes.of _ _ _ _ c.audit_query.result.0 c.in-Audit.is c.audit_query.ensures
+
+pub returns-in-Count : goal.returns-in-Count
+returns-in-Count g c = as_carried g.H.Hashes.of _ _ _ _ c.count.result.0 c.in-Count.is c.count.ensures
+
+pub returns-in-CheckCount : goal.returns-in-CheckCount
+returns-in-CheckCount g c =
+    as_plain g.H.Hashes.of _ _ _ _ c.check_count-came.result c.in-CheckCount.is
+    (λ said leads. leads) (λ files n few. few)
+    c.check_count-came.ensures
+
+pub returns-in-AuditCount : goal.returns-in-AuditCount
+returns-in-AuditCount g c =
+    as_carried g.H.Hashes.of _ _ _ _ c.audit_count.result.0 c.in-AuditCount.is c.audit_count.ensures
 
 pub returns-in-Make : goal.returns-in-Make
 returns-in-Make g c =

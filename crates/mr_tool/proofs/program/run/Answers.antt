@@ -32,6 +32,15 @@ returns-clause-audited g c = c.answered.ensures.run.audited
 pub returns-clause-collides : goal.returns-clause-collides
 returns-clause-collides g c = c.answered.ensures.run.collides
 
+pub returns-clause-count_honest : goal.returns-clause-count_honest
+returns-clause-count_honest g c = c.answered.ensures.run.count_honest
+
+pub returns-clause-count_worth : goal.returns-clause-count_worth
+returns-clause-count_worth g c = c.answered.ensures.run.count_worth
+
+pub returns-clause-count_audited : goal.returns-clause-count_audited
+returns-clause-count_audited g c = c.answered.ensures.run.count_audited
+
 pub returns-clause-alike : goal.returns-clause-alike
 returns-clause-alike g c = c.answered.ensures.run.alike
 
