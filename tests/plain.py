@@ -338,6 +338,16 @@ def answer(records, query):
     return sorted(records, key=lambda r: (distance(centre, r[1]), r[0]))[:most]
 
 
+def within(rect, window):
+    """Whether a rectangle lies in a window, sides included."""
+    return window[0] <= rect[0] and rect[2] <= window[2] and window[1] <= rect[1] and rect[3] <= window[3]
+
+
+def count_inside(records, query):
+    """How many records lie inside a window, on the layers that are asked for: by a scan."""
+    return len([r for r in records if within(r.rect, query.shape) and query.layers() >> r.layer & 1])
+
+
 def radius_of(records, query):
     """The squared radius in the honest proof of a query for nearest records, None where there are too few."""
     near = answer(records, query)

@@ -15,6 +15,11 @@ const PROOF = new Uint8Array(fs.readFileSync(FILE));
 // The map of the one record `7 0 0 0 0 5 -` of version 2: its root digest, and a proof on it.
 const ROOT_LAYERED = "18765610245298873ffa8adca444b11a93de409d6eaa79f942de550e226b03f7";
 const LAYERED = `4d52564f0257${"0".repeat(30)}01004c01${"0".repeat(15)}7${"0".repeat(32)}0500`;
+// The map of the 2,000 points of docs/FORMATS.md in version 2: its root digest, and a count proof.
+const ROOT_POINTS = "c7a73721c314b72b6b01110486ea947d1a52c4af606454bfe0a7ebea24a12064";
+const COUNTED = "window:200,200,800,600";
+const COUNT_FILE = path.join(EXAMPLES, "vectors", "level-2-count.proof");
+const COUNT = new Uint8Array(fs.readFileSync(COUNT_FILE));
 const ROUNDS = 3000; // strings of random bytes
 const ROOTS = ["", PLACES.slice(1), PLACES.toUpperCase(), `${PLACES}\n`, `${PLACES}0`, null, 7];
 const QUERIES = [
@@ -85,6 +90,55 @@ async function versionsHold(bench) {
     bench.equal(String(mask), "255", "the mask of a query");
 }
 
+/** What a call for a count is ended by: the name of an error, the count or the rule. */
+async function counted(...words) {
+    try {
+        const verdict = await client.checkCount(...words);
+        return verdict.accepted ? String(verdict.inside) : verdict.rule;
+    } catch (error) {
+        return error.name;
+    }
+}
+
+/** Count proofs, as bytes and in pieces; what is none, and what is seen of one. */
+async function countsHold(bench) {
+    const ways = { bytes: COUNT, buffer: COUNT.buffer, cut: cut(COUNT, 7) };
+    ways.stream = fs.createReadStream(COUNT_FILE);
+    for (const [name, proof] of Object.entries(ways)) {
+        bench.equal(await counted(ROOT_POINTS, COUNTED, proof), "447", `a count proof as ${name}`);
+    }
+    const rows = [
+        [ROOT_POINTS, `${COUNTED}/0000000000000001`, COUNT, "447"],
+        [ROOT_POINTS, `${COUNTED}/ffffffffffffffff`, COUNT, "447"],
+        [ROOT_POINTS, "window:200,200,800,601", COUNT, "Needless"],
+        [ROOT_POINTS, "window:0,0,0,0", COUNT, "Needless"],
+        [ROOT_POINTS, `${COUNTED}/0000000000000002`, COUNT, "Needless"],
+        [ROOT_POINTS, COUNTED, COUNT.subarray(0, 9999), "Short"],
+        [POINTS, COUNTED, COUNT, "WrongRoot"],
+        [PLACES, WINDOW, PROOF, "BadVersion"],
+        [PLACES, "nearest:133777000,525163000,2", PROOF, "RangeError"],
+        [ROOT_POINTS, COUNTED, null, "TypeError"],
+        [ROOT_POINTS, COUNTED, 7, "TypeError"],
+        ...ROOTS.map((root) => [root, COUNTED, COUNT, "RangeError"]),
+        ...QUERIES.map((query) => [ROOT_POINTS, query, COUNT, "RangeError"]),
+    ];
+    for (const [root, query, proof, meant] of rows) {
+        bench.equal(await counted(root, query, proof), meant, `the count ${query}`);
+    }
+    const answer = await ended(ROOT_POINTS, COUNTED, COUNT);
+    bench.equal(answer, "WrongKind", "a count proof for an answer");
+    const layered = Uint8Array.from(LAYERED.match(/../g), (digits) => parseInt(digits, 16));
+    const other = await counted(ROOT_LAYERED, "window:0,0,0,0", layered);
+    bench.equal(other, "WrongKind", "a proof of an answer for a count");
+    const seen = [];
+    const { count, batch, version } = await client.checkCount(
+        ROOT_POINTS, COUNTED, COUNT, ({ tag }) => seen.push(tag)
+    );
+    bench.equal(`${count} ${batch} ${version}`, "2000 0 2", "what a count proof says of its map");
+    const tags = ["W", "P", "L", "N"].map((tag) => seen.filter((one) => one === tag).length);
+    bench.equal(tags.join(" "), "18 85 22 3", "the items that are seen of a count");
+}
+
 /** Words as on a command line: what is a query may be a file's name too. */
 async function wordsHold(bench) {
     const rows = [
@@ -95,6 +149,11 @@ async function wordsHold(bench) {
         [["check-all", PLACES, "", "s"], 1],
         [["check-all", PLACES, "s", "p"], 3],
         [["prove", PLACES, WINDOW, "p"], 1],
+        [["check-count", PLACES, WINDOW, "p"], 2],
+        [["check-count", PLACES, "nearest:0,0,1", "p"], 1],
+        [["check-count", PLACES, WINDOW, ""], 1],
+        [["count", PLACES, WINDOW, "p"], 1],
+        [["toString", PLACES, WINDOW, "p"], 1],
         [["check", PLACES, WINDOW], 1],
         [["check", PLACES, WINDOW, "p", "p"], 1],
         [[], 1],
@@ -159,6 +218,7 @@ async function main() {
     await waysHold(bench);
     await othersHold(bench);
     await versionsHold(bench);
+    await countsHold(bench);
     await wordsHold(bench);
     await filesHold(bench);
     await judgesHold(bench);

@@ -22,6 +22,8 @@ const POINTS = "94f0cf13ea902a3c351f1c6ad540cf8917c2f9b63f400144e03cdb1dda1daf4c
 // The map of the one record `7 0 0 0 0 5 -` of version 2: its root digest, and a proof on it.
 const ROOT_LAYERED = "18765610245298873ffa8adca444b11a93de409d6eaa79f942de550e226b03f7";
 const LAYERED = `4d52564f0257${"0".repeat(30)}01004c01${"0".repeat(15)}7${"0".repeat(32)}0500`;
+// The map of the 2,000 points of docs/FORMATS.md in version 2: its root digest.
+const ROOT_POINTS = "c7a73721c314b72b6b01110486ea947d1a52c4af606454bfe0a7ebea24a12064";
 const ROWS = [
     "101 133777000 525163000 133777000 525163000 Brandenburger Tor",
     "102 133761000 525186000 133761000 525186000 Reichstag",
@@ -153,6 +155,37 @@ async function othersHold(bench, browser, room) {
     bench.equal(none.line, "accepted: 0 of the map's 0 records, at batch 0", "an empty map");
 }
 
+/** A count proof: how many are inside, and of what; no records and no GeoJSON beside it. */
+async function countsHold(bench, browser) {
+    const ask = (id) => browser.value(`document.querySelector("#${id}").click()`);
+    const file = path.join(EXAMPLES, "vectors", "level-2-count.proof");
+    await ask("count");
+    const count = await given(browser, ROOT_POINTS, "window:200,200,800,600", file);
+    const line = "accepted: 447 of the map's 2000 records lie inside, at batch 0";
+    bench.equal(count.line, line, "a count");
+    bench.equal(count.drawn, "3 22 85 159 193 1", "its picture");
+    bench.equal(count.shown, "nodes opened: 25; parts inside: 18, apart: 85", "what is told of it");
+    const hidden = "[...document.querySelectorAll('[data-of]')].map((one) => one.hidden).join(' ')";
+    bench.equal(await browser.value(hidden), "true true true true true", "a table of a count");
+    const wholes = "document.querySelectorAll('#near .whole').length";
+    bench.equal(await browser.value(wholes), 18, "the parts that are inside");
+    const other = await given(browser, ROOT_POINTS, "window:200,200,800,601", file);
+    bench.equal(other.line, "refused Needless at 13040", "a count for another window");
+    await browser.type("#query", "nearest:0,0,1");
+    const wanting = await browser.value(SEEN);
+    const isTold = wanting.state === "waiting" && wanting.line.startsWith("A count is of");
+    bench.holds(isTold, "a count of nearest records");
+    const sample = path.join(EXAMPLES, "places-window.proof");
+    const first = await given(browser, PLACES, WINDOW, sample);
+    bench.equal(first.line, "refused BadVersion at 4", "a proof of version 1 for a count");
+    await ask("records");
+    const again = await given(browser, PLACES, WINDOW, sample);
+    bench.equal(String(again.rows), String(ROWS), "records behind a count");
+    bench.equal(await browser.value(hidden), "false false false false false", "their table");
+    const answer = await given(browser, ROOT_POINTS, "window:200,200,800,600", file);
+    bench.equal(answer.line, "refused WrongKind at 5", "a count proof for records");
+}
+
 /** The answer as GeoJSON, as it is saved. */
 async function geojsonHolds(bench, browser, room) {
     const file = path.join(room, "answer.geojson");
@@ -215,6 +248,7 @@ async function main([picture]) {
         await sampleHolds(bench, browser);
         await refusalsHold(bench, browser, room);
         await othersHold(bench, browser, room);
+        await countsHold(bench, browser);
         await geojsonHolds(bench, browser, room);
         const elsewhere = browser.asked.filter((url) => !/^(file|blob):/.test(url));
         bench.equal(String(elsewhere), "", "addresses that the page asks for");

@@ -37,7 +37,7 @@ class Bench:
 
     def __init__(self, program: str, is_long: bool) -> None:
         self.program_path, self.is_long = os.path.abspath(program), is_long
-        self.rows = self.failed = self.skipped = self.honest = self.bent = self.bundles = 0
+        self.rows = self.failed = self.skipped = self.honest = self.bent = self.bundles = self.counts = 0
 
     def holds(self, is_so: bool, what: str) -> None:
         """Counts one thing that is to be so, and prints it where it is not."""
@@ -96,7 +96,7 @@ class Bench:
         self.holds(one == other, "%s: %s: the program %s, the client %s" % (what, " ".join(words), one, other))
         return one
 
-    def agree_on(self, root: str, query: str, proof: bytes, what: str) -> Ended:
+    def agree_on(self, root: str, query: str, proof: bytes, what: str, command: str = "check") -> Ended:
         """Both say the same of a proof in the file p."""
         write("p", proof)
-        return self.agree(["check", root, query, "p"], what)
+        return self.agree([command, root, query, "p"], what)

@@ -58,10 +58,24 @@ class Map:
         if chance.random() < 0.5:
             k = chance.choice((1, 1, 2, 3, 10, 100, 1024, max(1, min(len(self.records) + 1, 1024))))
             return plain.Query(((x, y), k), mask)
-        wide = chance.choice((0, 1, span // 100, span // 10, span))
+        return plain.Query(self.window(x, y), mask)
+
+    def window(self, x: int, y: int) -> Tuple[int, ...]:
+        """A window of any size round this point."""
+        wide = self.chance.choice((0, 1, self.span // 100, self.span // 10, self.span))
         low = -(2**31)
-        sides = max(x - wide, low), max(y - wide, low), min(x + wide, -low - 1), min(y + wide, -low - 1)
-        return plain.Query(sides, mask)
+        return max(x - wide, low), max(y - wide, low), min(x + wide, -low - 1), min(y + wide, -low - 1)
+
+    def counted(self) -> plain.Query:
+        """A window at random for a count: round a point, or from a side of a record to one of another."""
+        chance, span = self.chance, self.span
+        mask = self.mask() if chance.random() < 0.5 else None
+        if len(self.records) < 2 or chance.random() < 0.5:
+            return plain.Query(self.window(chance.randint(-span, span), chance.randint(-span, span)), mask)
+        one, other = (chance.choice(self.records).rect for _ in range(2))
+        xs = sorted(chance.choice((rect[0], rect[2])) for rect in (one, other))
+        ys = sorted(chance.choice((rect[1], rect[3])) for rect in (one, other))
+        return plain.Query((xs[0], ys[0], xs[1], ys[1]), mask)
 
     def mask(self) -> int:
         """Some layers."""
@@ -110,6 +124,61 @@ def bent_agree(bench: Bench, one: Map, given: List[Tuple[plain.Query, bytes]], c
         if found and one.chance.random() < 0.3:
             said = bench.agree(["check", found, proofs.word_of(query), "p"], "a bent proof, against its own root")
             steps_agree(bench, found, query, string, said)
+
+
+def counted(bench: Bench, one: Map, query: plain.Query) -> bytes:
+    """The program's count proof of a window, once all took it and gave the count of a scan."""
+    word, meant = proofs.word_of(query), plain.count_inside(one.records, query)
+    ended = bench.program(["count", "m", word, "p"])
+    proof, bench.counts = read("p"), bench.counts + 1
+    bench.holds(ended == (0, b"proof %d\n" % len(proof)), "the count of %s: %s" % (word, ended))
+    said = bench.agree(["check-count", one.root, word, "p"], "an honest count proof")
+    bench.holds(said == (0, b"count %d\n" % meant), "the count of %s: %s, and a scan %d" % (word, said, meant))
+    bench.holds(steps.count(one.root, query, proof) == meant, "the count of %s, by the steps" % word)
+    said = bench.program(["audit-count", "m", word, "p"])
+    bench.holds(said == (0, b"sound\ncount %d\n" % meant), "the audit of the count of %s: %s" % (word, said))
+    if one.tree or not one.records:
+        is_so = proof == proofs.honest_count(one.tree, one.batch, query)
+        bench.holds(is_so, "the bytes of the count proof of " + word)
+    return proof
+
+
+def counts_agree(bench: Bench, one: Map, honest: int, bent: int) -> None:
+    """All say the same of count proofs, honest and bent, and of proofs of other kinds for counts."""
+    if one.version == 1:
+        word = proofs.word_of(one.counted())
+        bench.holds(bench.program(["count", "m", word, "q"]) == (10, b"needs version 2\n"), "a count in version 1")
+        return
+    given = [(query, counted(bench, one, query)) for query in [one.counted() for _ in range(honest)]]
+    for _ in range(bent):
+        query, proof = one.chance.choice(given)
+        string = proofs.bent(proof, one.chance.choice(given)[1], one.chance)
+        if one.chance.random() < 0.1:
+            query, string = one.chance.choice(given)[0], proof
+        word, bench.bent = proofs.word_of(query), bench.bent + (string != proof)
+        said = bench.agree_on(one.root, word, string, "a bent count proof", "check-count")
+        found = said[1].split()[-1].decode() if b"WrongRoot" in said[1] else one.root
+        said = bench.agree(["check-count", found, word, "p"], "a bent count proof, against its own root")
+        number = steps.count(found, query, string)
+        is_so = said[0] == 2 if number is None else said == (0, b"count %d\n" % number)
+        bench.holds(is_so, "%s: by the steps %s, and it is said %s" % (word, number, said))
+        bench.agree(["check", found, word, "p"], "a count proof for an answer")
+
+
+COUNTED = 500  # windows of a map of three levels
+
+
+def counts_beside_scan(bench: Bench) -> None:
+    """Counts in windows at random, with masks and without, on maps of three levels: as a scan says, and honest."""
+    chance, seen = random.Random(18), {0: 0}
+    for is_changed in (False, True):
+        one = Map(bench, chance, 2000, is_changed, 2)
+        for _ in range(COUNTED if bench.is_long else COUNTED // 2):
+            query = one.counted()
+            counted(bench, one, query)
+            number = plain.count_inside(one.records, query)
+            seen[number] = seen.get(number, 0) + 1
+    bench.holds(len(seen) > 20 and seen[0] < bench.counts // 2, "few windows have records: %s" % seen)
 
 
 def said_of_bundle(bench: Bench, root: str, words: List[str], bundle: bytes) -> Ended:
@@ -200,7 +269,8 @@ def random_proofs(bench: Bench) -> None:
         given = [(query, proved(bench, one, query)) for query in asked]
         bent_agree(bench, one, given, bent // len(sizes) // 2 + 1)
         bundles_agree(bench, one, given, honest // len(sizes) // 8 + 1)
+        counts_agree(bench, one, honest // len(sizes) // 4 + 1, bent // len(sizes) // 4 + 1)
         if size == 2000 and bench.is_long:
             each_agrees(bench, one)
-    counts = bench.honest, bench.bent, bench.bundles
-    print("tests/clients: %d honest proofs, %d other strings, %d bundles" % counts)
+    counts = bench.honest, bench.counts, bench.bent, bench.bundles
+    print("tests/clients: %d honest proofs, %d counts, %d other strings, %d bundles" % counts)

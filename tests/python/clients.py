@@ -91,7 +91,7 @@ def vectors_hold(bench: Bench, name: str) -> None:
                 bench.holds(read(one) == vectors.bytes_of(spelled, "."), "%s: the file %s" % (where, one))
         for one, spelled in vector.after:
             write(one, vectors.bytes_of(spelled, "."))
-        if vector.words[0] in ("check", "check-all"):
+        if vector.words[0] in ("check", "check-count", "check-all"):
             client_says(bench, vector, where)
     if passed:
         bench.skip("%d lines of %s: this program has no bundles" % (passed, name))
@@ -128,7 +128,8 @@ def rows_hold(bench: Bench) -> None:
             os.remove(name)
         for name, bytes_ in group.files().items():
             write(name, bytes_)
-        if group.kind() == "row" and group.first("run").words.startswith("check ") and not group.has("fails"):
+        judges = group.kind() == "row" and group.first("run").words.split(" ")[0] in ("check", "check-count")
+        if judges and not group.has("fails"):
             checks += row_holds(bench, group)
         elif group.kind() == "story":
             checks += story_holds(bench, group)
@@ -153,17 +154,17 @@ def story_holds(bench: Bench, story: tables.Group) -> int:
     root, checks = "0" * 64, 0
     for at, step in enumerate(story.items):
         words = step.words.replace("..", tables.ZEROS).split(" ") if step.key in ("run", "do") else [""]
-        if words[0] in ("check", "audit"):
-            query, proof = words[2:]
+        if words[0] in ("check", "audit", "check-count", "audit-count"):
+            command, (query, proof) = words[0].replace("audit", "check"), words[2:]
             if os.path.exists(proof) and (bench.is_long or os.path.getsize(proof) < MOST_IN_SHORT):
-                said = bench.agree(["check", root, query, proof], "the story '%s'" % story.name())
-                bench.agree(["check", "0" * 64, query, proof], "the story '%s', no root" % story.name())
-                if words[1] == root:
+                said = bench.agree([command, root, query, proof], "the story '%s'" % story.name())
+                bench.agree([command, "0" * 64, query, proof], "the story '%s', no root" % story.name())
+                if words[1] == root and step.key == "run":
                     bench.holds(said[1] == story.text(story.items[at + 2]), "the story '%s': %s" % (story.name(), said))
             checks += 2
-        elif words[0] in ("root", "root2", "build", "build2", "upgrade", "apply", "list", "prove", "make"):
+        elif words[0] in ("root", "root2", "build", "build2", "upgrade", "apply", "list", "prove", "count", "make"):
             status, said = bench.program(words)
-            if words[0] in ("build", "apply") and status == 0:
+            if words[0] in ("build", "build2", "upgrade", "apply") and status == 0:
                 root = said.decode().strip()
         elif step.key == "change":
             change(*step.words.split(" ", 1))
@@ -192,6 +193,7 @@ def main(how: str, program: str) -> int:
         ("the tables of the program's tests", rows_hold),
         ("the same tables, foretold", foretold.tables_hold),
         ("proofs at random", chances.random_proofs),
+        ("counts beside a scan", chances.counts_beside_scan),
         ("files that are odd or do not fit", inputs.inputs_hold),
         ("from files of publishers and back", trips.trips_hold),
         ("answers, outputs and stops", ways.ways_hold),

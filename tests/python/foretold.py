@@ -53,6 +53,11 @@ def is_query(word: str) -> bool:
     return said.read_query(word.encode()) is not None
 
 
+def is_window(word: str) -> bool:
+    """Whether it is the query word of a window."""
+    return is_query(word) and word.startswith("window:")
+
+
 FORMS: Dict[str, List[Callable[[str], bool]]] = {
     "root": [is_name],
     "root2": [is_name],
@@ -66,6 +71,9 @@ FORMS: Dict[str, List[Callable[[str], bool]]] = {
     "audit": [is_name, is_query, is_name],
     "serve": [is_name, is_name, is_name],
     "check-all": [is_root, is_name, is_name],
+    "count": [is_name, is_window, is_name],
+    "check-count": [is_root, is_window, is_name],
+    "audit-count": [is_name, is_window, is_name],
     "make": [is_count(0, 2**20), is_count(0, 2**64 - 1), is_name],
     "demo": [is_count(1, 65536), is_count(0, 2**64 - 1)],
 }
@@ -115,7 +123,7 @@ def reads_map(bytes_: Optional[bytes]) -> List[Call]:
 
 
 # The commands that make a file, and the place of its name among the words.
-MADE = {"build": 1, "build2": 1, "upgrade": 2, "make": 3, "prove": 3, "serve": 3, "apply": 3}
+MADE = {"build": 1, "build2": 1, "upgrade": 2, "make": 3, "prove": 3, "serve": 3, "apply": 3, "count": 3}
 
 
 def made_of(words: List[str]) -> str:
@@ -153,6 +161,9 @@ def course(words: List[str], files: said.Files, made: Optional[bytes]) -> List[C
         "audit": lambda: reads_map(of(1)) + reads_text(of(3)),
         "serve": lambda: reads_map(of(1)) + reads_text(of(2)),
         "check-all": lambda: reads_text(of(2)) + reads_text(of(3)),
+        "count": lambda: reads_map(of(1)),
+        "check-count": lambda: reads_text(of(3)),
+        "audit-count": lambda: reads_map(of(1)) + reads_text(of(3)),
     }
     calls = inputs.get(words[0], list)()
     if made is None:
@@ -447,7 +458,7 @@ def reads_along(tree: Any, changes: List[Any]) -> int:
 def reads_of(words: List[str], files: said.Files, meant: said.Meant) -> Tuple[int, int]:
     """The fewest and the most reads of a run; of a map of more than 257 pages what is not kept is read again.
 
-    A window opens all nodes here; nearest records, and a query that names layers, may open kept ones alone.
+    A window opens all nodes here; nearest records, a query that names layers, and a count may open kept ones alone.
     """
     of_page_0 = [b"bad map page 0 %s\n" % rule for rule in (b"Size", b"Unsealed", b"Header")]
     calls = course(words, files, meant.made) if meant.ended[0] in (0, 2, 10) or meant.ended[1] in of_page_0 else []
@@ -457,7 +468,7 @@ def reads_of(words: List[str], files: said.Files, meant: said.Meant) -> Tuple[in
     place = re.match(rb"refused [A-Za-z]+ at ([0-9]+)", meant.ended[1])
     if words[0] == "check" and place:
         return (int(place[1]) // PIECE + 1,) * 2
-    is_kept = words[0] in ("prove", "serve", "apply") and meant.ended[0] != 10
+    is_kept = words[0] in ("prove", "serve", "apply", "count") and meant.ended[0] != 10
     map_ = files.get(words[1], b"") if is_kept else b""
     pages = len(map_) // page_size(map_)
     again = pages - 1 if pages > KEPT + 1 else 0
@@ -465,7 +476,7 @@ def reads_of(words: List[str], files: said.Files, meant: said.Meant) -> Tuple[in
     if words[0] == "apply" and meant.made is not None:
         along = reads_along(said.read_map(map_)[0], read_changes(map_, files[words[2]]))
         most += 1 + along
-    few = words[0] == "prove" and (words[2].startswith("nearest:") or "/" in words[2])
+    few = words[0] == "count" or (words[0] == "prove" and (words[2].startswith("nearest:") or "/" in words[2]))
     return count + (0 if few else max(0, again - KEPT)), most
 
 

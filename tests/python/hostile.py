@@ -172,7 +172,7 @@ def over(
 ) -> Case:
     """A command that reads this map file, which was made of these records at this batch in this version."""
     query = proofs.word_of(bends.query(chance, version if chance.random() < 0.7 else 2))
-    way = chance.randrange(6)
+    way = chance.randrange(8)
     if way < 2:
         return over_both(bytes_, chance, rule)
     if way == 2:
@@ -183,6 +183,11 @@ def over(
     if way == 4:
         string = proof_of(chance, given, held, version)[2]
         return Case(["audit", "m", query, "p"], {"m": bytes_, "p": string}, "", rule)
+    if way == 5:
+        return Case(["count", "m", counted(chance, given, bool(rule)), "p"], {"m": bytes_}, "p", rule)
+    if way == 6:
+        _, word, string = count_of(chance, given, held, bool(rule))
+        return Case(["audit-count", "m", word, "p"], {"m": bytes_, "p": string}, "", rule)
     return Case(["serve", "m", "s", "u"], {"m": bytes_, "s": bends.script_text(chance, version)}, "u", rule)
 
 
@@ -216,6 +221,57 @@ def proofs_(chance: random.Random) -> Case:
     return Case(["audit", "m", proofs.word_of(query), "p"], maybe(chance, files, "p"))
 
 
+def counted(chance: random.Random, given: List[plain.Record], is_right: bool = False) -> str:
+    """A window's word, for a count: any, or one from a record's side to another's.
+
+    Where it need not be right, now and then it is no window's.
+    """
+    query = bends.query(chance, 2)
+    while not query.is_window() and (is_right or chance.random() < 0.95):
+        query = bends.query(chance, 2)
+    if given and chance.random() < 0.6:
+        one, other = (chance.choice(given).rect for _ in range(2))
+        xs, ys = sorted((one[chance.choice((0, 2))], other[2])), sorted((one[chance.choice((1, 3))], other[3]))
+        query = plain.Query((xs[0], ys[0], xs[1], ys[1]), query.mask)
+    return proofs.word_of(query)
+
+
+def count_of(
+    chance: random.Random, given: List[plain.Record], batch: int, is_right: bool = False
+) -> Tuple[str, str, bytes]:
+    """A root digest in version 2, a window's word, and a string that is offered as its count proof, honest or not."""
+    tree, word, other = plain.pack(given), counted(chance, given, is_right), counted(chance, given, is_right)
+    whole = lambda one: said.read_query(one.encode()) if one.startswith("window:") else plain.Query((0, 0, 9, 9))
+    proof, way = proofs.honest_count(tree, batch, whole(word)), chance.random()
+    if way < 0.5:
+        string = proofs.bent(proof, proofs.honest_count(tree, batch, whole(other)), chance)
+    elif way < 0.6:
+        string = bends.some_bytes(chance, 400)
+    elif way < 0.7:
+        string = bends.bent_bytes(proof, chance)
+    elif way < 0.75:
+        string = proofs.honest(tree, batch, whole(word), 2)
+    else:
+        string = proof
+    return plain.root(tree, batch, 2), other if chance.random() < 0.1 else word, string
+
+
+def counts(chance: random.Random) -> Case:
+    """Count proofs, for `check-count`, for `audit-count` beside their map, and for `check`; and `count` of a map."""
+    given = bends.records(chance, chance.choice((40, 400)), 2)
+    root, word, string = count_of(chance, given, 0)
+    way = chance.random()
+    if way < 0.6:
+        command = "check" if chance.random() < 0.05 else "check-count"
+        return Case([command, root, word, "p"], maybe(chance, {"p": string}, "p"))
+    version = 2 if chance.random() < 0.9 else 1
+    given = given if version == 2 else [one._replace(layer=0) for one in given]
+    files = {"m": honest_map(chance, given, version), "p": string}
+    if way < 0.85:
+        return Case(["audit-count", "m", word, "p"], maybe(chance, files, chance.choice("mp")))
+    return Case(["count", "m", word, "p"], maybe(chance, files, "m"), "p")
+
+
 def scripts(chance: random.Random) -> Case:
     """Scripts, for `serve` and for `check-all`."""
     version = chance.choice((1, 2))
@@ -244,6 +300,7 @@ KINDS: List[Tuple[str, Callable[[random.Random], Case], int]] = [
     ("batches", batches, 4),
     ("maps", maps, 8),
     ("proofs", proofs_, 5),
+    ("count proofs", counts, 5),
     ("scripts", scripts, 3),
     ("bundles", bundles, 3),
 ]

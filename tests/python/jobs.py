@@ -59,6 +59,8 @@ def jobs(bench: Bench, seed: int, count: int, changes: int, queries: int) -> Lis
     serve = job(bench, "serve m s u", {"m": map_, "s": script}, "u")
     masked = WINDOW + "/00000000000000ff"
     prove2 = job(bench, "prove m %s p" % masked, {"m": build2.whole}, "p")
+    counted = job(bench, "count m %s p" % WINDOW, {"m": build2.whole}, "p")
+    check_count = "check-count %s %s p" % (build2.text.decode().strip(), WINDOW)
     return [
         build,
         job(bench, "apply m b n", {"m": map_, "b": batch}, "n"),
@@ -75,6 +77,10 @@ def jobs(bench: Bench, seed: int, count: int, changes: int, queries: int) -> Lis
         job(bench, "prove m %s p" % masked, {"m": map_}, "", 10),
         job(bench, "audit m %s p" % masked, {"m": build2.whole, "p": prove2.whole}, ""),
         job(bench, "list m", {"m": build2.whole}, ""),
+        counted,
+        job(bench, "count m %s p" % WINDOW, {"m": map_}, "", 10),
+        job(bench, check_count, {"p": counted.whole}, ""),
+        job(bench, "audit-count m %s p" % WINDOW, {"m": build2.whole, "p": counted.whole}, ""),
         job(bench, "check %s %s p" % (root, WINDOW), {"p": prove.whole}, ""),
         job(bench, "audit m %s p" % WINDOW, {"m": map_, "p": prove.whole}, ""),
         job(bench, "check-all %s s u" % root, {"s": script, "u": serve.whole}, ""),
@@ -92,6 +98,9 @@ def few(bench: Bench) -> List[Job]:
     sixteen = job(bench, "build m r", {"r": text_of(row[:16])}, "m")
     layered = job(bench, "build2 m r", {"r": text_of(plain.on_layers(row[:16]), 2)}, "m")
     seventeen = job(bench, "build m r", {"r": text_of(row)}, "m")
+    second = job(bench, "build2 m r", {"r": text_of(plain.on_layers(row), 2)}, "m")
+    counted = job(bench, "count m window:0,0,9,0 p", {"m": second.whole}, "p")
+    check_count = "check-count %s window:0,0,9,0 p" % second.text.decode().strip()
     one = job(bench, "build m r", {"r": b"7 0 0 0 0 -\n"}, "m")
     script = b"window:0,0,0,0\nwindow:1,1,2,2\n"
     serve = job(bench, "serve m s u", {"m": one.whole, "s": script}, "u")
@@ -106,7 +115,10 @@ def few(bench: Bench) -> List[Job]:
         job(bench, "prove m window:0,0,0,0 p", {"m": one.whole}, "p"),
         job(bench, check, {"s": script, "u": serve.whole}, ""),
         job(bench, check, {"s": script, "u": serve.whole[:-1]}, "", 2),
-        job(bench, "build2 m r", {"r": text_of(plain.on_layers(row), 2)}, "m"),
+        second,
+        counted,
+        job(bench, check_count, {"p": counted.whole}, ""),
+        job(bench, check_count, {"p": counted.whole[:-1]}, "", 2),
         job(bench, "upgrade m n", {"m": seventeen.whole}, "n"),
         job(bench, "apply m b n", {"m": layered.whole, "b": batch.replace(b" -", b" 63 -")}, "n"),
     ]

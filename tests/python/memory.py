@@ -98,6 +98,7 @@ def refused(bench: Bench, seed: int) -> None:
 ALL = "window:-2147483648,-2147483648,2147483647,2147483647"
 ON_ALL = "/ffffffffffffffff"  # a mask of all layers
 NEAREST = "nearest:0,0,1024/0000000000000001"  # on layer 0 alone
+COUNTED = "window:-1500000000,-1500000000,1500000000,1500000000/00000000ffffffff"  # most records, half of the layers
 LONG = 16384  # records of 200 bytes of payload, on a map that is proved whole in 3.7 MB
 SERVED = 200  # queries, each of which is answered by all of 2,000 records
 
@@ -113,7 +114,8 @@ class Bound(NamedTuple):
 # The numbers that were measured are 4,515 and 24.1 million; 28 and 4.1 million; 2,704 and 13.9 million; 3,100. By
 # threads those of the last two differ by a few calls from run to run. A record takes some 230 bytes. In version 2 they
 # are 4,515 and 24.1 million, as in version 1; 8,430 and 8,768, and 31.4 million; 4,837 and 16.5 million; and with masks
-# 6,599 and 1.8 million; 30 and 15.9 million; 9,216 and 21.0 million; 13,663 and 54.3 million.
+# 6,599 and 1.8 million; 30 and 15.9 million; 9,216 and 21.0 million; 13,663 and 54.3 million. Of a count of 2.2 MB they
+# are 8,879 and 3.4 million; 37 and 11.9 million; 9,216 and 12.9 million.
 BOUNDS = (
     # the tree of 65,536 records, and copies of half of them
     Bound("list m", 5000, 26 * 10**6),
@@ -137,6 +139,10 @@ BOUNDS = (
     Bound("check LAYERED %s%s y" % (ALL, ON_ALL), 40, 17 * 10**6),
     Bound("audit k %s%s y" % (ALL, ON_ALL), 9700, 22 * 10**6),
     Bound("serve k layered v", 14500, 57 * 10**6),
+    # the nodes that are kept, and the proof; the proof, and the records that it shows; these, and the nodes
+    Bound("count k %s z" % COUNTED, 9500, 37 * 10**5),
+    Bound("check-count LAYERED %s z" % COUNTED, 45, 126 * 10**5),
+    Bound("audit-count k %s z" % COUNTED, 9800, 137 * 10**5),
 )
 
 

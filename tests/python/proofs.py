@@ -51,6 +51,31 @@ def honest(tree, batch: int, query: plain.Query, version: int = 1) -> bytes:
     return head(version, kind, batch, len(records), radius, tree.level()) + item(tree, version, reaches)
 
 
+def opens_for_count(query: plain.Query) -> Callable:
+    """Which nodes the proof of a count opens: those that have a part both in the window and out of it, or may have.
+
+    By the definition of a way, said from its other end: a node is opened unless nothing in it is asked for (its
+    rectangle is apart from the window, or none of its layers is asked for), or all that it has is.
+    """
+    window, layers = query.shape, query.layers()
+
+    def opens(node) -> bool:
+        has_none = not plain.overlap(window, node.rect) or node.mask() & layers == 0
+        has_all = plain.within(node.rect, window) and node.mask() | layers == layers
+        return not (has_none or has_all)
+
+    return opens
+
+
+def honest_count(tree, batch: int, query: plain.Query) -> bytes:
+    """The honest count proof of a window on the map of a tree, in version 2: kind C, without a flag."""
+    assert query.is_window()
+    if tree is None:
+        return head(2, b"C", batch, 0)
+    count, level = len(tree.records()), tree.level()
+    return head(2, b"C", batch, count, level=level) + item(tree, 2, opens_for_count(query))
+
+
 # ---- where the parts of an honest proof stand
 
 

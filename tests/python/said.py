@@ -8,7 +8,7 @@ import struct
 from typing import Any, Dict, Iterator, List, NamedTuple, Optional, Set, Tuple
 
 from bench import Ended, mrtree_check
-from proofs import Item, Layout, honest, plain
+from proofs import Item, Layout, honest, honest_count, plain
 
 Query = plain.Query
 
@@ -526,6 +526,47 @@ def say_audit(words: List[str], files: Files) -> Meant:
     return Meant((status, (b"sound\n" if status == 0 else b"") + text.encode()))
 
 
+def window_of(word: str) -> Query:
+    """The query of a word that is one for a window."""
+    query = query_of(word)
+    if not query.is_window():
+        raise Told(1, "bad words")
+    return query
+
+
+def say_count(words: List[str], files: Files) -> Meant:
+    """`count`."""
+    query, bytes_ = window_of(words[2]), file_of(files, words[1])
+    map_ = read_map(bytes_)
+    if version_of(bytes_) == 1:
+        raise Told(10, "needs version 2")
+    made = honest_count(*map_, query)
+    return Meant((0, line("proof %d" % len(made))), made)
+
+
+def say_check_count(words: List[str], files: Files) -> Meant:
+    """`check-count`, by the client, which reads the file itself."""
+    window_of(words[2])
+    return say_client(words, files)
+
+
+def say_audit_count(words: List[str], files: Files) -> Meant:
+    """`audit-count`; of an honest proof the count is that of a scan."""
+    query = window_of(words[2])
+    bytes_ = file_of(files, words[1])
+    (tree, batch), version = read_map(bytes_), version_of(bytes_)
+    proof = file_of(files, words[3])
+    status, text = mrtree_check.run(["check-count", plain.root(tree, batch, version), *words[2:]])
+    if status != 0:
+        return Meant((status, text.encode()))
+    pair = collision(tree, batch, version, proof)
+    if pair:
+        return Meant((6, b"collision\n%s\n%s\n" % (pair[0].hex().encode(), pair[1].hex().encode())))
+    if proof != honest_count(tree, batch, query):
+        raise ValueError("a string that shows what the map has is accepted, and is not the honest count proof")
+    return Meant((0, b"sound\ncount %d\n" % plain.count_inside(tree.records() if tree else [], query)))
+
+
 def say_serve(words: List[str], files: Files) -> Meant:
     """`serve`."""
     bytes_ = file_of(files, words[1])
@@ -556,6 +597,9 @@ COMMANDS = {
     "serve": say_serve,
     "check": say_client,
     "check-all": say_client,
+    "count": say_count,
+    "check-count": say_check_count,
+    "audit-count": say_audit_count,
 }
 
 

@@ -13,7 +13,8 @@ from bench import EXAMPLES, TOP, Bench
 
 NOBODY = 65534
 KIT = "rattle-kit-0 logic 0123456789abcdef"
-COMMANDS = "root build root2 build2 list upgrade apply prove check audit serve check-all make demo".split()
+COMMANDS = """root build root2 build2 list upgrade apply prove check audit count check-count audit-count serve check-all
+    make demo""".split()
 CRATES = {"low": [], "middle": ["low"], "beside": ["low"], "mrtree": ["low", "middle", "beside"]}
 PLACES = "b136e9ea66645cc4c87feaf0addfecbc0d52bd619bc06f05e004ff35cbfaff04"
 WINDOW = "window:133700000,525100000,133800000,525200000"
@@ -239,6 +240,15 @@ TOLD = [  # words, status, what the line has in it
     (["list", "places.proof"], 4, "'places.proof' is not a whole map"),
     (["prove", "places.map", WINDOW + "/" + "f" * 16, "new.proof"], 10, "'places.map' is of version 1, and layers"),
     (["serve", "places.map", "layer.script", "new.bundle"], 10, "'places.map' is of version 1, and layers"),
+    (["count", "places.map", WINDOW, "new.proof"], 10, "'places.map' is of version 1, and a count is asked for"),
+    (["count", "none.map", WINDOW, "new.proof"], 7, "there is no file 'none.map'"),
+    (["count", "second.map", WINDOW, "none/p"], 7, "there is no folder 'none'"),
+    (["count", "second.map", WINDOW], 1, r"the words are: count MAP QUERY PROOF;"),
+    (["check-count", PLACES, WINDOW, "places-window.proof"], 2, "which has none for layers and for counts"),
+    (["check-count", PLACES, WINDOW, "second.proof"], 2, "of a count and not of an answer"),
+    (["check-count", PLACES, WINDOW, "none.proof"], 7, "there is no file 'none.proof'"),
+    (["audit-count", "second.map", WINDOW, "second.proof"], 2, "of a count and not of an answer"),
+    (["audit-count", "second.map", WINDOW, "none.proof"], 7, "there is no file 'none.proof'"),
     (["apply", "second.map", "places.batch", "new.map"], 3, r"line 2 of 'places.batch' is: \+ 105"),
     (["root", "windows.txt"], 3, r"line 2 of 'windows.txt' is: 8 0 0 0 0 -\\r\$"),
     (["build", "new.map", "tabs.txt"], 3, r"line 1 of 'tabs.txt' is: 7\\t0"),
@@ -282,6 +292,7 @@ def in_a_terminal(world: World) -> None:
     for words in (*maps, ["upgrade", "places.map", "second.map"]):
         world.bench.holds(world.bench.program(words)[0] == 0, "a map for the rows")
     world.bench.program(["serve", "places.map", "places.script", "places.bundle"])
+    world.bench.program(["prove", "second.map", WINDOW, "second.proof"])
     for words, status, line in TOLD:
         ended, out = world.bench.program(words)
         world.says(world.run(words), status, out.decode(), NOTHING, "not in a terminal: %s" % words)

@@ -11,11 +11,11 @@ class No(Exception):
 
 
 class Steps:
-    """A check of one string, with the numbers of the steps that it takes."""
+    """A check of one string, with the numbers of the steps that it takes; of a count, or of an answer."""
 
-    def __init__(self, query: plain.Query, string: bytes) -> None:
+    def __init__(self, query: plain.Query, string: bytes, is_count: bool = False) -> None:
         self.query, self.string, self.at, self.kept = query, string, 0, []
-        self.version, self.radius = 1, None
+        self.version, self.radius, self.is_count, self.inside = 1, None, is_count, 0
 
     def take(self, size: int) -> bytes:
         """The next field."""
@@ -39,9 +39,16 @@ class Steps:
         return rect
 
     def reaches(self, rect: Tuple[int, ...], mask: int) -> bool:
-        """Step 4."""
+        """Step 4; of a count whether the part is to be opened."""
         is_met = plain.meets_of(self.query, self.radius)(rect)
-        return is_met and (self.version == 1 or mask & self.query.layers() != 0)
+        is_reached = is_met and (self.version == 1 or mask & self.query.layers() != 0)
+        return is_reached and not (self.is_count and self.is_inside(rect, mask))
+
+    def is_inside(self, rect: Tuple[int, ...], mask: int) -> bool:
+        """Whether all of a part is inside, of a count."""
+        x0, y0, x1, y1 = self.query.shape
+        is_in = x0 <= rect[0] <= rect[2] <= x1 and y0 <= rect[1] <= rect[3] <= y1
+        return is_in and mask != 0 and all(self.query.layers() >> layer & 1 for layer in range(64) if mask >> layer & 1)
 
     def item(self, level: int) -> Tuple[bytes, Tuple[int, ...], int, int]:
         """Steps 7 to 10: the item's digest, rectangle, mask and count."""
@@ -50,6 +57,7 @@ class Steps:
             rect, mask, count = self.rect(), self.number(8) if told else 0, self.number(8) if told else 0
             self.demand(not self.reaches(rect, mask))
             self.demand(not told or 1 <= count <= 2**20)
+            self.inside += count if self.is_count and self.is_inside(rect, mask) else 0
             return self.take(32), rect, mask, count
         self.demand(tag == (b"N" if level else b"L"))
         entries = self.number(1)
@@ -62,6 +70,7 @@ class Steps:
             parts = [(b"", record.rect, 1 << record.layer, 1) for record in records]
             preimage = self.string[start : self.at]
             self.kept += [record for record, part in zip(records, parts) if self.reaches(*part[1:3])]
+            self.inside += sum(self.is_count and self.is_inside(*part[1:3]) for part in parts)
         around, mask = plain.union([part[1] for part in parts]), 0
         for part in parts:
             mask |= part[2]
@@ -85,8 +94,8 @@ class Steps:
         """Steps 1 to 3: the batch and the count."""
         self.demand(self.take(4) == b"MRVO")
         self.version = self.number(1)
-        self.demand(self.version == 2 or (self.version == 1 and self.query.mask is None))
-        self.demand(self.take(1) == (b"W" if self.query.is_window() else b"K"))
+        self.demand(self.version == 2 or (self.version == 1 and self.query.mask is None and not self.is_count))
+        self.demand(self.take(1) == (b"C" if self.is_count else b"W" if self.query.is_window() else b"K"))
         batch, count = self.take(8), self.take(8)
         self.demand(int.from_bytes(count, "big") <= 2**20)
         flag = 0 if self.query.is_window() else self.number(1)
@@ -123,5 +132,15 @@ def answer(root: str, query: plain.Query, string: bytes) -> Optional[List[Tuple]
     """The answer that a string proves, None where it is refused."""
     try:
         return Steps(query, string).check(root)
+    except No:
+        return None
+
+
+def count(root: str, query: plain.Query, string: bytes) -> Optional[int]:
+    """The count inside a window that a string proves, None where it is refused."""
+    try:
+        one = Steps(query, string, True)
+        one.check(root)
+        return one.inside
     except No:
         return None

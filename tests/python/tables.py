@@ -197,6 +197,7 @@ def put(bytes_: bytes, part: str) -> bytes:
         "mixed": lambda: mixed(n[0]),
         "window": lambda: fields(b"MRVO\x01W", "QQB", n),
         "window2": lambda: fields(b"MRVO\x02W", "QQB", n),
+        "count2": lambda: fields(b"MRVO\x02C", "QQB", n),
         "nearest": lambda: fields(b"MRVO\x01K", "QQBRB" if n[2] else "QQBB", n),
         "nearest2": lambda: fields(b"MRVO\x02K", "QQBRB" if n[2] else "QQBB", n),
         "leaf": lambda: fields(b"L", "B", n),

@@ -37,6 +37,7 @@ def ways_hold(bench: Bench) -> None:
     shapes_hold(bench)
     pictures_hold(bench)
     outputs_hold(bench)
+    counts_hold(bench)
     stops_hold(bench)
     terminals_hold(bench)
     modules_hold(bench)
@@ -349,6 +350,56 @@ def memory_ends(call: List[str], size: int) -> Ended:
     return ran.returncode, ran.stderr
 
 
+# ---- counts
+
+
+# The root digest in version 2 of the map of 2,000 points in docs/FORMATS.md.
+ROOT_POINTS = "c7a73721c314b72b6b01110486ea947d1a52c4af606454bfe0a7ebea24a12064"
+COUNTED = "window:200,200,800,600"
+
+
+def counts_hold(bench: Bench) -> None:
+    """The module answers a count; the picture of a count proof shows what is inside by its entry alone."""
+    name = os.path.join(EXAMPLES, "vectors", "level-2-count.proof")
+    proof, check = read(name), mrtree_check.check_count
+    for given in (proof, [proof[:9], proof[9:]], memoryview(proof), open(name, "rb")):
+        count = check(ROOT_POINTS, COUNTED, given)
+        bench.holds(count == mrtree_check.Count(447, 0, 2000), "the count is %s" % (count,))
+    for words, kind in (
+        ((ROOT_POINTS, "nearest:0,0,1", proof), ValueError),
+        ((ROOT_POINTS, "window:0,0,1", proof), ValueError),
+        ((ROOT_POINTS[1:], COUNTED, proof), ValueError),
+        ((ROOT_POINTS, COUNTED, name), TypeError),
+        ((ROOT_POINTS, COUNTED, None), TypeError),
+        ((ROOT_POINTS, "window:200,200,800,601", proof), mrtree_check.Refused),
+        ((ROOT, WINDOW, read(PROOF)), mrtree_check.Refused),
+    ):
+        try:
+            told = check(*words)
+        except (ValueError, TypeError, mrtree_check.Refused) as error:
+            told = error
+        bench.holds(isinstance(told, kind), "the module on a count of %s answers %s" % (words[:2], told))
+    ended = bench.call(draw, ["--count", ROOT_POINTS, COUNTED, name, "c.svg"])
+    picture = os.path.join(EXAMPLES, "vectors", "level-2-count.svg")
+    bench.holds(ended == (0, b"") and read("c.svg") == read(picture), "the picture of a count: %s" % (ended,))
+    kinds = [one.get("class") for one in ElementTree.fromstring(read("c.svg")).iter()]
+    bench.holds(kinds.count("whole") == 2 * 18 + 1, "%d parts inside are drawn" % kinds.count("whole"))
+    told = b"records inside: 447; nodes opened: 25; parts inside: 18, apart: 85"
+    bench.holds(told in read("c.svg"), "what the picture says")
+    says_drawn(bench, ["--count", ROOT, WINDOW, PROOF, "refused.svg"], 2, b"draw.py: refused BadVersion at 4\n")
+    says_drawn(bench, [ROOT_POINTS, COUNTED, name, "refused.svg"], 2, b"draw.py: refused WrongKind at 5\n")
+    longer = ["--most", "9", "--count", ROOT_POINTS, COUNTED, name, "refused.svg"]
+    says_drawn(bench, longer, 7, b"draw.py: longer than 9 bytes\n")
+    said = bench.call(draw, ["--count", ROOT_POINTS, "nearest:0,0,1", name, "refused.svg"])
+    bench.holds(said[0] == 1 and b"nearest" in said[1], "a picture of a count of nearest records: %s" % (said,))
+
+
+def says_drawn(bench: Bench, words: List[str], status: int, said: bytes) -> None:
+    """The picture is not drawn, and it is said why."""
+    ended = bench.call(draw, words)
+    bench.holds(ended == (status, said) and not os.path.exists(words[-1]), "draw.py %s: %s" % (words, ended))
+
+
 # ---- terminals, modules, packages
 
 
@@ -361,6 +412,9 @@ BAD_WORDS: List[Tuple[List[str], str]] = [
     (["check-all", ROOT, "p", "p"], "the script and the bundle have one name"),
     (["--most", "x", ROOT, WINDOW, "p"], "--most stands before a whole number of bytes"),
     (["list", "a"], "usage: mrtree_check.py"),
+    (["check-count", ROOT, "nearest:0,0,1", "p"], "a count is of the records inside a window"),
+    (["check-count", ROOT, "window:1,2,3", "p"], "the query is neither window:x0,y0,x1,y1 nor nearest:x,y,k"),
+    (["count", ROOT, WINDOW, "p"], "usage: mrtree_check.py"),
 ]
 
 

@@ -64,10 +64,11 @@ def random_proofs(bench: Three) -> None:
         given = [(query, chances.proved(bench, one, query)) for query in asked]
         chances.bent_agree(bench, one, given, bent // share)
         chances.bundles_agree(bench, one, given, honest // share // 8)
+        chances.counts_agree(bench, one, honest // share // 4, bent // share // 4)
         counts = size, version, bench.rows, bench.failed
         print("tests/web: %d records in version %d: %d rows, %d failed" % counts, flush=True)
-    counts = bench.honest, bench.bent, bench.bundles
-    print("tests/web: %d honest proofs, %d other strings, %d bundles" % counts)
+    counts = bench.honest, bench.counts, bench.bent, bench.bundles
+    print("tests/web: %d honest proofs, %d counts, %d other strings, %d bundles" % counts)
     bench.holds(bench.honest + bench.bent >= (20000 if bench.is_long else 2000), "too few strings")
 
 

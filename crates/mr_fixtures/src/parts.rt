@@ -22,7 +22,8 @@
 //!   digest); `seal` fills the first page with zeros up to its seal, `fill` any page to its end.
 //! - `map2` is that head in version 2 (with a mask in front of the digest), `child2` such a child
 //!   (with a mask and a count there), `pruned2` such a pruned node (with both there too), and
-//!   `window2`, `nearest2`, `record2`, `seal2` and `fill2` are those of version 2.
+//!   `window2`, `nearest2`, `record2`, `seal2` and `fill2` are those of version 2. `count2` is the
+//!   head of a count proof, which there is in version 2 alone.
 //!
 //! Numbers are decimal, or hexadecimal behind `0x`; words between them are for the reader. A digest
 //! is given by its value as a number: zeros come before it.
@@ -337,6 +338,7 @@ fn put_shown(bytes: &mut Vec<u8>, kind: &str, numbers: &[i128]) -> Result<bool, 
     match kind {
         "window" => put_fields(bytes, b"MRVO\x01W", &[8, 8, 1], numbers),
         "window2" => put_fields(bytes, b"MRVO\x02W", &[8, 8, 1], numbers),
+        "count2" => put_fields(bytes, b"MRVO\x02C", &[8, 8, 1], numbers),
         "nearest" => put_nearest(bytes, b"MRVO\x01K", numbers),
         "nearest2" => put_nearest(bytes, b"MRVO\x02K", numbers),
         "leaf" => put_fields(bytes, b"L", &[1], numbers),

@@ -62,6 +62,22 @@ const CALLS: &[Made<'static>] = &[
         pieces: 0,
     },
     Made {
+        words: "count o window:2,0,3,0 q",
+        calls: "size o\nread_at o\nread_at o\nread_at o\nread_at o\ncreate q\nappend q\n\
+            sync q\n",
+        pieces: 0,
+    },
+    Made {
+        words: "check-count ..0c window:2,0,3,0 q",
+        calls: "size q\nread_at q\n",
+        pieces: 0,
+    },
+    Made {
+        words: "audit-count o window:2,0,3,0 q",
+        calls: "size o\nread_at o\nread_at o\nread_at o\nread_at o\nsize q\nread_at q\n",
+        pieces: 0,
+    },
+    Made {
         words: "root2 k",
         calls: "size k\nread_at k\n",
         pieces: 0,

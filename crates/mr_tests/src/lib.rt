@@ -8,6 +8,8 @@ mod bent;
 #[cfg(test)]
 mod calls;
 #[cfg(test)]
+mod counted;
+#[cfg(test)]
 mod files;
 #[cfg(test)]
 mod gates;

@@ -1,4 +1,5 @@
-//! What `prove`, `audit` and `serve` say of a map that changes while it is read.
+//! What `prove`, `audit`, `serve`, `count` and `audit-count` say of a map that changes while it is
+//! read.
 
 ghost use Rattle.std.specs.Prelude.{◌≡◌};
 
@@ -27,6 +28,16 @@ fn left_by<R: Threads + Sync>(
 const WHOLE: &str = "prove m window:-1000000,-1000000,1000063,1000063 p";
 
 const WHOLE_AUDIT: &str = "audit m window:-1000000,-1000000,1000063,1000063 p";
+
+// The window cuts the leaf on page 3.
+const COUNTED: &str = "count m window:-950000,-1000000,950000,1000063 p";
+
+const COUNTED_AUDIT: &str = "audit-count m window:-950000,-1000000,950000,1000063 p";
+
+// How the shelf of each table is made: the map m in this version, and a proof on it.
+const FIRST: &[&str] = &["make 5000 3 r", "build m r", WHOLE];
+
+const SECOND: &[&str] = &["make 5000 3 r", "build n r", "upgrade n m", COUNTED];
 
 // What stands in the proof's file is no script, which is read behind the map.
 const SERVED: &str = "serve m p b";
@@ -309,6 +320,66 @@ const ROWS: &[Row] = &[
     },
 ];
 
+// The same of the map in version 2.
+const COUNT_ROWS: &[Row] = &[
+    Row {
+        name: "a count on a map that stays",
+        words: COUNTED,
+        turn: Turn::No,
+        status: Done,
+        text: "proof ",
+    },
+    Row {
+        name: "a count on a map with another record",
+        words: COUNTED,
+        turn: Turn::Byte(24_585, 0xff),
+        status: BadMap,
+        text: "bad map page 3 Changed held ",
+    },
+    Row {
+        name: "a count on a map with a page that is no node",
+        words: COUNTED,
+        turn: Turn::Byte(24_576, 0xff),
+        status: BadMap,
+        text: "bad map page 3 Page\n",
+    },
+    Row {
+        name: "a count on a map that is gone",
+        words: COUNTED,
+        turn: Turn::Gone(OPENED),
+        status: Outside,
+        text: "missing m\n",
+    },
+    Row {
+        name: "a count on a map that is gone before its first page is read",
+        words: COUNTED,
+        turn: Turn::Gone(0),
+        status: Outside,
+        text: "missing m\n",
+    },
+    Row {
+        name: "an audit of a count on a map that stays",
+        words: COUNTED_AUDIT,
+        turn: Turn::No,
+        status: Done,
+        text: "sound\ncount ",
+    },
+    Row {
+        name: "an audit of a count on a map with another record",
+        words: COUNTED_AUDIT,
+        turn: Turn::Byte(24_585, 0xff),
+        status: BadMap,
+        text: "bad map page 3 Changed held ",
+    },
+    Row {
+        name: "an audit of a count on a map that is gone",
+        words: COUNTED_AUDIT,
+        turn: Turn::Gone(OPENED),
+        status: Outside,
+        text: "missing m\n",
+    },
+];
+
 // Whether the command line ends so over the map and the proof of a shelf.
 fn is_so<R: Threads + Sync>(
     rt: &R,
@@ -328,9 +399,15 @@ fn is_so<R: Threads + Sync>(
     Ok(status == row.status && text.starts_with(row.text.as_bytes()))
 }
 
-fn first_other<R: Threads + Sync>(rt: &R, alloc: Global) -> Result<Option<&str>, AllocError> {
-    let shelf = left_by(rt, alloc, &["make 5000 3 r", "build m r", WHOLE])?;
-    for row in ROWS {
+// The first row that is otherwise, over the shelf that these command lines leave.
+fn first_other<'a, R: Threads + Sync>(
+    rt: &R,
+    alloc: Global,
+    lines: &[&str],
+    rows: &'a [Row],
+) -> Result<Option<&'a str>, AllocError> {
+    let shelf = left_by(rt, alloc, lines)?;
+    for row in rows {
         if !is_so(rt, alloc, row, &shelf)? {
             return Ok(Some(row.name));
         }
@@ -340,5 +417,10 @@ fn first_other<R: Threads + Sync>(rt: &R, alloc: Global) -> Result<Option<&str>,
 
 #[test]
 fn a_map_that_changes_while_it_is_read_is_refused(rt: HostRuntime) {
-    all_hold(&rt, first_other(&rt, rt.alloc()));
+    all_hold(&rt, first_other(&rt, rt.alloc(), FIRST, ROWS));
+}
+
+#[test]
+fn a_counted_map_that_changes_while_it_is_read_is_refused(rt: HostRuntime) {
+    all_hold(&rt, first_other(&rt, rt.alloc(), SECOND, COUNT_ROWS));
 }

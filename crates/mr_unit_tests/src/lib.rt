@@ -8,6 +8,8 @@ mod batches;
 #[cfg(test)]
 mod calls;
 #[cfg(test)]
+mod choices;
+#[cfg(test)]
 mod fields;
 #[cfg(test)]
 mod journal;

@@ -72,7 +72,7 @@ const ROW: &str = "1 1 0 1 0 -\n2 2 0 2 0 -\n3 3 0 3 0 -\n4 4 0 4 0 -\n5 5 0 5 0
     7 7 0 7 0 -\n8 8 0 8 0 -\n9 9 0 9 0 -\n10 10 0 10 0 -\n11 11 0 11 0 -\n12 12 0 12 0 -\n\
     13 13 0 13 0 -\n14 14 0 14 0 -\n15 15 0 15 0 -\n16 16 0 16 0 -\n17 17 0 17 0 -\n";
 
-fn map_of(alloc: Global) -> Option<Snapshot<XorHash>>
+pub fn map_of(alloc: Global) -> Option<Snapshot<XorHash>>
     ensures { IfSome result (λ map. map.top.version ≡ Two) }
 {
     let tree = tree_of(alloc, records_of(alloc, ROW)?)?;
@@ -103,7 +103,7 @@ fn proof_of(alloc: Global, map: &Snapshot<XorHash>, q: &Outside) -> Option<Vec<u
 }
 
 // The root digest of the map under the exclusive or of all bytes.
-const ROOT: [u8; 32] = [
+pub const ROOT: [u8; 32] = [
     0, 0, 0, 0, 0, 0, 0, 0, 0, 0, 0, 0, 0, 0, 0, 0, 0, 0, 0, 0, 0, 0, 0, 0, 0, 0, 0, 0, 0, 0, 0,
     0x0c,
 ];

@@ -22,6 +22,9 @@ returns-in-Ok-clause-given g c =
       worth = e.worth;
       audited = e.audited;
       collides = e.collides;
+      count_honest = e.count_honest;
+      count_worth = e.count_worth;
+      count_audited = e.count_audited;
       alike = e.alike;
       upgrades = e.upgrades;
     } in
