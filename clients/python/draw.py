@@ -1,11 +1,12 @@
 #!/usr/bin/env python3
 """Draws a proof as an SVG picture: what it shows of the map, what it leaves out, and the answer.
 
-usage: draw.py [--most BYTES] ROOT QUERY PROOF SVG
+usage: draw.py [--most BYTES] [--count] ROOT QUERY PROOF SVG
 
 The proof is checked first, and only one that is accepted is drawn: round the query and the answer the opened nodes, the
 pruned parts, the records that are shown and those of the answer, and the window, or the circle through the last of the
-nearest records. A small picture below shows where on the map that is. North is up. Of more than 4,000 shapes the first
+nearest records. With `--count` the proof is a count proof: the pruned parts that are inside the window are drawn as
+such, and of the records that are shown those that are inside. A small picture below shows where on the map that is. North is up. Of more than 4,000 shapes the first
 are drawn, those of the answer before others, and that is told. `-` is the standard input or output. Exit statuses are
 those of `records.py`. This script is tested and not proved.
 """
@@ -28,11 +29,11 @@ from typing import Callable, Iterator, List, NamedTuple, Optional, Tuple
 if __package__:
     from . import mrtree_check as client
     from . import outputs
-    from .mrtree_check import Answer, Query, Record, Rect
+    from .mrtree_check import Query, Record, Rect
 else:
     import mrtree_check as client
     import outputs
-    from mrtree_check import Answer, Query, Record, Rect
+    from mrtree_check import Query, Record, Rect
 
 WIDTH = 640  # of what is drawn of the map, in pixels
 HEIGHT = 480  # at most
@@ -51,12 +52,22 @@ text { font: 11px sans-serif; fill: #222 }
 .frame { fill: none; stroke: #8a8a8a }
 .region { fill: #d0402b; fill-opacity: 0.08; stroke: #d0402b; stroke-width: 1.5 }
 """
+WHOLE_STYLE = ".whole { fill: #bcd3f5; fill-opacity: 0.6; stroke: #1f5fbf }\n"  # of a part that is inside
 LEGEND = [
     ("inner", "opened inner node"),
     ("pruned", "pruned part"),
     ("leaf", "opened leaf"),
     ("answer", "record of the answer"),
     ("region", "what was asked for"),
+    ("other", "other record shown"),
+]
+COUNT_LEGEND = [
+    ("inner", "opened inner node"),
+    ("whole", "part inside, by its entry alone"),
+    ("leaf", "opened leaf"),
+    ("pruned", "part apart, by its entry alone"),
+    ("region", "what was asked for"),
+    ("answer", "record inside"),
     ("other", "other record shown"),
 ]
 
@@ -71,7 +82,17 @@ class Item(NamedTuple):
 
     def kind(self) -> str:
         """How it is drawn."""
-        return {"N": "inner", "L": "leaf", "P": "pruned"}[self.tag]
+        return {"N": "inner", "L": "leaf", "P": "pruned", "W": "whole"}[self.tag]
+
+
+class Shown(NamedTuple):
+    """What is drawn of an accepted proof: the records of the answer, or of a count those shown that are inside.
+
+    Of a count also how many are inside.
+    """
+
+    records: List[Record]
+    inside: Optional[int] = None
 
 
 class Frame(NamedTuple):
@@ -117,14 +138,14 @@ def grown(rect: Rect, part: int) -> Rect:
     return rect[0] - more, rect[1] - more, rect[2] + more, rect[3] + more
 
 
-def reach(query: Query, answer: Answer) -> int:
+def reach(query: Query, answer: Shown) -> int:
     """How far from its point a query for the k nearest asked, in map units; 0 of a window, or where fewer are there."""
     if query.k == 0 or len(answer.records) < query.k:
         return 0
     return math.isqrt(client.distance(query.rect, answer.records[-1].rect)) + 1
 
 
-def view(whole: Rect, query: Query, answer: Answer) -> Rect:
+def view(whole: Rect, query: Query, answer: Shown) -> Rect:
     """The part of a map with this rectangle that is drawn: query and answer with what is round them, at least 4 to 3."""
     far = reach(query, answer)
     x0, y0, x1, y1 = query.rect
@@ -172,7 +193,7 @@ def name(frame: Frame, one: Record) -> str:
     return '<text x="%.1f" y="%.1f">%s</text>' % (x + 6, y + 4, words)
 
 
-def region(frame: Frame, query: Query, answer: Answer) -> List[str]:
+def region(frame: Frame, query: Query, answer: Shown) -> List[str]:
     """What a query asked for: its window; or its point, and the circle through the last of k records."""
     x, y = query.rect[:2]
     if query.k == 0:
@@ -184,7 +205,7 @@ def region(frame: Frame, query: Query, answer: Answer) -> List[str]:
     return shapes
 
 
-def seen(frame: Frame, items: List[Item], answer: Answer) -> Tuple[List[str], int]:
+def seen(frame: Frame, items: List[Item], answer: Shown) -> Tuple[List[str], int]:
     """The shapes of items and records in a frame, the lowest first, and how many are left out."""
     meets: Callable[[Rect], bool] = lambda rect: client.meet(frame.part, rect)
     chosen = set(answer.records)
@@ -196,7 +217,7 @@ def seen(frame: Frame, items: List[Item], answer: Answer) -> Tuple[List[str], in
     for kind, found in (("answer", answers), ("other", others)):
         kept.append([record(frame, one, kind) for one in found[:room]])
         room -= len(kept[-1])
-    order = {"pruned": 0, "leaf": 1, "inner": 2}
+    order = {"pruned": 0, "whole": 1, "leaf": 2, "inner": 3}
     drawn = sorted(sorted(nodes, key=lambda item: -item.level)[:room], key=lambda item: order[item.kind()])
     shapes = [box(frame, item.rect, item.kind()) for item in drawn] + kept[1] + kept[0]
     return shapes, len(answers) + len(others) + len(nodes) - len(shapes)
@@ -205,9 +226,9 @@ def seen(frame: Frame, items: List[Item], answer: Answer) -> Tuple[List[str], in
 # ---- the picture
 
 
-def legend(top: float) -> Iterator[str]:
+def legend(top: float, kinds: List[Tuple[str, str]]) -> Iterator[str]:
     """What the colours mean, below the map."""
-    for at, (kind, words) in enumerate(LEGEND):
+    for at, (kind, words) in enumerate(kinds):
         x, y = MARGIN + SMALL[0] + 30 + at % 2 * 215, top + at // 2 * 18
         yield '<rect class="%s" x="%d" y="%.1f" width="12" height="10"/>' % (kind, x, y)
         yield '<text x="%d" y="%.1f">%s</text>' % (x + 18, y + 9, words)
@@ -220,15 +241,20 @@ def small(frame: Frame, items: List[Item], part: Rect) -> Iterator[str]:
     yield box(frame, part, "region")
 
 
-def counts(items: List[Item], answer: Answer, left_out: int) -> List[str]:
+def counts(items: List[Item], answer: Shown, left_out: int) -> List[str]:
     """What the picture says of the proof, in lines."""
-    opened = sum(item.tag != "P" for item in items)
-    told = "records in the answer: %d; nodes opened: %d; parts pruned: %d"
-    lines = [told % (len(answer.records), opened, len(items) - opened)]
+    tags = [item.tag for item in items]
+    opened, wholes = tags.count("N") + tags.count("L"), tags.count("W")
+    if answer.inside is None:
+        told = "records in the answer: %d; nodes opened: %d; parts pruned: %d"
+        lines = [told % (len(answer.records), opened, tags.count("P"))]
+    else:
+        told = "records inside: %d; nodes opened: %d; parts inside: %d, apart: %d"
+        lines = [told % (answer.inside, opened, wholes, tags.count("P"))]
     return lines + ["not drawn: %d shapes" % left_out] * (left_out > 0)
 
 
-def picture(query: Query, items: List[Item], answer: Answer) -> Tuple[str, int]:
+def picture(query: Query, items: List[Item], answer: Shown) -> Tuple[str, int]:
     """The SVG of an accepted proof with these items, of which the last is the root's; and how much is not drawn."""
     whole = items[-1].rect if items else query.rect
     frame = frame_of(view(whole, query, answer), MARGIN, MARGIN, (WIDTH, HEIGHT))
@@ -237,14 +263,16 @@ def picture(query: Query, items: List[Item], answer: Answer) -> Tuple[str, int]:
     shapes += region(frame, query, answer)
     names = [name(frame, one) for one in answer.records if len(answer.records) <= MOST_NAMES]
     corner = frame_of(around([whole, frame.part]), MARGIN, low + MARGIN, SMALL)
-    size = WIDTH + 2 * MARGIN, low + MARGIN + SMALL[1] + MARGIN
+    kinds, more = (LEGEND, 0) if answer.inside is None else (COUNT_LEGEND, 18)
+    size = WIDTH + 2 * MARGIN, low + MARGIN + SMALL[1] + more + MARGIN
     lines = ['<svg xmlns="http://www.w3.org/2000/svg" viewBox="0 0 %d %.0f" width="%d">' % (*size, size[0])]
-    lines += ["<style>%s</style>" % STYLE, '<rect width="100%" height="100%" fill="#fff"/>']
+    style = STYLE + WHOLE_STYLE * (answer.inside is not None)
+    lines += ["<style>%s</style>" % style, '<rect width="100%" height="100%" fill="#fff"/>']
     lines += ['<clipPath id="map">%s</clipPath>' % box(frame, frame.part, "map")]
     lines += ['<g clip-path="url(#map)">', *shapes, "</g>", box(frame, frame.part, "frame"), *names]
-    lines += [*small(corner, items, frame.part), *legend(low + MARGIN)]
+    lines += [*small(corner, items, frame.part), *legend(low + MARGIN, kinds)]
     for at, words in enumerate(counts(items, answer, left_out)):
-        x, y = MARGIN + SMALL[0] + 30, low + MARGIN + 68 + at * 15
+        x, y = MARGIN + SMALL[0] + 30, low + MARGIN + 68 + more + at * 15
         lines.append('<text x="%d" y="%.1f">%s</text>' % (x, y, words))
     return "\n".join([*lines, "</svg>"]) + "\n", left_out
 
@@ -253,7 +281,17 @@ def drawn(root: str, word: str, proof: client.Pieces) -> Tuple[str, int]:
     """The SVG of a proof, and how much is not drawn. Raises Refused, or ValueError where the words are none."""
     items: List[Item] = []
     answer = client.check(root, word, proof, lambda *item: items.append(Item(*item)))
-    return picture(client.read_query(word), items, answer)
+    return picture(client.read_query(word), items, Shown(answer.records))
+
+
+def drawn_count(root: str, word: str, proof: client.Pieces) -> Tuple[str, int]:
+    """The SVG of a count proof, and how much is not drawn. Raises as `drawn`."""
+    items: List[Item] = []
+    count = client.check_count(root, word, proof, lambda *item: items.append(Item(*item)))
+    query = client.read_window(word)
+    way = client.inside(query)
+    records = [one for item in items for one in item.records if way(one.rect, 1 << one.layer) == client.WHOLE]
+    return picture(query, items, Shown(records, count.inside))
 
 
 def run(words: List[str]) -> None:
@@ -262,11 +300,12 @@ def run(words: List[str]) -> None:
     try:
         if words[:1] == ["--most"]:
             most, words = client.read_most("".join(words[1:2])), words[2:]
+        is_count, words = words[:1] == ["--count"], words[words[:1] == ["--count"] :]
         if len(words) != 4:
-            raise ValueError("usage: draw.py [--most BYTES] ROOT QUERY PROOF SVG")
+            raise ValueError("usage: draw.py [--most BYTES] [--count] ROOT QUERY PROOF SVG")
         root, word, proof, out = words
         outputs.refuse_same(out, [proof])
-        whole, left_out = drawn(root, word, client.read_pieces(proof, most))
+        whole, left_out = (drawn_count if is_count else drawn)(root, word, client.read_pieces(proof, most))
     except ValueError as fault:
         raise outputs.Unfit(str(fault)) from None
     with outputs.written(out, [proof]) as file:

@@ -2,15 +2,18 @@
 """The client, in Python: says whether an answer is that of the map with a root digest. It follows docs/FORMATS.md.
 
 usage: mrtree_check.py [--most BYTES] [check] ROOT QUERY PROOF
+       mrtree_check.py [--most BYTES] check-count ROOT QUERY PROOF
        mrtree_check.py [--most BYTES] check-all ROOT SCRIPT BUNDLE
 
-Lines and exit statuses are those of the program's commands `check` and `check-all`, with three differences: a file may
-be a pipe too, the name `-` is the standard input, and of a proof or bundle no more is read than `--most` allows: a
-longer one ends with status 7. It is tested against the program, and not proved.
+Lines and exit statuses are those of the program's commands of these names, with three differences: a file may be a pipe
+too, the name `-` is the standard input, and of a proof or bundle no more is read than `--most` allows: a longer one
+ends with status 7. It is tested against the program, and not proved.
 
-As a module: `check(root, query, proof)` answers the records, the batch and the count of the map, or raises `Refused`.
-Coordinates and rectangles are in map units, distances are squared map units, places are numbers of bytes. A mask is a
-number with a bit for each layer, bit l, worth 2^l, for layer l. Proofs are of version 1, which has no layers, or 2.
+As a module: `check(root, query, proof)` answers the records, the batch and the count of the map, or raises `Refused`;
+`check_count(root, query, proof)` answers how many records lie inside a window, by a count proof. Coordinates and
+rectangles are in map units, distances are squared map units, places are numbers of bytes. A mask is a number with a bit
+for each layer, bit l, worth 2^l, for layer l. Proofs are of version 1, which has no layers, or 2; count proofs are of
+version 2.
 """
 from __future__ import annotations
 
@@ -31,14 +34,17 @@ import stat
 import struct
 from typing import Callable, Iterable, Iterator, List, NamedTuple, Optional, Tuple, Union
 
-__version__ = "1.1.0"
-__all__ = ["Answer", "Query", "Record", "Refused", "Verdict", "check", "check_all", "distance", "meet"]
+__version__ = "1.2.0"
+__all__ = ["Answer", "Count", "Query", "Record", "Refused", "Verdict", "check", "check_all", "check_count"]
+__all__ += ["distance", "meet"]
 
 Rect = Tuple[int, int, int, int]  # x0, y0, x1, y1 in map units, with x0 <= x1 and y0 <= y1; the sides belong to it
 Bytes = Union[bytes, bytearray, memoryview]
 Pieces = Iterable[bytes]  # a byte string in pieces of any size
-Reaches = Callable[[Rect, int], bool]  # whether a part with this rectangle and mask is in reach
-Watch = Callable[[str, int, Rect, List["Record"]], None]  # tag, level, rectangle, and the records of an opened leaf
+Ways = Callable[[Rect, int], str]  # what a part with this rectangle and mask is to be in a proof, one of these three:
+SKIP, WHOLE, OPEN = "skip", "whole", "open"  # pruned with nothing that is asked for; with all that; opened
+Watch = Callable[[str, int, Rect, List["Record"]], None]  # tag, level, rectangle, and the records of an opened leaf;
+# the tag is P, L or N as in the proof, and W of a pruned node whose way is whole
 
 MOST_BYTES = 2**30  # no field of a proof ends behind this place
 MOST_RECORDS = 2**20  # that a proof may count
@@ -82,6 +88,17 @@ class Answer(NamedTuple):
     def lines(self) -> List[str]:
         """The record lines, those of the proof's version."""
         return [record.line(self.version) for record in self.records]
+
+
+class Count(NamedTuple):
+    """What an accepted count proof shows: how many records lie inside the window; of the map the batch and the count.
+
+    A record lies inside where its rectangle lies in the window, sides included, and its layer is asked for.
+    """
+
+    inside: int
+    batch: int
+    count: int
 
 
 class Query(NamedTuple):
@@ -151,15 +168,39 @@ def region(query: Query, radius: Optional[int]) -> Callable[[Rect], bool]:
     return lambda rect: distance(query.rect, rect) <= radius
 
 
-def reach(query: Query, radius: Optional[int]) -> Reaches:
-    """Which parts, by rectangle and mask, are in reach: the region meets the one, and the other has a layer asked for.
+def layers(query: Query) -> int:
+    """The mask of the layers that a query asks for."""
+    return ALL_LAYERS if query.mask is None else query.mask
 
-    >>> in_reach = reach(Query((0, 0, 9, 9), 0, 0b110), None)
-    >>> in_reach((9, 9, 9, 9), 0b010), in_reach((9, 9, 9, 9), 0b001), in_reach((8, 10, 9, 10), 0b010)
-    (True, False, False)
+
+def reach(query: Query, radius: Optional[int]) -> Ways:
+    """The ways of a query: open is what is in reach, where the region meets the rectangle and a layer is asked for.
+
+    >>> way = reach(Query((0, 0, 9, 9), 0, 0b110), None)
+    >>> way((9, 9, 9, 9), 0b010), way((9, 9, 9, 9), 0b001), way((8, 10, 9, 10), 0b010)
+    ('open', 'skip', 'skip')
     """
-    meets, layers = region(query, radius), ALL_LAYERS if query.mask is None else query.mask
-    return lambda rect, mask: mask & layers != 0 and meets(rect)
+    meets, asked = region(query, radius), layers(query)
+    return lambda rect, mask: OPEN if mask & asked != 0 and meets(rect) else SKIP
+
+
+def inside(query: Query) -> Ways:
+    """The ways of a count: whole is what lies in the window, on layers that are asked for alone.
+
+    >>> way = inside(Query((0, 0, 9, 9), 0, 0b110))
+    >>> way((0, 0, 9, 9), 0b010), way((0, 0, 9, 10), 0b010), way((0, 0, 9, 9), 0b011), way((0, 10, 9, 10), 0b010)
+    ('whole', 'open', 'open', 'skip')
+    """
+    (x0, y0, x1, y1), asked = query.rect, layers(query)
+
+    def way(rect: Rect, mask: int) -> str:
+        """The way of a part."""
+        if mask & asked == 0 or not meet(query.rect, rect):
+            return SKIP
+        is_in = x0 <= rect[0] and y0 <= rect[1] and rect[2] <= x1 and rect[3] <= y1
+        return WHOLE if is_in and mask & ~asked == 0 else OPEN
+
+    return way
 
 
 # ---- fields of a proof
@@ -215,19 +256,34 @@ class Head(NamedTuple):
     level: int
 
 
-def read_head(fields: Fields, query: Query) -> Head:
-    """The head of a proof of this query. Raises Refused at its first fault."""
+class Kind(NamedTuple):
+    """What the head of a proof has to be: its kind, and the versions that it may have."""
+
+    letter: bytes
+    versions: Tuple[int, ...]
+
+
+COUNTS = Kind(b"C", (2,))
+
+
+def kind_of(query: Query) -> Kind:
+    """The kind of the proofs of a query's answer."""
+    return Kind(b"K" if query.k else b"W", (1, 2) if query.mask is None else (2,))
+
+
+def read_head(fields: Fields, kind: Kind) -> Head:
+    """The head of a proof of this kind. Raises Refused at its first fault."""
     if fields.take(4) != b"MRVO":
         raise Refused("BadMagic", fields.last)
     version = fields.number(1)
-    if version not in ((1, 2) if query.mask is None else (2,)):
+    if version not in kind.versions:
         raise Refused("BadVersion", fields.last)
-    if fields.take(1) != (b"K" if query.k else b"W"):
+    if fields.take(1) != kind.letter:
         raise Refused("WrongKind", fields.last)
     batch, count = fields.number(8), fields.number(8)
     if count > MOST_RECORDS:
         raise Refused("BadCount", fields.last)
-    flag = fields.number(1) if query.k else 0
+    flag = fields.number(1) if kind.letter == b"K" else 0
     if flag > 1:
         raise Refused("BadFlag", fields.last)
     radius = fields.number(16) if flag else None
@@ -289,11 +345,15 @@ def over(parts: List[Part], digest: bytes) -> Part:
 
 
 class Reading:
-    """The items of one proof: what they show. `records` are those shown that are in reach."""
+    """The items of one proof: what they show. `records` are those shown whose way is open.
 
-    def __init__(self, fields: Fields, version: int, reaches: Reaches, watch: Optional[Watch]) -> None:
-        self.fields, self.version, self.reaches, self.watch = fields, version, reaches, watch
+    `whole` is the number of records whose way is whole, those below pruned nodes too.
+    """
+
+    def __init__(self, fields: Fields, version: int, way: Ways, watch: Optional[Watch]) -> None:
+        self.fields, self.version, self.way, self.watch = fields, version, way, watch
         self.records: List[Record] = []
+        self.whole = 0
 
     def item(self, level: int) -> Part:
         """The next item, of a node on this level: what is seen of it. Raises Refused at its first fault."""
@@ -314,9 +374,10 @@ class Reading:
             parts = [seen(record, self.version) for record in shown]
             preimage = bytes([ord("L"), count]) + b"".join(record_bytes(record, self.version) for record in shown)
         part = over(parts, digest(preimage))
-        if not self.reaches(part.rect, part.mask):
+        if self.way(part.rect, part.mask) != OPEN:
             raise Refused("Needless", self.fields.last)
-        self.records += [record for record, one in zip(shown, parts) if self.reaches(one.rect, one.mask)]
+        for record, one in zip(shown, parts):
+            self.keep(record, self.way(one.rect, one.mask))
         self.see(tag, level, part.rect, shown)
         return part
 
@@ -325,15 +386,23 @@ class Reading:
         rect, mask, count = self.fields.rect(), ALL_LAYERS, 0
         if self.version == 2:
             mask = self.fields.number(8)
-        if self.reaches(rect, mask):
+        way = self.way(rect, mask)
+        if way == OPEN:
             raise Refused("Hidden", self.fields.last)
         if self.version == 2:
             count = self.fields.number(8)
             if not 1 <= count <= MOST_RECORDS:
                 raise Refused("BadCount", self.fields.last)
         part = Part(rect, mask, count, self.fields.take(32))
-        self.see(b"P", level, rect, [])
+        self.whole += count if way == WHOLE else 0
+        self.see(b"W" if way == WHOLE else b"P", level, rect, [])
         return part
+
+    def keep(self, record: Record, way: str) -> None:
+        """Keeps and counts a shown record, as its way says."""
+        if way == OPEN:
+            self.records.append(record)
+        self.whole += 1 if way == WHOLE else 0
 
     def see(self, tag: bytes, level: int, rect: Rect, shown: List[Record]) -> None:
         """Tells who watches that an item was read whole: its tag, level and rectangle, a leaf's records."""
@@ -356,21 +425,52 @@ def root_digest(head: Head, part: Optional[Part]) -> bytes:
     return digest(front + part.told(head.version) + part.digest)
 
 
-def judge(root: bytes, query: Query, proof: Pieces, watch: Optional[Watch] = None) -> Answer:
-    """The answer that a proof proves. Raises Refused with the proof's first fault; no piece behind it is taken."""
+class Shown(NamedTuple):
+    """What a proof shows whose fields are right and whose root digest is the one held, and how many bytes it has."""
+
+    head: Head
+    part: Optional[Part]
+    reading: Reading
+    place: int
+
+
+def read_proof(
+    root: bytes, kind: Kind, way: Callable[[Optional[int]], Ways], proof: Pieces, watch: Optional[Watch]
+) -> Shown:
+    """What a proof of this kind shows, with the ways that its squared radius gives. Raises Refused up to WrongRoot."""
     fields = Fields(proof)
-    head = read_head(fields, query)
-    reading = Reading(fields, head.version, reach(query, head.radius), watch)
+    head = read_head(fields, kind)
+    reading = Reading(fields, head.version, way(head.radius), watch)
     part = reading.item(head.level) if head.count else None
     found = root_digest(head, part)
     fields.end()
     if found != root:
         raise Refused("WrongRoot", fields.place, found)
-    if query.k and not is_radius_right(query, head.radius, reading.records):
-        raise Refused("WrongRadius", fields.place)
+    return Shown(head, part, reading, fields.place)
+
+
+def refuse_other_tally(shown: Shown) -> None:
+    """Raises Refused (WrongTally) where the count in front is not that of the items; in version 1 nothing says it."""
+    head, part = shown.head, shown.part
     if head.version == 2 and part is not None and part.count != head.count:
-        raise Refused("WrongTally", fields.place)
-    return Answer(ordered(query, reading.records), head.batch, head.count, head.version)
+        raise Refused("WrongTally", shown.place)
+
+
+def judge(root: bytes, query: Query, proof: Pieces, watch: Optional[Watch] = None) -> Answer:
+    """The answer that a proof proves. Raises Refused with the proof's first fault; no piece behind it is taken."""
+    shown = read_proof(root, kind_of(query), lambda radius: reach(query, radius), proof, watch)
+    head, records = shown.head, shown.reading.records
+    if query.k and not is_radius_right(query, head.radius, records):
+        raise Refused("WrongRadius", shown.place)
+    refuse_other_tally(shown)
+    return Answer(ordered(query, records), head.batch, head.count, head.version)
+
+
+def judge_count(root: bytes, query: Query, proof: Pieces, watch: Optional[Watch] = None) -> Count:
+    """The count inside a window that a count proof proves. Raises as `judge`."""
+    shown = read_proof(root, COUNTS, lambda _: inside(query), proof, watch)
+    refuse_other_tally(shown)
+    return Count(shown.reading.whole, shown.head.batch, shown.head.count)
 
 
 def is_radius_right(query: Query, radius: Optional[int], records: List[Record]) -> bool:
@@ -428,6 +528,25 @@ def check(root: str, query: str, proof: Union[Bytes, Pieces], watch: Optional[Wa
     return judge(read_root(root), read_query(query), only_bytes(proof, "a proof"), watch)
 
 
+def check_count(root: str, query: str, proof: Union[Bytes, Pieces], watch: Optional[Watch] = None) -> Count:
+    """How many records of the map with a root digest lie inside the window of a query word, as a count proof shows it.
+
+    Raises as `check`, and ValueError too where the query is no window.
+
+    >>> part = "50" "00000002000000030000000400000005" "0000000000000040" "0000000000000001"
+    >>> digest = "9a5d8c0290e5235be719e0f81098b35fabaafbad2433280f4eba151a1113bc17"
+    >>> proof = bytes.fromhex("4d52564f0243" "0000000000000000" "0000000000000001" "00" + part + digest)
+    >>> root = "8be0518a61cba994ea224279049f000424a42959da3af83d7ee0d904ca6f0192"
+    >>> check_count(root, "window:0,0,9,9", proof), check_count(root, "window:0,0,1,1", proof).inside
+    (Count(inside=1, batch=0, count=1), 0)
+    >>> check_count(root, "window:0,0,4,4", proof)
+    Traceback (most recent call last):
+    mrtree_check.Refused: refused Hidden at 40
+    """
+    refuse_other_words(root, query)
+    return judge_count(read_root(root), read_window(query), only_bytes(proof, "a proof"), watch)
+
+
 # ---- words and scripts
 
 
@@ -474,6 +593,14 @@ def read_query(word: str) -> Query:
     if slash and not re.fullmatch("[0-9a-f]{16}", digits):
         raise ValueError("the mask behind / is not 16 lower-case hexadecimal digits")
     return Query((x0, y0, x1, y1), k, int(digits, 16) if slash else None)
+
+
+def read_window(word: str) -> Query:
+    """The query that a word spells, a window. Raises ValueError, with what is wrong, where it spells none."""
+    query = read_query(word)
+    if query.k:
+        raise ValueError("a count is of the records inside a window, and this query is for nearest records")
+    return query
 
 
 def read_script(text: bytes) -> List[Query]:
@@ -574,7 +701,7 @@ def check_all(root: str, queries: List[str], bundle: Union[Bytes, Pieces]) -> Li
     return judge_bundle(read_root(root), [read_query(word) for word in words], pieces)[0]
 
 
-# ---- the two commands
+# ---- the commands
 
 
 def read_pieces(name: str, most: Optional[int] = None) -> Iterator[bytes]:
@@ -617,6 +744,14 @@ def check_lines(root: bytes, query: Query, name: str, most: Optional[int]) -> Tu
         return 2, [str(fault)]
 
 
+def check_count_lines(root: bytes, query: Query, name: str, most: Optional[int]) -> Tuple[int, List[str]]:
+    """Status and lines of `check-count` of the proof in a file. Raises Ended."""
+    try:
+        return 0, ["count %d" % judge_count(root, query, read_pieces(name, most)).inside]
+    except Refused as fault:
+        return 2, [str(fault)]
+
+
 def check_all_lines(root: bytes, script: str, name: str, most: Optional[int]) -> Tuple[int, List[str]]:
     """Status and lines of `check-all` of a script and the bundle in a file. Raises Ended."""
     queries = read_script(b"".join(read_pieces(script)))
@@ -637,7 +772,7 @@ def check_all_lines(root: bytes, script: str, name: str, most: Optional[int]) ->
 
 
 class Words(NamedTuple):
-    """The words of a command line: the command, the root digest, the query of `check`, the file or two, the limit."""
+    """The words of a command line: the command, the root digest, the query if it has one, the files, the limit."""
 
     command: str
     root: bytes
@@ -653,10 +788,11 @@ def read_words(words: List[str]) -> Words:
     if words[:1] == ["--most"]:
         most, words = read_most("".join(words[1:2])), words[2:]
     command, *rest = words if len(words) == 4 else ["check", *words]
-    if command not in ("check", "check-all") or len(rest) != 3 or "" in rest:
-        raise ValueError("usage: %s ROOT QUERY PROOF, or: %s check-all ROOT SCRIPT BUNDLE" % ((COMMAND,) * 2))
+    reads = {"check": read_query, "check-count": read_window, "check-all": lambda _: None}
+    if command not in reads or len(rest) != 3 or "" in rest:
+        raise ValueError("usage: %s [check | check-count] ROOT QUERY PROOF, or: check-all ROOT SCRIPT BUNDLE" % COMMAND)
     root = read_root(rest[0])
-    query = read_query(rest[1]) if command == "check" else None
+    query = reads[command](rest[1])
     if command == "check-all" and rest[1] == rest[2]:
         raise ValueError("the script and the bundle have one name")
     return Words(command, root, query, rest[1], rest[2], most)
@@ -681,10 +817,11 @@ def run(words: List[str]) -> Tuple[int, str]:
     except ValueError:
         return 1, "bad words\n"
     try:
-        if query:
-            status, lines = check_lines(root, query, name, most)
-        else:
+        if query is None:
             status, lines = check_all_lines(root, script, name, most)
+        else:
+            lines_of = check_lines if command == "check" else check_count_lines
+            status, lines = lines_of(root, query, name, most)
         return status, "".join(line + "\n" for line in lines)
     except Ended as ended:
         return ended.status, ended.line + "\n"

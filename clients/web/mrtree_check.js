@@ -7,16 +7,16 @@
  * that is opened from a disk. In Node, of version 18 or later: require("./mrtree_check.js"), or
  *
  * usage: node mrtree_check.js [check] ROOT QUERY PROOF
+ *        node mrtree_check.js check-count ROOT QUERY PROOF
  *        node mrtree_check.js check-all ROOT SCRIPT BUNDLE
  *
- * with the lines and exit statuses of the program's commands `check` and `check-all`; a file may
- * be a pipe too, and the name `-` is the standard input. It is tested against the program, and not
- * proved.
+ * with the lines and exit statuses of the program's commands of these names; a file may be a pipe
+ * too, and the name `-` is the standard input. It is tested against the program, and not proved.
  *
  * A rectangle is an array [x0, y0, x1, y1] of map units, with x0 <= x1 and y0 <= y1; a point is a
  * rectangle without extent. A mask is a BigInt with a bit for each layer, bit l, worth 2^l, for
- * layer l. Proofs are of version 1, which has no layers, or 2. Places are numbers of bytes. Bytes
- * are a Uint8Array.
+ * layer l. Proofs are of version 1, which has no layers, or 2; count proofs are of version 2.
+ * Places are numbers of bytes. Bytes are a Uint8Array.
  */
 
 const MOST_BYTES = 2 ** 30; // no field of a proof ends behind this place
@@ -28,9 +28,11 @@ const ALL_LAYERS = 2n ** 64n - 1n; // their mask
 const MOST_LINES = 65536; // of a script
 const LONGEST_QUERY = 71; // letters of a query word
 const PIECE = 65536; // bytes that are judged at once
-const [LETTER_E, LETTER_K, LETTER_L, LETTER_N, LETTER_P, LETTER_R, LETTER_W] = [..."EKLNPRW"].map(
-    (letter) => letter.charCodeAt(0)
-);
+const [LETTER_C, LETTER_E, LETTER_K, LETTER_L, LETTER_N, LETTER_P, LETTER_R, LETTER_W] = [
+    ..."CEKLNPRW",
+].map((letter) => letter.charCodeAt(0));
+/** The ways of a part: pruned with nothing that is asked for; with all that; opened. */
+const [SKIP, WHOLE, OPEN] = ["skip", "whole", "open"];
 const PAIRS = Array.from({ length: 256 }, (_, byte) => byte.toString(16).padStart(2, "0"));
 // What an opened node may hold, and of how many bytes its preimage may be.
 const LEAF = { tag: LETTER_L, most: 16, longest: 2 + 16 * 226 };
@@ -71,6 +73,12 @@ function isInOrder([x0, y0, x1, y1]) {
 /** Whether two rectangles share a point. */
 function meet(a, b) {
     return a[0] <= b[2] && b[0] <= a[2] && a[1] <= b[3] && b[1] <= a[3];
+}
+
+/** Whether a rectangle lies in a window, sides included. */
+function within(rect, window) {
+    const isWide = window[0] <= rect[0] && rect[2] <= window[2];
+    return isWide && window[1] <= rect[1] && rect[3] <= window[3];
 }
 
 /** The least rectangle round two; round null and one it is that one. */
@@ -130,6 +138,12 @@ function readQuery(word) {
     const rect = k === 0 ? sides : [...sides, ...sides];
     const isBad = k === null || mask === undefined || sides.includes(null) || !isInOrder(rect);
     return isBad ? null : { rect, k, mask };
+}
+
+/** The query of a word that is one for a window; null of any other. */
+function readWindow(word) {
+    const query = readQuery(word);
+    return query === null || query.k > 0 ? null : query;
 }
 
 /**
@@ -306,19 +320,22 @@ class Opened {
  * Judges a proof as it comes. `push` takes the next bytes and `end` gives the verdict:
  *
  *     { accepted: true, records, batch, count, version }    count: of the map's records
+ *     { accepted: true, inside, batch, count, version }    of a count: how many lie inside
  *     { accepted: false, rule, place, found }    found: the root digest, of WrongRoot alone
  *
- * `watch`, where it is given, is called with each item that is whole, children before their
- * parent: { tag, level, rect, bytes, version }, with the item's bytes for an opened leaf (see
- * recordsOf).
+ * `watch`, where it is given, is called with each item that has come as a whole, children before
+ * their parent: { tag, level, rect, bytes, version }, with the item's bytes for an opened leaf (see
+ * recordsOf). The tag is P, L or N as in the proof, and W of a pruned node whose way is whole.
+ *
+ * With `isCount` it judges a count proof, and the query is for a window.
  *
  * No bytes make it throw. Its fields are taken one after another: `size` bytes are the next one,
  * and the method `then` judges it.
  */
 class Judge {
-    constructor(root, query, watch = null) {
-        Object.assign(this, { root, query, watch, radius: null, fault: null, item: null });
-        Object.assign(this, { place: 0, last: 0, held: 0, record: 0 });
+    constructor(root, query, watch = null, isCount = false) {
+        Object.assign(this, { root, query, watch, isCount, radius: null, fault: null, item: null });
+        Object.assign(this, { place: 0, last: 0, held: 0, record: 0, inside: 0 });
         this.field = new Uint8Array(200);
         this.view = new DataView(this.field.buffer);
         this.open = []; // the root first
@@ -372,7 +389,8 @@ class Judge {
             return { accepted: false, ...this.fault };
         }
         const { batch, count, version } = this;
-        return { accepted: true, records: this.answer(), batch, count, version };
+        const shown = this.isCount ? { inside: this.inside } : { records: this.answer() };
+        return { accepted: true, ...shown, batch, count, version };
     }
 
     /** Keeps a fault, if it is the first. */
@@ -405,9 +423,16 @@ class Judge {
         return this.radius === null || distance(this.query.rect, rect) <= this.radius;
     }
 
-    /** Whether a part is in reach: the region meets it, and it has a layer that is asked for. */
-    reaches(rect, mask) {
-        return (mask & this.layers) !== 0n && this.meets(rect);
+    /**
+     * The way of a part. It is skip where the region misses it, or it has no layer that is asked
+     * for. Of a count it is whole where all of it is inside. Else it is open.
+     */
+    way(rect, mask) {
+        if ((mask & this.layers) === 0n || !this.meets(rect)) {
+            return SKIP;
+        }
+        const isInside = within(rect, this.query.rect) && (mask & ~this.layers) === 0n;
+        return this.isCount && isInside ? WHOLE : OPEN;
     }
 
     // The fields of the head.
@@ -421,7 +446,8 @@ class Judge {
 
     takeVersion() {
         this.version = this.field[0];
-        if (this.version !== 2 && (this.version !== 1 || this.query.mask !== null)) {
+        const isFirst = this.version === 1 && this.query.mask === null && !this.isCount;
+        if (this.version !== 2 && !isFirst) {
             return this.refuse("BadVersion", this.last);
         }
         this.kept.version = this.version;
@@ -429,7 +455,8 @@ class Judge {
     }
 
     takeKind() {
-        if (this.field[0] !== (this.query.k === 0 ? LETTER_W : LETTER_K)) {
+        const letter = this.query.k === 0 ? LETTER_W : LETTER_K;
+        if (this.field[0] !== (this.isCount ? LETTER_C : letter)) {
             return this.refuse("WrongKind", this.last);
         }
         this.expect(8, this.takeBatch);
@@ -535,9 +562,10 @@ class Judge {
         this.hide(() => this.expect(8, this.takeTally));
     }
 
-    /** Goes on where the pruned item is not in reach. */
+    /** Goes on where the pruned item is not to be open. */
     hide(then) {
-        if (this.reaches(this.pruned.rect, this.pruned.mask)) {
+        this.pruned.way = this.way(this.pruned.rect, this.pruned.mask);
+        if (this.pruned.way === OPEN) {
             return this.refuse("Hidden", this.last);
         }
         then.call(this);
@@ -557,7 +585,9 @@ class Judge {
 
     takePrunedDigest() {
         const digest = this.field.slice(0, 32);
-        this.finish("P", this.nextLevel(), { ...this.pruned, digest });
+        const isWhole = this.pruned.way === WHOLE;
+        this.inside += isWhole ? this.pruned.tally : 0;
+        this.finish(isWhole ? "W" : "P", this.nextLevel(), { ...this.pruned, digest });
     }
 
     takeNumber() {
@@ -599,12 +629,14 @@ class Judge {
         this.endRecord();
     }
 
-    /** Keeps a record that is whole, where it is in reach. */
+    /** Keeps a record that has come as a whole, where it is in reach; of a count it is counted. */
     endRecord() {
         const leaf = this.parent();
         const isCounted = this.version === 2;
         const mask = isCounted ? 1n << BigInt(this.layer) : ALL_LAYERS;
-        if (this.reaches(this.rect, mask)) {
+        const way = this.way(this.rect, mask);
+        this.inside += way === WHOLE ? 1 : 0;
+        if (way === OPEN && !this.isCount) {
             this.kept.add(leaf.preimage.subarray(this.record, leaf.used));
         }
         leaf.see(this.rect, mask, isCounted ? 1 : 0);
@@ -615,7 +647,7 @@ class Judge {
     close() {
         const node = this.open.pop();
         const { rect, mask, tally } = node;
-        if (!this.reaches(rect, mask)) {
+        if (this.way(rect, mask) !== OPEN) {
             return this.refuse("Needless", this.last);
         }
         const digest = node.whole().then(digestOf);
@@ -707,7 +739,16 @@ async function* small(pieces) {
  * `pieces` is a list of bytes, or comes by and by. No piece behind a fault is asked for.
  */
 async function judge(root, query, pieces, watch = null) {
-    const judge_ = new Judge(root, query, watch);
+    return judged(new Judge(root, query, watch), pieces);
+}
+
+/** The verdict on a count proof, of a query for a window: as of `Judge`. */
+async function judgeCount(root, query, pieces, watch = null) {
+    return judged(new Judge(root, query, watch, true), pieces);
+}
+
+/** The verdict of a judge on these pieces. */
+async function judged(judge_, pieces) {
     for await (const piece of small(pieces)) {
         if (!judge_.push(piece)) {
             break;
@@ -727,8 +768,25 @@ async function check(root, query, proof, watch = null) {
     if (held === null || asked === null) {
         throw new RangeError("bad words");
     }
+    return judge(held, asked, inPieces(proof), watch);
+}
+
+/**
+ * The verdict on a count proof, which says how many records lie inside a window: as of `Judge`.
+ * Throws as `check`, and a RangeError too where the query is no window.
+ */
+async function checkCount(root, query, proof, watch = null) {
+    const [held, asked] = [readRoot(root), readWindow(query)];
+    if (held === null || asked === null) {
+        throw new RangeError("bad words");
+    }
+    return judgeCount(held, asked, inPieces(proof), watch);
+}
+
+/** A proof as pieces of bytes. */
+function inPieces(proof) {
     const bytes = proof instanceof ArrayBuffer ? new Uint8Array(proof) : proof;
-    return judge(held, asked, bytes instanceof Uint8Array ? [bytes] : bytes, watch);
+    return bytes instanceof Uint8Array ? [bytes] : bytes;
 }
 
 /** The line that tells of a proof that is refused, without its line feed. */
@@ -815,7 +873,7 @@ async function judgeBundle(root, queries, pieces, see) {
     return broken ?? ((await source.some(1)).length > 0 ? end : null);
 }
 
-// ---- the two commands, in Node
+// ---- the commands, in Node
 
 /** A run ends before it has an answer, with this exit status and this line. */
 class Ended extends Error {
@@ -851,6 +909,12 @@ async function checkLines(root, query, pieces) {
     return verdict.accepted ? [0, linesOf(verdict)] : [2, [refusalOf(verdict)]];
 }
 
+/** Status and lines of `check-count` of the proof in these pieces. */
+async function checkCountLines(root, query, pieces) {
+    const verdict = await judgeCount(root, query, pieces);
+    return verdict.accepted ? [0, [`count ${verdict.inside}`]] : [2, [refusalOf(verdict)]];
+}
+
 /** Status and lines of `check-all` of a script's bytes and the bundle in these pieces. */
 async function checkAllLines(root, script, pieces) {
     const { queries, fault } = readScript(script);
@@ -879,19 +943,24 @@ async function checkAllLines(root, script, pieces) {
     return [accepted === queries.length && broken === null ? 0 : 2, lines.flat()];
 }
 
+/** What reads the query of each command that has one. */
+const ASKS = new Map([["check", readQuery], ["check-count", readWindow]]);
+
 /** Exit status and lines of the words behind the script's name; `read` gives a file in pieces. */
 async function run(words, read = readPieces) {
     const [command, rootWord, asked, name] = words.length === 4 ? words : ["check", ...words];
     const isAll = command === "check-all";
     const root = readRoot(rootWord ?? "");
-    const query = isAll ? null : readQuery(asked ?? "");
-    const isRight = isAll ? asked !== "" && asked !== name : command === "check" && query !== null;
+    const readAsked = ASKS.get(command);
+    const query = readAsked === undefined ? null : readAsked(asked ?? "");
+    const isRight = isAll ? asked !== "" && asked !== name : query !== null;
     if (![3, 4].includes(words.length) || root === null || !isRight || name === "") {
         return [1, ["bad words"]];
     }
     try {
         if (!isAll) {
-            return await checkLines(root, query, read(name));
+            const linesOfProof = command === "check" ? checkLines : checkCountLines;
+            return await linesOfProof(root, query, read(name));
         }
         const pieces = [];
         for await (const piece of read(asked)) {
@@ -929,8 +998,8 @@ async function main() {
 }
 
 if (typeof module === "object") {
-    const words = { readRoot, readQuery, readScript };
-    const verdicts = { Judge, judge, check, judgeBundle, refusalOf };
+    const words = { readRoot, readQuery, readWindow, readScript };
+    const verdicts = { Judge, judge, judgeCount, check, checkCount, judgeBundle, refusalOf };
     const shown = { recordsOf, lineOf, linesOf, hexOf };
     module.exports = { ...words, ...verdicts, ...shown, distance, meet, run };
     if (require.main === module) {
