@@ -2,6 +2,8 @@
 //! levels in version 2, in which each record is on the layer of its column: each is proved, checked
 //! and audited. The root is from a program of another language.
 
+ghost use Rattle.std.specs.Prelude.{◌<◌};
+
 use crate::assertions::holds;
 use mr_fixtures::runs::{ran_on, shelf_of};
 use mr_outside::MemShelf;
