@@ -1,0 +1,11 @@
+-- what has to be believed
+pub mod Meets
+pub mod Pairs
+pub mod FrameRules
+pub mod Frame
+pub mod Verdict
+pub mod Accepted
+pub mod Finding
+pub mod Causes
+-- what only private functions and proofs use
+pub mod private

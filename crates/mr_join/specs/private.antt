@@ -1,0 +1,7 @@
+pub mod Packed
+pub mod Pairing
+pub mod MeetsLaws
+pub mod Frames
+pub mod Answers
+pub mod Parts
+pub mod Worths
