@@ -30,6 +30,8 @@ mod plainly;
 #[cfg(test)]
 mod rereads;
 #[cfg(test)]
+mod stopped;
+#[cfg(test)]
 mod turned;
 #[cfg(test)]
 mod two_leaves;
