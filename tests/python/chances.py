@@ -4,6 +4,7 @@ import os
 import random
 from typing import List, Tuple
 
+import joins
 import proofs
 import steps
 from bench import Bench, Ended, read, write
@@ -13,8 +14,10 @@ from proofs import plain
 class Map:
     """A map of a version that was made at random and built by the program, changed by a batch or not."""
 
-    def __init__(self, bench: Bench, chance: random.Random, size: int, is_changed: bool, version: int = 1) -> None:
-        self.span = chance.choice((10, 1000, 10**6, 2**31 - 101))
+    def __init__(
+        self, bench: Bench, chance: random.Random, size: int, is_changed: bool, version: int = 1, span: int = 0
+    ) -> None:
+        self.span = span or chance.choice((10, 1000, 10**6, 2**31 - 101))
         self.chance, self.batch, self.version = chance, 0, version
         self.layers = chance.choice(((0,), (0, 5, 63), range(64)))
         self.records = [self.record(number) for number in chance.sample(range(1, 4 * size + 9), size)]
@@ -179,6 +182,47 @@ def counts_beside_scan(bench: Bench) -> None:
             number = plain.count_inside(one.records, query)
             seen[number] = seen.get(number, 0) + 1
     bench.holds(len(seen) > 20 and seen[0] < bench.counts // 2, "few windows have records: %s" % seen)
+
+
+JOINED = ((0, 5), (5, 0), (1, 1), (17, 40), (300, 20), (20, 300), (400, 400))  # records of two maps
+
+
+def joined(bench: Bench, one: Map, other: Map) -> bytes:
+    """The program's proof of the join of the maps in the files k and m, once it gave the pairs of a double loop."""
+    pairs = joins.pair_lines(joins.pairs_of(one.records, other.records))
+    ended = bench.program(["join", "k", "m", "p"])
+    proof = read("p")
+    bench.holds(ended == (0, b"proof %d\n" % len(proof)), "a join: %s" % (ended,))
+    said = bench.program(["check-join", one.root, other.root, "p"])
+    bench.holds(said == (0, pairs), "the pairs of a join: %s" % (said,))
+    said = bench.program(["audit-join", "k", "m", "p"])
+    bench.holds(said == (0, b"sound\n" + pairs), "the audit of a join: %s" % (said,))
+    if all(map_.tree or not map_.records for map_ in (one, other)):
+        honest = joins.honest_join(one.tree, one.batch, other.tree, other.batch)
+        bench.holds(proof == honest, "the bytes of the proof of a join")
+    return proof
+
+
+def joins_beside_loop(bench: Bench) -> None:
+    """Joins of maps at random: the pairs of a double loop, and of bent proofs what the formats say."""
+    chance, given, seen = random.Random(19), [], 0
+    for size, other_size in JOINED:
+        for is_changed in (False, True):
+            span = chance.choice((10, 100, 300, 1000))
+            one = Map(bench, chance, size, is_changed, 2, span)
+            os.replace("m", "k")
+            other = Map(bench, chance, other_size, False, 2, span)
+            given.append(joined(bench, one, other))
+            seen += len(joins.pairs_of(one.records, other.records))
+            for _ in range(100 if bench.is_long else 10):
+                write("q", joins.bent(given[-1], chance.choice(given), chance))
+                meant = joins.said(bytes.fromhex(one.root), bytes.fromhex(other.root), read("q"))
+                said = bench.program(["check-join", one.root, other.root, "q"])
+                bench.holds(said == meant, "a bent join: %s, and %s is meant" % (said, meant))
+                if said[0] == 2:
+                    audited = bench.program(["audit-join", "k", "m", "q"])
+                    bench.holds(audited == said, "the audit of a bent join: %s, and %s" % (audited, said))
+    bench.holds(seen > 1000, "few pairs: %d" % seen)
 
 
 def said_of_bundle(bench: Bench, root: str, words: List[str], bundle: bytes) -> Ended:

@@ -194,6 +194,7 @@ def main(how: str, program: str) -> int:
         ("the same tables, foretold", foretold.tables_hold),
         ("proofs at random", chances.random_proofs),
         ("counts beside a scan", chances.counts_beside_scan),
+        ("joins beside a loop", chances.joins_beside_loop),
         ("files that are odd or do not fit", inputs.inputs_hold),
         ("from files of publishers and back", trips.trips_hold),
         ("answers, outputs and stops", ways.ways_hold),

@@ -12,11 +12,13 @@ Unsealed there too. Where each call on real files fails in turn, what the whole 
 about how many calls it makes; what may be left where one fails is a rule of the program that goes through the rows.
 """
 import hashlib
+import itertools
 import os
 import re
 from typing import Any, Callable, Dict, List, NamedTuple, Optional, Set, Tuple
 
 from bench import TOP, Bench, Ended, mrtree_check, write
+import journals
 from proofs import plain
 import said
 import tables
@@ -74,6 +76,11 @@ FORMS: Dict[str, List[Callable[[str], bool]]] = {
     "count": [is_name, is_window, is_name],
     "check-count": [is_root, is_window, is_name],
     "audit-count": [is_name, is_window, is_name],
+    "join": [is_name, is_name, is_name],
+    "check-join": [is_root, is_root, is_name],
+    "audit-join": [is_name, is_name, is_name],
+    "apply-here": [is_name, is_name],
+    "recover": [is_name],
     "make": [is_count(0, 2**20), is_count(0, 2**64 - 1), is_name],
     "demo": [is_count(1, 65536), is_count(0, 2**64 - 1)],
 }
@@ -85,6 +92,7 @@ def is_command(words: List[str]) -> bool:
     if form is None or len(form) != len(words) - 1 or not all(test(word) for test, word in zip(form, words[1:])):
         return False
     names = [word for test, word in zip(form, words[1:]) if test is is_name]
+    names += [journals.name_of(words[1])] if words[0] in IN_PLACE else []
     return len(set(names)) == len(names)
 
 
@@ -122,8 +130,15 @@ def reads_map(bytes_: Optional[bytes]) -> List[Call]:
     return [Call("asks")] + [Call("reads")] * (pages if size >= said.FIRST else 0)
 
 
+def is_first(*maps: Optional[bytes]) -> bool:
+    """Whether one of these maps is of version 1."""
+    return any(said.version_of(map_ or b"") == 1 for map_ in maps)
+
+
+# The commands that change a map in its own file.
+IN_PLACE = ("apply-here", "recover")
 # The commands that make a file, and the place of its name among the words.
-MADE = {"build": 1, "build2": 1, "upgrade": 2, "make": 3, "prove": 3, "serve": 3, "apply": 3, "count": 3}
+MADE = {"build": 1, "build2": 1, "upgrade": 2, "make": 3, "prove": 3, "serve": 3, "apply": 3, "count": 3, "join": 3}
 
 
 def made_of(words: List[str]) -> str:
@@ -164,6 +179,12 @@ def course(words: List[str], files: said.Files, made: Optional[bytes]) -> List[C
         "count": lambda: reads_map(of(1)),
         "check-count": lambda: reads_text(of(3)),
         "audit-count": lambda: reads_map(of(1)) + reads_text(of(3)),
+        "join": lambda: reads_map(of(1)) + reads_map(of(2)),
+        "check-join": lambda: reads_text(of(3)),
+        "audit-join": lambda: reads_map(of(1)) + reads_map(of(2)) + ([] if is_first(of(1), of(2)) else reads_text(of(3))),
+        # of these the calls that come before anything is written
+        "recover": lambda: [Call("asks")] + [Call("syncs")] * 2 + [Call("asks")] * 3 + [Call("reads")],
+        "apply-here": lambda: [Call("asks")] * 4 + [Call("reads")] + reads_text(of(2)),
     }
     calls = inputs.get(words[0], list)()
     if made is None:
@@ -252,7 +273,7 @@ class Course:
         self.drafts: Set[str] = set()
         fails = [item.words.split(" ") for item in group.items if item.key == "fails"]
         self.fails = {whose: [int(one) for name, *all_ in fails if name == whose for one in all_] for whose in WHOSE}
-        self.calls, self.runs, self.words = 0, 0, [""]
+        self.calls, self.runs, self.words, self.at = 0, 0, [""], 0
         self.ended: Ended = (0, b"")
         self.reads: Tuple[int, int] = (0, 0)
         self.pages: Dict[str, Tuple[int, int]] = {}
@@ -275,7 +296,9 @@ class Course:
             self.put(made, stopped(calls, self.files.get(made), failing[0]))
             self.drafts |= {made} if calls[failing[0] - 1].kind == "edits" else set()
             return
-        if meant.made is not None:
+        if words[0] in IN_PLACE:
+            self.change_in_place(words, meant)
+        elif meant.made is not None:
             if words[0] == "apply" and self.group.has("pages"):
                 self.pages[made] = pages_of(words, self.files)
             placed = in_place(words, self.files) if words[0] == "apply" and self.group.has("change") else None
@@ -285,6 +308,22 @@ class Course:
         pieces = pieces_of(meant.ended[1]) if words[0] in ("list", "check") else [meant.ended[1]]
         told = [at for at in sink if at <= len(pieces)]
         self.ended = (7, b"".join(pieces[: told[0] - 1])) if told else meant.ended
+
+    def change_in_place(self, words: List[str], meant: said.Meant) -> None:
+        """Leaves a map that is changed in its own file, and its journal.
+
+        Behind a batch the map is laid out as the group has it there, if that is the map that is meant.
+        """
+        journal, made, left = journals.name_of(words[1]), meant.made, meant.journal
+        if made is not None and words[0] == "apply-here" and meant.ended[0] == 0:
+            behind = itertools.takewhile(lambda item: item.key not in ("run", "do"), self.group.items[self.at + 1 :])
+            given = [item for item in behind if (item.key, item.words) == ("leaves", words[1])]
+            placed = self.group.table.bytes_of(given[0]) if given else made
+            made = placed if laid_out(placed) == made else made
+            old = journals.restored(self.files[words[1]], self.files.get(journal, b""))[0]
+            left = journals.left_by(said.version_of(made), old, made, left or b"")
+        self.put(words[1], made)
+        self.put(journal, left)
 
     def put(self, name: str, bytes_: Optional[bytes]) -> None:
         """Leaves a file, or none."""
@@ -368,7 +407,7 @@ class Course:
 
     def untrue(self) -> Optional[tables.Item]:
         """The first item that is not foretold, if there is one."""
-        for item in self.group.items:
+        for self.at, item in enumerate(self.group.items):
             if item.key in ("run", "do"):
                 self.run(item.words.replace("..", tables.ZEROS).split(" "), item.key)
                 if item.key == "do" and self.ended[0] != 0:

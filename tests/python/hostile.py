@@ -17,6 +17,7 @@ import bends
 import broken
 import calls
 import foretold
+import here
 import memory
 import proofs
 import said
@@ -351,6 +352,8 @@ def main(how: str, seed: int, program: str) -> int:
         ("allocations that are refused", memory.refused),
         ("how much memory is taken", memory.bounded),
         ("calls on files that fail", calls.failing),
+        ("journals beside maps", here.files),
+        ("updates in place that are cut short", here.in_place),
     ]
     room: Optional[str] = "/dev/shm" if os.access("/dev/shm", os.W_OK) else None
     for name, part in parts:

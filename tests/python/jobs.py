@@ -42,6 +42,11 @@ def text_of(records: Iterable[plain.Record], version: int = 1) -> bytes:
     return "".join(plain.line_of(record, version) + "\n" for record in records).encode()
 
 
+def wider(rect: Tuple[int, ...]) -> Tuple[int, ...]:
+    """A rectangle with its upper sides moved, so that it meets some others."""
+    return (*rect[:2], rect[2] + 100000, rect[3] + 100000)
+
+
 def jobs(bench: Bench, seed: int, count: int, changes: int, queries: int) -> List[Job]:
     """A job of each command on a generated map of so many records; the first four make what others rely on."""
     chance = random.Random(seed)
@@ -61,6 +66,11 @@ def jobs(bench: Bench, seed: int, count: int, changes: int, queries: int) -> Lis
     prove2 = job(bench, "prove m %s p" % masked, {"m": build2.whole}, "p")
     counted = job(bench, "count m %s p" % WINDOW, {"m": build2.whole}, "p")
     check_count = "check-count %s %s p" % (build2.text.decode().strip(), WINDOW)
+    wide = [record._replace(rect=wider(record.rect)) for record in plain.generated(max(1, count // 4), seed + 1)]
+    other = job(bench, "build2 k r", {"r": text_of(plain.on_layers(wide), 2)}, "k")
+    both = {"m": build2.whole, "k": other.whole}
+    joined = job(bench, "join m k p", both, "p")
+    roots = build2.text.decode().strip(), other.text.decode().strip()
     return [
         build,
         job(bench, "apply m b n", {"m": map_, "b": batch}, "n"),
@@ -81,6 +91,10 @@ def jobs(bench: Bench, seed: int, count: int, changes: int, queries: int) -> Lis
         job(bench, "count m %s p" % WINDOW, {"m": map_}, "", 10),
         job(bench, check_count, {"p": counted.whole}, ""),
         job(bench, "audit-count m %s p" % WINDOW, {"m": build2.whole, "p": counted.whole}, ""),
+        joined,
+        job(bench, "join m k p", {"m": build2.whole, "k": map_}, "", 10),
+        job(bench, "check-join %s %s p" % roots, {"p": joined.whole}, ""),
+        job(bench, "audit-join m k p", {**both, "p": joined.whole}, ""),
         job(bench, "check %s %s p" % (root, WINDOW), {"p": prove.whole}, ""),
         job(bench, "audit m %s p" % WINDOW, {"m": map_, "p": prove.whole}, ""),
         job(bench, "check-all %s s u" % root, {"s": script, "u": serve.whole}, ""),
@@ -101,6 +115,9 @@ def few(bench: Bench) -> List[Job]:
     second = job(bench, "build2 m r", {"r": text_of(plain.on_layers(row), 2)}, "m")
     counted = job(bench, "count m window:0,0,9,0 p", {"m": second.whole}, "p")
     check_count = "check-count %s window:0,0,9,0 p" % second.text.decode().strip()
+    zone = job(bench, "build2 k r", {"r": b"30 2 0 3 0 0 -\n"}, "k")
+    joined = job(bench, "join m k p", {"m": second.whole, "k": zone.whole}, "p")
+    check_join = "check-join %s %s p" % (second.text.decode().strip(), zone.text.decode().strip())
     one = job(bench, "build m r", {"r": b"7 0 0 0 0 -\n"}, "m")
     script = b"window:0,0,0,0\nwindow:1,1,2,2\n"
     serve = job(bench, "serve m s u", {"m": one.whole, "s": script}, "u")
@@ -119,6 +136,9 @@ def few(bench: Bench) -> List[Job]:
         counted,
         job(bench, check_count, {"p": counted.whole}, ""),
         job(bench, check_count, {"p": counted.whole[:-1]}, "", 2),
+        joined,
+        job(bench, check_join, {"p": joined.whole}, ""),
+        job(bench, check_join, {"p": joined.whole[:-1]}, "", 2),
         job(bench, "upgrade m n", {"m": seventeen.whole}, "n"),
         job(bench, "apply m b n", {"m": layered.whole, "b": batch.replace(b" -", b" 63 -")}, "n"),
     ]

@@ -5,7 +5,7 @@ import subprocess
 import tempfile
 from typing import List, NamedTuple, Optional, Tuple
 
-from bench import HERE, Bench, Ended, write
+from bench import HERE, Bench, Ended, read, write
 from jobs import Job, Tally, begin, clear, few, is_done_again, jobs, left_of, text_of
 from proofs import plain
 
@@ -115,7 +115,8 @@ class Bound(NamedTuple):
 # threads those of the last two differ by a few calls from run to run. A record takes some 230 bytes. In version 2 they
 # are 4,515 and 24.1 million, as in version 1; 8,430 and 8,768, and 31.4 million; 4,837 and 16.5 million; and with masks
 # 6,599 and 1.8 million; 30 and 15.9 million; 9,216 and 21.0 million; 13,663 and 54.3 million. Of a count of 2.2 MB they
-# are 8,879 and 3.4 million; 37 and 11.9 million; 9,216 and 12.9 million.
+# are 8,879 and 3.4 million; 37 and 11.9 million; 9,216 and 12.9 million. Of a batch in place they are 14,663 and 37.3
+# million.
 BOUNDS = (
     # the tree of 65,536 records, and copies of half of them
     Bound("list m", 5000, 26 * 10**6),
@@ -143,6 +144,8 @@ BOUNDS = (
     Bound("count k %s z" % COUNTED, 9500, 37 * 10**5),
     Bound("check-count LAYERED %s z" % COUNTED, 45, 126 * 10**5),
     Bound("audit-count k %s z" % COUNTED, 9800, 137 * 10**5),
+    # the map and the new one, and the directory of its records: less than three times the map's 17,047,552 bytes
+    Bound("apply-here h b", 15500, 39 * 10**6),
 )
 
 
@@ -159,7 +162,7 @@ def counted(bench: Bench, words: List[str], path: str) -> Tuple[int, int, int]:
 
 
 def lay_out(bench: Bench) -> Tuple[str, str, str]:
-    """Makes the maps m, k, l and s, the text t of k, proofs p and y, and scripts; the root digests of l, s and k."""
+    """Makes the maps m, h, k, l and s, the text t of k, proofs p and y, a batch for h, scripts; the roots of l, s and k."""
     clear()
     lines = [plain.line_of(plain.place(number)._replace(payload=b"Z" * 200)) + "\n" for number in range(1, LONG + 1)]
     write("long.txt", "".join(lines).encode())
@@ -173,6 +176,8 @@ def lay_out(bench: Bench) -> Tuple[str, str, str]:
         status, said = bench.program(words.split(" "))
         bench.holds(status == 0, "%s: status %d and %s" % (words, status, said[:200]))
         roots.append(said.decode().strip())
+    write("h", read("m"))
+    write("b", b"batch 1\n" + b"".join(b"- %d\n" % (number * 600 + 1) for number in range(100)))
     return roots[4], roots[7], roots[0]
 
 

@@ -8,14 +8,16 @@ import struct
 from typing import Any, Dict, Iterator, List, NamedTuple, Optional, Set, Tuple
 
 from bench import Ended, mrtree_check
+import joins
+import journals
 from proofs import Item, Layout, honest, honest_count, plain
 
 Query = plain.Query
 
-PAGES = {1: 4096, 2: 8192}  # the bytes of a page, by the version of its map
+PAGES = journals.PAGES
 FIRST = PAGES[1]
 MOST_RECORDS = 2**20
-MOST_PAGES = 2**20
+MOST_PAGES = journals.MOST_PAGES
 MOST_LAYER = 63
 MOST_QUERIES = 65536
 Files = Dict[str, bytes]
@@ -373,10 +375,15 @@ def map_bytes(tree: Any, batch: int, version: int = 1) -> bytes:
 
 
 class Meant(NamedTuple):
-    """How a run is to end, and of a run that makes a file what that is to hold."""
+    """How a run is to end, and of a run that makes a file what that is to hold.
+
+    Of a run that changes a map in place `made` is the map, and `journal` what recovery leaves of its journal; neither
+    is there where both stay as they are.
+    """
 
     ended: Ended
     made: Optional[bytes] = None
+    journal: Optional[bytes] = None
 
 
 def file_of(files: Files, name: str) -> bytes:
@@ -417,17 +424,45 @@ def say_upgrade(words: List[str], files: Files) -> Meant:
     return Meant((0, line(plain.root(tree, batch, 2))), map_bytes(tree, batch, 2))
 
 
-def say_apply(words: List[str], files: Files) -> Meant:
-    """`apply`; the bytes of the map that is made are one layout of several."""
-    bytes_ = file_of(files, words[1])
+def applied(bytes_: bytes, batch: Tuple[int, List[Any]]) -> Meant:
+    """What comes of a batch on the map of these bytes; those of the map that is made are one layout of several."""
     (tree, held), version = read_map(bytes_), version_of(bytes_)
-    batch = read_batch(file_of(files, words[2]), version)
     fault = plain.fault(tree, held, batch)
     if fault:
         raise Told(5, fault)
     for change in batch[1]:
         tree = plain.inserted(tree, change) if isinstance(change, tuple) else plain.deleted(tree, change)
     return Meant((0, line(plain.root(tree, batch[0], version))), map_bytes(tree, batch[0], version))
+
+
+def say_apply(words: List[str], files: Files) -> Meant:
+    """`apply`."""
+    bytes_ = file_of(files, words[1])
+    read_map(bytes_)
+    return applied(bytes_, read_batch(file_of(files, words[2]), version_of(bytes_)))
+
+
+def beside(words: List[str], files: Files) -> Tuple[bytes, bytes, bool]:
+    """What recovery leaves of a map that is changed in place and of its journal, and whether the journal is open."""
+    map_, journal = file_of(files, words[1]), files.get(journals.name_of(words[1]), b"")
+    return (*journals.recovered(map_, journal), journals.restored(map_, journal)[1])
+
+
+def say_recover(words: List[str], files: Files) -> Meant:
+    """`recover`."""
+    map_, journal, is_open = beside(words, files)
+    return Meant((0, b"recovered\n"), map_, journal) if is_open else Meant((0, b"clean\n"))
+
+
+def say_apply_here(words: List[str], files: Files) -> Meant:
+    """`apply-here`; where it refuses the batch or the map, both were recovered."""
+    map_, journal, is_open = beside(words, files)
+    batch = read_batch(file_of(files, words[2]), version_of(map_))
+    try:
+        meant = applied(map_, batch)
+    except Told as told:
+        return Meant(told.ended, map_, journal) if is_open else Meant(told.ended)
+    return meant._replace(journal=journal)
 
 
 def query_of(word: str) -> Query:
@@ -567,6 +602,36 @@ def say_audit_count(words: List[str], files: Files) -> Meant:
     return Meant((0, b"sound\ncount %d\n" % plain.count_inside(tree.records() if tree else [], query)))
 
 
+def two_maps(words: List[str], files: Files) -> List[Tuple[Any, int]]:
+    """Both maps of a join, read one behind the other; each has to be of version 2."""
+    bytes_ = []
+    maps = []
+    for word in words[1:3]:
+        bytes_.append(file_of(files, word))
+        maps.append(read_map(bytes_[-1]))
+    if any(version_of(one) == 1 for one in bytes_):
+        raise Told(10, "needs version 2")
+    return maps
+
+
+def say_join(words: List[str], files: Files) -> Meant:
+    """`join`."""
+    (one, batch), (other, other_batch) = two_maps(words, files)
+    made = joins.honest_join(one, batch, other, other_batch)
+    return Meant((0, line("proof %d" % len(made))), made)
+
+
+def say_check_join(words: List[str], files: Files) -> Meant:
+    """`check-join`."""
+    return Meant(joins.said(bytes.fromhex(words[1]), bytes.fromhex(words[2]), file_of(files, words[3])))
+
+
+def say_audit_join(words: List[str], files: Files) -> Meant:
+    """`audit-join`."""
+    maps = two_maps(words, files)
+    return Meant(joins.audited(maps, file_of(files, words[3]), collision))
+
+
 def say_serve(words: List[str], files: Files) -> Meant:
     """`serve`."""
     bytes_ = file_of(files, words[1])
@@ -600,6 +665,11 @@ COMMANDS = {
     "count": say_count,
     "check-count": say_check_count,
     "audit-count": say_audit_count,
+    "join": say_join,
+    "check-join": say_check_join,
+    "audit-join": say_audit_join,
+    "apply-here": say_apply_here,
+    "recover": say_recover,
 }
 
 

@@ -13,8 +13,8 @@ from bench import EXAMPLES, TOP, Bench
 
 NOBODY = 65534
 KIT = "rattle-kit-0 logic 0123456789abcdef"
-COMMANDS = """root build root2 build2 list upgrade apply prove check audit count check-count audit-count serve check-all
-    make demo""".split()
+COMMANDS = """root build root2 build2 list upgrade apply apply-here recover prove check audit count check-count audit-count
+    join check-join audit-join serve check-all make demo""".split()
 CRATES = {"low": [], "middle": ["low"], "beside": ["low"], "mrtree": ["low", "middle", "beside"]}
 PLACES = "b136e9ea66645cc4c87feaf0addfecbc0d52bd619bc06f05e004ff35cbfaff04"
 WINDOW = "window:133700000,525100000,133800000,525200000"
@@ -249,7 +249,20 @@ TOLD = [  # words, status, what the line has in it
     (["check-count", PLACES, WINDOW, "none.proof"], 7, "there is no file 'none.proof'"),
     (["audit-count", "second.map", WINDOW, "second.proof"], 2, "of a count and not of an answer"),
     (["audit-count", "second.map", WINDOW, "none.proof"], 7, "there is no file 'none.proof'"),
+    (["join", "places.map", "second.map", "new.proof"], 10, "'places.map' or 'second.map' is of version 1"),
+    (["join", "second.map", "none.map", "new.proof"], 7, "there is no file 'none.map'"),
+    (["join", "second.map", "places.txt", "new.proof"], 4, "'second.map' or 'places.txt' is not a whole map"),
+    (["join", "second.map", "places.map"], 1, r"the words are: join MAP MAP2 PROOF;"),
+    (["check-join", PLACES, PLACES, "second.proof"], 2, "'second.proof' is no proof of a join"),
+    (["check-join", PLACES, PLACES, "none.proof"], 7, "there is no file 'none.proof'"),
     (["apply", "second.map", "places.batch", "new.map"], 3, r"line 2 of 'places.batch' is: \+ 105"),
+    (["apply-here", "second.map", "places.batch"], 3, r"line 2 of 'places.batch' is: \+ 105"),
+    (["apply-here", "none.map", "places.batch"], 7, "there is no file 'none.map'"),
+    (["apply-here", "places.map", "none.batch"], 7, "there is no file 'none.batch'"),
+    (["apply-here", "places.txt", "places.batch"], 4, "'places.txt' is not a whole map"),
+    (["apply-here", "places.map"], 1, r"the words are: apply-here MAP BATCH;"),
+    (["recover", "none.map"], 7, "there is no file 'none.map'"),
+    (["recover"], 1, r"the words are: recover MAP;"),
     (["root", "windows.txt"], 3, r"line 2 of 'windows.txt' is: 8 0 0 0 0 -\\r\$"),
     (["build", "new.map", "tabs.txt"], 3, r"line 1 of 'tabs.txt' is: 7\\t0"),
     (["build", "new.map", "back\\nslash"], 7, r"there is no file 'back\\nslash'"),

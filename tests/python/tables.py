@@ -198,6 +198,8 @@ def put(bytes_: bytes, part: str) -> bytes:
         "window": lambda: fields(b"MRVO\x01W", "QQB", n),
         "window2": lambda: fields(b"MRVO\x02W", "QQB", n),
         "count2": lambda: fields(b"MRVO\x02C", "QQB", n),
+        "join2": lambda: fields(b"MRVO\x02J", "QQB", n),
+        "joined": lambda: fields(b"MRJN\x01", "iiiiI", n),
         "nearest": lambda: fields(b"MRVO\x01K", "QQBRB" if n[2] else "QQBB", n),
         "nearest2": lambda: fields(b"MRVO\x02K", "QQBRB" if n[2] else "QQBB", n),
         "leaf": lambda: fields(b"L", "B", n),

@@ -18,7 +18,7 @@ use Rattle.mr_plan.specs.Say.{say_admitted, say_batch, say_changed}
 use Rattle.mr_pages.specs.declared.opening.Opened.{Opened}
 
 -- nothing hinders a batch that may be applied
-no_fault : (rs : List Record) (held : ℕ) (b : Changes) → IsAdmissible rs held b → batch_fault rs held b ≡ None
+pub no_fault : (rs : List Record) (held : ℕ) (b : Changes) → IsAdmissible rs held b → batch_fault rs held b ≡ None
 no_fault rs held b may = at (batch_fault rs held b) refl
   where
     at : (o : Option BatchFault) → batch_fault rs held b ≡ o → batch_fault rs held b ≡ None

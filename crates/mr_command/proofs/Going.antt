@@ -64,7 +64,7 @@ judged_given : (next : Opened → Plan) (told : Option Files) → GoesOn next to
 judged_given next told goes (Ok map) = goes map
 judged_given next told goes (Err fault) = tt
 
-judged_map : (hash : List ℕ → List ℕ) (name : List ℕ) (next : Opened → Plan)
+pub judged_map : (hash : List ℕ → List ℕ) (name : List ℕ) (next : Opened → Plan)
     (told : Option Files)
     → IsJudged hash told name → GoesOn next told → AreJudged (needs_map hash name next) told
 judged_map hash name next told judged goes None is = tt

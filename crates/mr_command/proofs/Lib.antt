@@ -18,8 +18,17 @@ pub mod Verdicts
 pub mod Audits
 pub mod CountProofs
 pub mod Served
+pub mod Joined
 pub mod Bundles
 pub mod Piecewise
 pub mod Refusals
 pub mod Drafts
 pub mod Applied
+pub mod InPlaceEnds
+pub mod RestoredBytes
+pub mod HereEnds
+pub mod HereAnswers
+pub mod HereWhole
+pub mod HereAll
+pub mod HereThere
+pub mod HereDone

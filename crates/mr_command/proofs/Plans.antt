@@ -87,7 +87,7 @@ ended_so (opens v hash bytes next) before after status text ends =
       files = on.files;
     }
 ended_so (seeks name next) before after status text ends =
-    let on = ended_so (next ends.0) before after status text ends.3 in
+    let on = ended_so (next ends.0) before after status text ends.2 in
     record {
       said = on.said;
       leads = (ends.0, ends.1, on.leads);

@@ -1,7 +1,7 @@
 -- What a command comes to that reads a map page by page: over files that are told what its plan says, over others what
 -- may be said.
-use Rattle.std.proofs.Common.{◌≡◌, ℕ, ◌+◌, ◌≤◌, List, refl, sym, subst, ◌∙◌, inl, inr, arith}
-use Rattle.std.specs.Prelude.{Option, Some, None, IsNone, Result, Ok, Err}
+use Rattle.std.proofs.Common.{◌⊎◌, ◌≡◌, ℕ, ◌+◌, ◌≤◌, List, refl, sym, subst, ◌∙◌, inl, inr, arith}
+use Rattle.std.specs.Prelude.{⊤, Option, Some, None, IsNone, IsSome, Result, Ok, Err}
 use Rattle.mr_outside.specs.Faults.{Rose}
 use Rattle.mr_outside.specs.Files.{Files}
 use Rattle.mr_outside.specs.State.{Shelved}
@@ -15,7 +15,8 @@ use Rattle.mr_pages.specs.declared.error.MapErr.TheVariants as errors
 use Rattle.mr_pages.specs.declared.rule.MapFault.{MapFault}
 use Rattle.mr_pages.specs.declared.rule.MapRule.TheVariants as rule
 use Rattle.mr_command.specs.Counting.{AllowsReads, MayRead, ReadsWithinPlan}
-use Rattle.mr_command.specs.Ending.{RunsPlan, ComesAsSaid, Came, CameAsSaid, EndsPlan, EndsAsSaid, IsEndingOrHalt, GivesUpPlan, GivesUpAsSaid, AreJudged, BlamesOutside, IsCalm, IsCarriedOut, NoneFalls, StopsCommand, printed_of}
+use Rattle.mr_command.specs.Answer.{ChangesInPlace}
+use Rattle.mr_command.specs.Ending.{RunsPlan, ComesAsSaid, Came, CameAsSaid, EndsPlan, EndsAsSaid, IsEndingOrHalt, GivesUpPlan, GivesUpAsSaid, AreJudged, BlamesOutside, ComesLoudly, IsCalm, IsCarriedOut, NoneFalls, StopsCommand, printed_of}
 use Rattle.mr_command.specs.private.Steps.{ComesBut, with_reads, SaysRefusal, SaysUntold}
 use Rattle.mr_pages.specs.Opening.{of_nodes}
 use Rattle.mr_plan.specs.Found.{bad_map_line}
@@ -29,9 +30,8 @@ use Rattle.mr_plan.specs.declared.words.Command.TheVariants as commands
 use Rattle.mr_command.specs.declared.ending.Ending.{Ending}
 use Rattle.mr_command.specs.declared.ending.Halt.{Halt}
 use Rattle.mr_command.specs.declared.ending.Halt.TheVariants as halts
-use Rattle.mr_plan.specs.declared.status.Status.{Status}
 use Rattle.mr_plan.specs.declared.status.Status.TheVariants.{BadMap}
-use Rattle.mr_plan.proofs.Asking.{as_words, asks_on, asks_plan, asks_untold}
+use Rattle.mr_plan.proofs.Asking.{as_words, asks_on}
 use Rattle.mr_command.proofs.Counting.{few_none, few_stopped, taken_none}
 use Rattle.mr_command.proofs.Plans.{ended_so, lacks_none, last_leaves, leads_on, up_none}
 
@@ -269,59 +269,66 @@ module _ (plan : Plan) (before after : Shelved) where
 
 -- ---- a command with the same words
 
-module _ (plan : Plan) (may may' : Outcome → Type 0) (allows allows' : Files → ℕ → Type 0) (before after : Shelved)
-    (says : (said : Outcome) → may said → may' said)
-    (few : (files : Files) (n : ℕ) → allows files n → allows' files n) where
-  ends_more : (told left : Option Files) (status : Status) (text : List ℕ) → EndsAsSaid plan may told left status text
-      → EndsAsSaid plan may' told left status text
-  ends_more None left status text ends = (ends.0, says ends.0 ends.1, ends.2, ends.3, ends.4)
-  ends_more (Some files) left status text ends = ends
+-- what goes by the words of a command
+abbrev CarriesOut : (List ℕ → List ℕ) → Shelved → Shelved → Result Ending Halt → Option Command → Type 0
+CarriesOut hash before after result None = Unit {0}
+CarriesOut hash before after result (Some c) = IsCarriedOut hash c before after result
 
-  up_more : (told left : Option Files) → GivesUpAsSaid plan may told left → GivesUpAsSaid plan may' told left
-  up_more None left up = (up.0, (up.1.0, says up.1.0 up.1.1))
-  up_more (Some files) left up = up
+module _ (hash : List ℕ → List ℕ) (before after : Shelved) (result : Result Ending Halt) where
+  to_words : (c : Command) → IsCarriedOut hash c before after result → IsCarriedOut hash (as_words c) before after
+      result
+  to_words (commands.Root records) on = on
+  to_words c on = on
 
-  came_more : (result : Result Ending Halt) → CameAsSaid plan may before after result
-      → CameAsSaid plan may' before after result
-  came_more (Ok ending) came = ends_more before.files after.files ending.status (printed_of ending) came
-  came_more (Err halt) came = (came.0, up_more before.files after.files came.1)
-
-  few_more : (told : Option Files)
-      → OfFiles told (λ files. (n : ℕ) × (after.reads ≤ before.reads + n) × allows files n)
-      → OfFiles told (λ files. (n : ℕ) × (after.reads ≤ before.reads + n) × allows' files n)
-  few_more None allowed = tt
-  few_more (Some files) allowed = (allowed.0, allowed.1, few files allowed.0 allowed.2)
-
-  comes_more : (result : Result Ending Halt) → ComesAsSaid plan may allows before after result
-      → ComesAsSaid plan may' allows' before after result
-  comes_more result on = record {
-    counts = on.counts;
-    judged = on.judged;
-    came = came_more result on.came;
-    outside = on.outside;
-    quiet = on.quiet;
-    few = few_more before.files on.few;
-  }
-
-module _ (hash : List ℕ → List ℕ) (files : Files) (n : ℕ) where
-  to_reads : (c : Command) → MayRead hash (Some c) files n → MayRead hash (Some (as_words c)) files n
-  to_reads (commands.Root records) may = may
-  to_reads c may = may
-
-  from_reads : (c : Command) → MayRead hash (Some (as_words c)) files n → MayRead hash (Some c) files n
-  from_reads (commands.Root records) may = may
-  from_reads c may = may
+  from_words : (c : Command) → IsCarriedOut hash (as_words c) before after result → IsCarriedOut hash c before after
+      result
+  from_words (commands.Root records) on = on
+  from_words c on = on
 
 pub carried_alike : (hash : List ℕ → List ℕ) (a b : Command) (before after : Shelved) (result : Result Ending Halt)
     → AsksAs (Some a) (Some b) → IsCarriedOut hash b before after result → IsCarriedOut hash a before after result
-carried_alike hash a b before after result e on =
-    let more = comes_more (say hash (Some b)) (MaySayUntold hash (Some b)) (MaySayUntold hash (Some a))
-    (MayRead hash (Some b)) (MayRead hash (Some a)) before after
-    (λ said. asks_untold hash said (Some a) (Some b) e)
-    (λ files n. asks_on (λ c. MayRead hash c files n) (to_reads hash files n) (from_reads hash files n) (Some a)
-    (Some b) e) result on in
-    subst (λ plan. ComesAsSaid plan (MaySayUntold hash (Some a)) (MayRead hash (Some a)) before after result)
-    (asks_plan hash (Some a) (Some b) e) more
+carried_alike hash a b before after result =
+    asks_on (CarriesOut hash before after result) (to_words hash before after result)
+    (from_words hash before after result) (Some a) (Some b)
+
+-- ---- a command that may seek a file which is absent
+
+pub loudly : (plan : Plan) (may : Outcome → Type 0) (allows : Files → ℕ → Type 0) (before after : Shelved)
+    (result : Result Ending Halt) → ComesAsSaid plan may allows before after result
+    → ComesLoudly plan may allows before after result
+loudly plan may allows before after result on = record {
+  counts = on.counts;
+  judged = on.judged;
+  came = on.came;
+  outside = on.outside;
+  quiet = λ some. on.quiet;
+  few = on.few;
+}
+
+-- a command comes to what is said of it, whatever it counts
+abbrev pub IsCarriedLoudly : (List ℕ → List ℕ) → Command → Shelved → Shelved → Result Ending Halt → Type 0
+IsCarriedLoudly hash c before after result =
+    ComesLoudly (say hash (Some c)) (MaySayUntold hash (Some c)) (MayRead hash (Some c)) before after result
+
+module _ (hash : List ℕ → List ℕ) (before after : Shelved) (result : Result Ending Halt) where
+  pub loud_of : (c : Command) → IsCarriedOut hash c before after result → IsCarriedLoudly hash c before after result
+  loud_of (commands.ApplyHere map batch) on = on
+  loud_of (commands.Recover map) on = on
+  loud_of (commands.Root records) on =
+      let c : Command = commands.Root records in
+      loudly (say hash (Some c)) (MaySayUntold hash (Some c)) (MayRead hash (Some c)) before after result on
+  loud_of c on = loudly (say hash (Some c)) (MaySayUntold hash (Some c)) (MayRead hash (Some c)) before after result on
+
+  told_or : (told : Option Files) (P Q : Type 0) → P → (IsSome told → Q) → (P × (told ≡ None)) ⊎ Q
+  told_or None P Q p q = inl (p, refl)
+  told_or (Some files) P Q p q = inr (q refl)
+
+  pub calm_of : (c : Command) → IsCarriedOut hash c before after result
+      → (ChangesInPlace c × (before.files ≡ None)) ⊎ IsCalm before after result
+  calm_of (commands.ApplyHere map batch) on = told_or before.files ⊤ (IsCalm before after result) tt on.quiet
+  calm_of (commands.Recover map) on = told_or before.files ⊤ (IsCalm before after result) tt on.quiet
+  calm_of (commands.Root records) on = inr on.quiet
+  calm_of c on = inr on.quiet
 
 -- ---- a refusal
 

@@ -1,5 +1,5 @@
 -- When a run of the program is right: what it may answer, and what it may leave.
-use Rattle.std.specs.Prelude.{◌≡◌, ◌⊎◌, ℕ, ◌≤◌, List, Option}
+use Rattle.std.specs.Prelude.{◌≡◌, ◌⊎◌, ⊤, ℕ, ◌≤◌, List, Option}
 use Rattle.mr_outside.specs.Faults.{Rose}
 use Rattle.mr_outside.specs.State.{Shelved, Sunk}
 use Rattle.mr_outside.specs.Told.{OfFiles, TakesBytes, TakesFront}
@@ -11,6 +11,7 @@ use Rattle.mr_plan.specs.Untold.{MaySay}
 use Rattle.mr_plan.specs.declared.status.Status.{Status}
 use Rattle.mr_plan.specs.declared.status.Status.TheVariants.{Outside, NoMemory}
 use Rattle.mr_plan.specs.declared.words.Command.{Command}
+use Rattle.mr_plan.specs.declared.words.Command.TheVariants as commands
 
 -- the shelf and the sink at one moment
 pub record World : Type 0 where
@@ -35,6 +36,12 @@ SinkFailed before after = Rose before.sink.faults after.sink.faults
 -- neither something outside nor want of memory ended it
 abbrev pub IsSettled : Status → Type 0
 IsSettled status = (status ≡ Outside → ⊥) × (status ≡ NoMemory → ⊥)
+
+-- a map is changed in its own file, beside which its journal may be absent
+abbrev pub ChangesInPlace : Command → Type 0
+ChangesInPlace (commands.ApplyHere map batch) = ⊤
+ChangesInPlace (commands.Recover map) = ⊤
+ChangesInPlace command = ⊥
 
 -- a run that neither ended had no fault outside
 abbrev pub IsQuiet : Status → World → World → Type 0

@@ -1,6 +1,6 @@
 -- What a command comes to before it is printed: `RunsPlan`, `IsCarriedOut` and `IsEndingOrHalt`,
 -- with what they are made of; and `halt_of`.
-use Rattle.std.specs.Prelude.{◌≡◌, ◌⊎◌, ℕ, ◌^◌, ◌<◌, ◌≤◌, List, ◌++◌, Option, Some, None, IfSome, ⊤, Result, Ok, Err}
+use Rattle.std.specs.Prelude.{◌≡◌, ◌⊎◌, ℕ, ◌^◌, ◌<◌, ◌≤◌, List, ◌++◌, Option, Some, None, IsSome, IfSome, ⊤, Result, Ok, Err}
 use Rattle.mr_outside.specs.Files.{Files}
 use Rattle.mr_outside.specs.Faults.{Rose}
 use Rattle.mr_outside.specs.State.{Shelved}
@@ -32,6 +32,7 @@ use Rattle.mr_pages.specs.declared.opening.Opened.{Opened}
 use Rattle.mr_plan.specs.declared.status.Status.{Status}
 use Rattle.mr_plan.specs.declared.status.Status.TheVariants.{Outside}
 use Rattle.mr_plan.specs.declared.words.Command.{Command}
+use Rattle.mr_plan.specs.declared.words.Command.TheVariants as commands
 
 -- the records that are printed: these, or those of a tree in rising number
 abbrev pub records_out : RecordsOut → List Record
@@ -84,7 +85,7 @@ EndsPlan (opens v hash bytes next) before after status text = (found : Found)
     × WasFound before v hash bytes found × IsWell found × EndsPlan (next found) before after
     status text
 EndsPlan (seeks name next) before after status text = (bytes : List ℕ) × IsSought before name bytes
-    × AreBytes bytes × EndsPlan (next bytes) before after status text
+    × EndsPlan (next bytes) before after status text
 
 -- the plan was given up, and the files are left as its outcome allows
 abbrev pub GivesUpPlan : Plan → Option Files → Option Files → Type 0
@@ -169,9 +170,28 @@ pub record ComesAsSaid (plan : Plan) (may : Outcome → Type 0) (allows : Files 
   pub quiet : IsCalm before after result
   pub few : ReadsWithinPlan allows before after
 
+-- The same of a command that asks for a file which may be absent: over files that are not told a
+-- shelf may count that as a fault.
+pub record ComesLoudly (plan : Plan) (may : Outcome → Type 0) (allows : Files → ℕ → Type 0)
+    (before after : Shelved) (result : Result Ending Halt) : Type 0 where
+  pub counts : NoneFalls before after
+  pub judged : OfFiles before.files (λ files. AreJudged plan (Some files))
+  pub came : CameAsSaid plan may before after result
+  pub outside : BlamesOutside plan before after result
+  pub quiet : IsSome before.files → IsCalm before after result
+  pub few : ReadsWithinPlan allows before after
+
 -- a command comes to what is said of it
 abbrev pub IsCarriedOut : (List ℕ → List ℕ) → Command → Shelved → Shelved → Result Ending Halt
     → Type 0
+IsCarriedOut hash (commands.ApplyHere map batch) before after result =
+    ComesLoudly (say hash (Some (commands.ApplyHere map batch)))
+    (MaySayUntold hash (Some (commands.ApplyHere map batch)))
+    (MayRead hash (Some (commands.ApplyHere map batch))) before after result
+IsCarriedOut hash (commands.Recover map) before after result =
+    ComesLoudly (say hash (Some (commands.Recover map)))
+    (MaySayUntold hash (Some (commands.Recover map)))
+    (MayRead hash (Some (commands.Recover map))) before after result
 IsCarriedOut hash command before after result = ComesAsSaid (say hash (Some command))
     (MaySayUntold hash (Some command)) (MayRead hash (Some command)) before after result
 

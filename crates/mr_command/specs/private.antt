@@ -4,4 +4,7 @@ pub mod Taking
 pub mod Applying
 pub mod Inputs
 pub mod Windows
+pub mod Joining
 pub mod Steps
+pub mod InPlace
+pub mod Here

@@ -32,7 +32,7 @@ use mr_tree::{Hash32, Nodes};
 use std::alloc::Global;
 
 // The ending over a batch that may not be applied.
-fn bad_batch(alloc: Global, fault: &BatchFault) -> Result<Ending, Halt>
+pub(crate) fn bad_batch(alloc: Global, fault: &BatchFault) -> Result<Ending, Halt>
     ensures { IsEndingOrHalt (ends Status.BadBatch (line_of fault.now)) result }
 {
     let line = bad_batch_line(alloc, fault)?;

@@ -1,6 +1,8 @@
 //! A map file as an input.
 
-ghost use Rattle.std.specs.Prelude.{◌≡◌, ◌<◌, ◌^◌, MatchResult};
+ghost use Rattle.std.specs.Prelude.{◌≡◌, ◌<◌, ◌^◌, ℕ, List, MatchResult, ⊤};
+ghost use Rattle.mr_outside.specs.Told.{OfFile};
+ghost use Rattle.mr_record.specs.private.Bytes.{AreBytes};
 ghost use Rattle.mr_store.specs.Opening.{OpensMap};
 ghost use Rattle.mr_command.specs.Ending.{IsEndingOrHalt};
 ghost use Rattle.mr_command.specs.private.Steps.{OpensMapOrEnds, SaysRefusal};
@@ -46,7 +48,9 @@ pub(crate) fn open_map<H: Hash32, S: Shelf>(
     name: &str,
     shelf: &mut S,
 ) -> Step<Opened>
-    ensures { OpensMapOrEnds H.of name.now (S.state shelf.old) (S.state shelf.new) result }
+    ensures opens { OpensMapOrEnds H.of name.now (S.state shelf.old) (S.state shelf.new) result }
+    // What is told of any file are bytes.
+    ensures every { (q : List ℕ) → OfFile (S.state shelf.old).files q ⊤ AreBytes }
 {
     match open_plain::<H, S>(alloc, shelf, name) {
         Ok(map) => {

@@ -19,7 +19,7 @@ use mr_tree::{Hash32, NodesErr};
 use std::alloc::Global;
 
 // A proof in a file, and the line on it.
-fn write_proof<S: Shelf>(
+pub(crate) fn write_proof<S: Shelf>(
     alloc: Global,
     name: &str,
     bytes: &[u8],

@@ -24,7 +24,7 @@ use std::alloc::Global;
 use std::thread::Threads;
 
 // The version of a map in memory.
-fn map_version<H: Hash32>(nodes: &Snapshot<H>) -> Version
+pub(crate) fn map_version<H: Hash32>(nodes: &Snapshot<H>) -> Version
     ensures { result ≡ nodes.now.top.version }
 {
     nodes.reader().top().version

@@ -23,7 +23,9 @@
 //! - `map2` is that head in version 2 (with a mask in front of the digest), `child2` such a child
 //!   (with a mask and a count there), `pruned2` such a pruned node (with both there too), and
 //!   `window2`, `nearest2`, `record2`, `seal2` and `fill2` are those of version 2. `count2` is the
-//!   head of a count proof, which there is in version 2 alone.
+//!   head of a count proof, which there is in version 2 alone, and `join2` that of one of the two
+//!   proofs in a join's proof. `joined` begins that, where it has a rectangle (rectangle, length of
+//!   the first of the two).
 //!
 //! Numbers are decimal, or hexadecimal behind `0x`; words between them are for the reader. A digest
 //! is given by its value as a number: zeros come before it.
@@ -339,6 +341,8 @@ fn put_shown(bytes: &mut Vec<u8>, kind: &str, numbers: &[i128]) -> Result<bool, 
         "window" => put_fields(bytes, b"MRVO\x01W", &[8, 8, 1], numbers),
         "window2" => put_fields(bytes, b"MRVO\x02W", &[8, 8, 1], numbers),
         "count2" => put_fields(bytes, b"MRVO\x02C", &[8, 8, 1], numbers),
+        "join2" => put_fields(bytes, b"MRVO\x02J", &[8, 8, 1], numbers),
+        "joined" => put_fields(bytes, b"MRJN\x01", &[4, 4, 4, 4, 4], numbers),
         "nearest" => put_nearest(bytes, b"MRVO\x01K", numbers),
         "nearest2" => put_nearest(bytes, b"MRVO\x02K", numbers),
         "leaf" => put_fields(bytes, b"L", &[1], numbers),

@@ -1,5 +1,5 @@
 -- What an update in place answers, and what it leaves of the contents.
-use Rattle.std.proofs.Common.{◌≡◌, ℕ, true, List, [], length, arith, sym, ap, subst, ◌∙◌}
+use Rattle.std.proofs.Common.{◌≡◌, ℕ, Bool, true, false, List, [], length, arith, sym, ap, subst, ◌∙◌}
 use Rattle.std.specs.Prelude.{Option, Some, None, option_map, IfSome, IfErr, IsErrAnd, Result, Ok, Err}
 use Rattle.mr_record.specs.Version.{version_byte}
 use Rattle.mr_record.specs.private.Bytes.{AreBytes}
@@ -7,11 +7,11 @@ use Rattle.mr_pages.specs.Law.{IsMapFile}
 use Rattle.mr_pages.specs.declared.opening.Opened.{Opened}
 use Rattle.mr_batch.specs.Changes.{Changes}
 use Rattle.mr_journal.specs.Changed.{IsChange}
-use Rattle.mr_journal.specs.Format.{ready, carried, changed_by, recovered}
+use Rattle.mr_journal.specs.Format.{ready, carried, changed_by, is_open, recovered}
 use Rattle.mr_journal.specs.Images.{Image}
 use Rattle.mr_journal.specs.declared.disk.DiskErr.{DiskErr}
 use Rattle.mr_journal.specs.declared.disk.DiskErr.TheVariants as disks
-use Rattle.mr_here.specs.Updated.{map_after, Becomes, MakesNext, IsHindered, MayRefuse, IsRefusal, Answers, AnswersSome}
+use Rattle.mr_here.specs.Updated.{map_after, Becomes, MakesNext, IsHindered, MayRefuse, IsRefusal, Answers, AnswersSome, WhereJudged}
 use Rattle.mr_here.specs.private.Forming.{of_disk, IsFormed}
 use Rattle.mr_here.specs.declared.error.HereErr.{HereErr}
 use Rattle.mr_here.specs.declared.error.HereErr.TheVariants as errors
@@ -63,6 +63,26 @@ disk_restores hash b (Some k) after d r is = disk_answer hash b (recovered k) af
 pub said_any : (r : Result (List ℕ) HereErr) (Q : Type 0) → Q → IfErr r (λ e. IsRefusal e → Q)
 said_any (Ok v) Q q = tt
 said_any (Err e) Q q = λ said. q
+
+pub judged_any : (r : Result (List ℕ) HereErr) (P : Type 0) → P → WhereJudged r P
+judged_any (Ok v) P p = p
+judged_any (Err e) P p = λ said. p
+
+pub judged_not : (P : Type 0) (d : DiskErr) (r : Result (List ℕ) HereErr) → r ≡ Err (of_disk d) → WhereJudged r P
+judged_not P d r is =
+    subst (λ (x : Result (List ℕ) HereErr). WhereJudged x P) (sym is) (λ said. absurd (disk_unsaid d said))
+
+-- a count that stays, behind one that stayed
+pub judged_then : (a b c : ℕ) (r : Result (List ℕ) HereErr) → b ≡ a → WhereJudged r (c ≡ b) → WhereJudged r (c ≡ a)
+judged_then a b c r first second = subst (λ n. WhereJudged r (c ≡ n)) first second
+
+-- nothing was written behind a recovery that left all as it was
+pub still_then : (o : Option Image) (was : Bool) (r : Result (List ℕ) HereErr) (A B C : Type 0) → (A → B → C)
+    → IfSome o (λ k. was ≡ is_open k) → (was ≡ false → A) → IfErr r (λ e. IsRefusal e → B)
+    → IfErr r (λ e. IsRefusal e → IfSome o (λ k. is_open k ≡ false → C))
+still_then o was (Ok v) A B C on is first second = tt
+still_then None was (Err e) A B C on is first second = λ said. tt
+still_then (Some k) was (Err e) A B C on is first second = λ said shut. on (first (is ∙ shut)) (second said)
 
 -- a refusal that is handed on
 pub handed_on : {A : Type 0} (r : Result A HereErr) (e : HereErr) → IsErrAnd r (λ h. h ≡ e) → r ≡ Err e

@@ -185,11 +185,7 @@ ends_always r P Q a c s w makes meant counts done all =
     subst Q (sym (shut_restores e.2.made x e.2.settled.shut))
     (meant (restored e.0) e.2.made e.2.given (all e.0 (counts e.0 e.1)))) done
 
--- what was read and handed on
-pub read_again : (items now : List ℕ) (o : Option Image) → now ≡ items → IfSome o (λ k. items ≡ k.map)
-    → IfSome o (λ k. now ≡ k.map)
-read_again items now o is read = subst (λ (l : List ℕ). IfSome o (λ k. l ≡ k.map)) (sym is) read
-
+-- the pages that were formed, handed on
 pub body_at : (map items now : List ℕ) → now ≡ items → ready (length map) items ≡ true → ready (length map) now ≡ true
 body_at map items now is fit = ap (ready (length map)) is ∙ fit
 

@@ -10,11 +10,12 @@ use Rattle.mr_journal.specs.Recovered.{FilesHave, restored_in}
 use Rattle.mr_journal.specs.Shelves.{image_on}
 use Rattle.mr_journal.specs.declared.disk.DiskErr.{DiskErr}
 use Rattle.mr_here.specs.declared.error.HereErr.{HereErr}
-use Rattle.mr_here.specs.Updated.{Answers, Becomes}
+use Rattle.mr_here.specs.Updated.{Answers, Becomes, IsRefusal}
 
 -- What was answered is so of the files as recovery leaves them, and of what they are now. The
--- journal isn't open where it was answered; where it was refused, the files restore to what they
--- restored to, or to the map after the batch.
+-- journal isn't open where it was answered. Where it was refused, the files restore to what they
+-- restored to, or to the map after the batch; where the map or the batch was, and the journal
+-- wasn't open, no file was changed, and none was made.
 abbrev pub AppliesTo : (List ℕ → List ℕ) → (map journal : List ℕ) → Changes → Option Files
     → Option Files → Result (List ℕ) HereErr → Type 0
 AppliesTo hash map journal batch None after result = ⊤
@@ -25,7 +26,8 @@ AppliesTo hash map journal batch (Some files) after (Err e) = FilesHave after
     (λ new. Answers hash batch (recovered (image_on map journal files))
     (Some (image_on map journal new)) (Err e)
     × ((restored_in map journal new ≡ restored_in map journal files)
-    ⊎ Becomes hash batch (restored_in map journal files) (restored_in map journal new)))
+    ⊎ Becomes hash batch (restored_in map journal files) (restored_in map journal new))
+    × (IsRefusal e → is_open (image_on map journal files) ≡ false → new ≡ files))
 
 -- the version of the map as recovery would leave it
 abbrev pub TellsVersion : (map journal : List ℕ) → Option Files → Result Version DiskErr → Type 0

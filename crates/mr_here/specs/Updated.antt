@@ -87,6 +87,11 @@ IsRefusal errors.Fault = ⊥
 IsRefusal errors.NoMemory = ⊥
 IsRefusal e = ⊤
 
+-- P, where map and batch are judged: the disk did not fail, and memory did not run out
+abbrev pub WhereJudged : Result (List ℕ) HereErr → Type 0 → Type 0
+WhereJudged (Ok digest) P = P
+WhereJudged (Err e) P = IsRefusal e → P
+
 -- ---- what is left
 
 -- The map of this image became the map after the batch, and the journal has just the pages that are

@@ -1,6 +1,6 @@
 //! A map that is changed in memory, on files that are told.
 
-ghost use Rattle.std.specs.Prelude.{◌≡◌, ◌≢◌, All, List, ℕ, Some};
+ghost use Rattle.std.specs.Prelude.{◌≡◌, ◌≢◌, All, List, ℕ, Some, OnOk};
 ghost use Rattle.mr_tree.specs.Tree.{records};
 ghost use Rattle.mr_tree.specs.declared.tree.Tree.{Tree};
 ghost use Rattle.mr_pages.specs.Law.{map_in};
@@ -9,9 +9,9 @@ ghost use Rattle.mr_batch.specs.Applied.{IsAdmissible};
 ghost use Rattle.mr_batch.specs.Changes.{IsLayered};
 ghost use Rattle.mr_batch.specs.Directory.{IsDirectoryOf};
 ghost use Rattle.mr_store.specs.CachedFile.{name_of};
-ghost use Rattle.mr_store.specs.Paged.{stands_for};
+ghost use Rattle.mr_store.specs.Paged.{shelved, stands_for};
 ghost use Rattle.mr_edit.specs.Replayed.{IsOfVersion};
-ghost use Rattle.mr_here.specs.private.Forming.{of_edit, of_map, of_sealed, MakesMap, AdmitsBatch, JudgesBatch, EditsFile};
+ghost use Rattle.mr_here.specs.private.Forming.{of_edit, of_map, of_sealed, KeepsOthers, MakesMap, AdmitsBatch, JudgesBatch, EditsFile};
 
 use crate::error::HereErr;
 use crate::layers::lacks;
@@ -69,11 +69,13 @@ fn change<H: Hash32, S: Shelf>(
 ) -> (Result<[u8; 32], HereErr>, S)
     requires names { name_of paged.file ≢ new.now }
     requires layers { All (IsOfVersion (stands_for paged).version) batch.now.list }
-    ensures { (t : Tree) → (stands_for paged).tree ≡ Some t → IsDirectoryOf dir (records t)
+    ensures made { (t : Tree) → (stands_for paged).tree ≡ Some t → IsDirectoryOf dir (records t)
         → IsAdmissible (records t) paged.head.batch batch.now
         → MakesMap H.of new.now paged.head.pages
         (map_in (stands_for paged).version t paged.head.batch) batch.now (S.state result.1).files
         result.0 }
+    ensures others { OnOk result.0 (KeepsOthers new.now (shelved paged).files
+        (S.state result.1).files) }
 {
     match copy_map::<S, H>(alloc, paged, new) {
         Err((shelf, error)) => (Err(unchanged(&error)), shelf),
@@ -101,10 +103,12 @@ fn apply<H: Hash32, S: Shelf>(
 ) -> (Result<[u8; 32], HereErr>, S)
     requires names { name_of paged.file ≢ new.now }
     requires layers { All (IsOfVersion (stands_for paged).version) batch.now.list }
-    ensures { (t : Tree) → (stands_for paged).tree ≡ Some t
+    ensures made { (t : Tree) → (stands_for paged).tree ≡ Some t
         → AdmitsBatch H.of new.now paged.head.pages
         (map_in (stands_for paged).version t paged.head.batch) batch.now (S.state result.1).files
         result.0 }
+    ensures others { OnOk result.0 (KeepsOthers new.now (shelved paged).files
+        (S.state result.1).files) }
 {
     let mut paged = paged;
     paged.is_map();
@@ -126,10 +130,12 @@ fn judge<H: Hash32, S: Shelf>(
 ) -> (Result<[u8; 32], HereErr>, S)
     requires names { name_of paged.file ≢ new.now }
     requires layered { All IsLayered batch.now.list }
-    ensures { (t : Tree) → (stands_for paged).tree ≡ Some t
+    ensures made { (t : Tree) → (stands_for paged).tree ≡ Some t
         → JudgesBatch H.of new.now paged.head.pages
         (map_in (stands_for paged).version t paged.head.batch) batch.now (S.state result.1).files
         result.0 }
+    ensures others { OnOk result.0 (KeepsOthers new.now (shelved paged).files
+        (S.state result.1).files) }
 {
     if lacks(paged.version(), batch) {
         (Err(HereErr::Layer), paged.close())
@@ -149,8 +155,10 @@ pub(crate) fn edit<H: Hash32, S: Shelf>(
 ) -> (Result<[u8; 32], HereErr>, S)
     requires names { old.now ≢ new.now }
     requires layered { All IsLayered batch.now.list }
-    ensures { (bytes : List ℕ) → told_bytes (S.state shelf).files old.now ≡ Some bytes
+    ensures edits { (bytes : List ℕ) → told_bytes (S.state shelf).files old.now ≡ Some bytes
         → EditsFile H.of new.now batch.now bytes (S.state result.1).files result.0 }
+    ensures others { OnOk result.0 (KeepsOthers new.now (S.state shelf).files
+        (S.state result.1).files) }
 {
     match Paged::<S, H>::open_map(alloc, shelf, old) {
         Err((shelf, error)) => (Err(unopened(&error)), shelf),

@@ -1,12 +1,12 @@
 //! A batch that is applied in place to the map in a file.
 
-ghost use Rattle.std.specs.Prelude.{◌≡◌, ◌≢◌, ◌≤◌, All, IsErrOf};
+ghost use Rattle.std.specs.Prelude.{◌≡◌, ◌≢◌, ◌≤◌, All, IsSome, OnOk, IsErrOf};
 ghost use Rattle.mr_outside.specs.Faults.{Rose};
 ghost use Rattle.mr_batch.specs.Changes.{IsLayered};
 ghost use Rattle.mr_journal.specs.Shelves.{KeepsBeside};
 ghost use Rattle.mr_journal.specs.declared.disk.DiskErr.TheVariants as disks;
 ghost use Rattle.mr_here.specs.OnFiles.{AppliesTo, TellsVersion};
-ghost use Rattle.mr_here.specs.Updated.{AnswersSome};
+ghost use Rattle.mr_here.specs.Updated.{AnswersSome, WhereJudged};
 
 use crate::error::HereErr;
 use crate::here::apply_here;
@@ -33,6 +33,9 @@ pub fn version_of_files<S: Shelf>(
     ensures fault { IsErrOf result.0 disks.Fault
         → Rose (S.state shelf).faults (S.state result.1).faults }
     ensures faults { (S.state shelf).faults ≤ (S.state result.1).faults }
+    // Over files that are told a call that is answered counts no fault.
+    ensures quiet { IsSome (S.state shelf).files
+        → OnOk result.0 ((S.state result.1).faults ≡ (S.state shelf).faults) }
     ensures reads { (S.state shelf).reads ≤ (S.state result.1).reads }
 {
     match ShelfDisk::new(alloc, shelf, map, journal) {
@@ -66,6 +69,9 @@ pub fn apply_files<H: Hash32, S: Shelf>(
     ensures fault { IsErrOf result.0 HereErr.Fault
         → Rose (S.state shelf).faults (S.state result.1).faults }
     ensures faults { (S.state shelf).faults ≤ (S.state result.1).faults }
+    // Over files that are told no fault is counted where map and batch are judged.
+    ensures quiet { IsSome (S.state shelf).files
+        → WhereJudged result.0 ((S.state result.1).faults ≡ (S.state shelf).faults) }
     ensures reads { (S.state shelf).reads ≤ (S.state result.1).reads }
 {
     match ShelfDisk::new(alloc, shelf, map, journal) {

@@ -1,6 +1,6 @@
 //! The pages that a batch makes of a map.
 
-ghost use Rattle.std.specs.Prelude.{◌≡◌, All, IfOk, IfErr, Some, List, ℕ, codes};
+ghost use Rattle.std.specs.Prelude.{◌≡◌, All, IfOk, IfErr, OnOk, Some, List, ℕ, codes};
 ghost use Rattle.mr_outside.specs.Files.{file};
 ghost use Rattle.mr_record.specs.Version.{version_byte};
 ghost use Rattle.mr_record.specs.private.Bytes.{AreBytes};
@@ -45,15 +45,17 @@ fn shelf_with(alloc: Global, map: &[u8]) -> Result<MemShelf, AllocError>
     Ok(shelf)
 }
 
-// The map after a batch, in another file.
+// The map after a batch, in another file beside the old one.
 fn edit_file<H: Hash32>(
     alloc: Global,
     shelf: MemShelf,
     batch: &Batch,
 ) -> (Result<[u8; 32], HereErr>, MemShelf)
     requires { All IsLayered batch.now.list }
-    ensures { (bytes : List ℕ) → file shelf.files (codes "map") ≡ Some bytes
+    ensures edits { (bytes : List ℕ) → file shelf.files (codes "map") ≡ Some bytes
         → EditsFile H.of (codes "new") batch.now bytes (Some result.1.files) result.0 }
+    ensures stays { OnOk result.0
+        (file result.1.files (codes "map") ≡ file shelf.files (codes "map")) }
 {
     edit::<H, MemShelf>(alloc, shelf, "map", "new", batch)
 }
@@ -88,35 +90,38 @@ fn body_of(alloc: Global, version: Version, old: &[u8], new: &[u8]) -> Result<Ve
     spell_changes(alloc, version.byte(), pages, old, new)
 }
 
-// The same of the map in the other file, in the version of the earlier one.
-fn body_in(alloc: Global, map: &[u8], shelf: &MemShelf) -> Result<Vec<u8>, AllocError>
-    requires { (new : List ℕ) × (file shelf.now.files (codes "new") ≡ Some new)
-        × ((pages : ℕ) × IsLonger (page_size (version_byte (version_of map.now))) pages map.now
-        new) }
-    ensures { IfOk result (λ b. (new : List ℕ) → file shelf.now.files (codes "new") ≡ Some new
-        → IsChange (version_byte (version_of map.now)) map.now new b.items) }
+// The same of the maps in both files, in the version of the earlier one.
+fn body_in(alloc: Global, shelf: &MemShelf) -> Result<Vec<u8>, AllocError>
+    requires { (old new : List ℕ) × (file shelf.now.files (codes "map") ≡ Some old)
+        × (file shelf.now.files (codes "new") ≡ Some new)
+        × ((pages : ℕ) × IsLonger (page_size (version_byte (version_of old))) pages old new) }
+    ensures { IfOk result (λ b. (old new : List ℕ)
+        → file shelf.now.files (codes "map") ≡ Some old
+        → file shelf.now.files (codes "new") ≡ Some new
+        → IsChange (version_byte (version_of old)) old new b.items) }
 {
-    match shelf.file("new") {
-        None => Err(AllocError),
-        Some(new) => body_of(alloc, version_in(map), map, new),
+    match (shelf.file("map"), shelf.file("new")) {
+        (Some(old), Some(new)) => body_of(alloc, version_in(old), old, new),
+        _ => Err(AllocError),
     }
 }
 
 /// The pages that a batch makes of a map, or why it may not be applied to it. The map is changed in
-/// memory, as a file.
-pub(crate) fn form<H: Hash32>(alloc: Global, map: &[u8], batch: &Batch) -> Result<Formed, HereErr>
+/// memory, as a file; its bytes are given up once that has them.
+pub(crate) fn form<H: Hash32>(alloc: Global, map: Vec<u8>, batch: &Batch) -> Result<Formed, HereErr>
     requires { All IsLayered batch.now.list }
-    ensures formed { IfOk result (λ f. IsFormed H.of batch.now map.now f.body.items f.root) }
-    ensures refused { IfErr result (IsHindered H.of batch.now map.now) }
-    ensures bytes { AreBytes map.now }
+    ensures formed { IfOk result (λ f. IsFormed H.of batch.now map.items f.body.items f.root) }
+    ensures refused { IfErr result (IsHindered H.of batch.now map.items) }
+    ensures bytes { AreBytes map.items }
 {
-    are_bytes(map);
-    let shelf = shelf_with(alloc, map)?;
+    are_bytes(map.as_slice());
+    let shelf = shelf_with(alloc, map.as_slice())?;
+    drop(map);
     let (edited, shelf) = edit_file::<H>(alloc, shelf, batch);
     match edited {
         Err(error) => Err(error),
         Ok(root) => {
-            let body = body_in(alloc, map, &shelf)?;
+            let body = body_in(alloc, &shelf)?;
             Ok(Formed { body, root })
         }
     }

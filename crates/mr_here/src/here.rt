@@ -1,16 +1,16 @@
 //! A batch that is applied to a map in place.
 
-ghost use Rattle.std.specs.Prelude.{◌≡◌, ◌⊎◌, ◌≤◌, All, ℕ, List, IfErr, IfSome, IsSomeAnd, OnOk, IsErrOf};
+ghost use Rattle.std.specs.Prelude.{◌≡◌, ◌⊎◌, ◌≤◌, false, All, ℕ, List, IfErr, IsSome, IfSome, IsSomeAnd, OnOk, IsErrOf};
 ghost use Rattle.mr_outside.specs.Faults.{Rose};
 ghost use Rattle.mr_pages.specs.Law.{IsMapFile};
 ghost use Rattle.mr_pages.specs.declared.opening.Opened.{Opened};
 ghost use Rattle.mr_batch.specs.Changes.{IsLayered};
 ghost use Rattle.mr_journal.specs.Images.{Image};
 ghost use Rattle.mr_journal.specs.Moments.{EveryImage, AddsOnly};
-ghost use Rattle.mr_journal.specs.Format.{restored, recovered};
+ghost use Rattle.mr_journal.specs.Format.{is_open, restored, recovered};
 ghost use Rattle.mr_journal.specs.States.{IsSettledAt};
 ghost use Rattle.mr_here.specs.Crashes.{IsMadeOf, IsDoneBy, BecomesBy, EndsBy};
-ghost use Rattle.mr_here.specs.Updated.{map_after, Becomes, IsRefusal, Answers, AnswersSome};
+ghost use Rattle.mr_here.specs.Updated.{map_after, Becomes, IsRefusal, WhereJudged, Answers, AnswersSome};
 
 use crate::error::HereErr;
 use crate::forming::form;
@@ -44,10 +44,13 @@ fn apply_settled<H: Hash32, D: Disk>(
     ensures fault { IsErrOf result HereErr.Fault
         → Rose (D.state disk.old).faults (D.state disk.new).faults }
     ensures faults { (D.state disk.old).faults ≤ (D.state disk.new).faults }
+    ensures quiet { IsSome (D.state disk.old).contents
+        → WhereJudged result ((D.state disk.new).faults ≡ (D.state disk.old).faults) }
+    ensures still { IfErr result (λ e. IsRefusal e → D.still disk.old disk.new) }
     ensures kept { D.kept disk.old disk.new }
 {
     let map = read_map(alloc, disk)?;
-    let formed = form::<H>(alloc, map.as_slice(), batch)?;
+    let formed = form::<H>(alloc, map, batch)?;
     write_pages(disk, formed.body.as_slice())?;
     Ok(formed.root)
 }
@@ -96,6 +99,13 @@ pub fn apply_here<H: Hash32, D: Disk>(
     ensures fault { IsErrOf result HereErr.Fault
         → Rose (D.state disk.old).faults (D.state disk.new).faults }
     ensures faults { (D.state disk.old).faults ≤ (D.state disk.new).faults }
+    // Where the contents are told, no fault is counted where map and batch are judged.
+    ensures quiet { IsSome (D.state disk.old).contents
+        → WhereJudged result ((D.state disk.new).faults ≡ (D.state disk.old).faults) }
+    // Where map or batch are refused and the journal wasn't open, nothing is made either that was
+    // not there.
+    ensures still { IfErr result (λ e. IsRefusal e → IfSome (D.state disk.old).contents
+        (λ k. is_open k ≡ false → D.still disk.old disk.new)) }
     ensures kept { D.kept disk.old disk.new }
 {
     recover(alloc, disk)?;

@@ -71,7 +71,7 @@ first_by x None d pairs y = second_by y d pairs
 first_by x (Some p) d pairs y = refl
 
 -- the second part is accepted where there are pairs
-second_accepted : (h k : Held) (at : ℕ) (o : Option Rectangle) (first second : List ℕ) (rs : List Record)
+pub second_accepted : (h k : Held) (at : ℕ) (o : Option Rectangle) (first second : List ℕ) (rs : List Record)
     (pairs : List Pair) → first_records h o first ≡ Ok rs
     → frame_verdict h k at (record { rect = o; first = first; second = second }) ≡ Ok pairs
     → (y : Taken) × (part_verdict k (rects_of rs) second ≡ Ok y)
@@ -85,7 +85,7 @@ second_accepted h k at o first second rs pairs given e =
           (second_was (part_verdict k (rects_of us.0) second) y.0 y.1),
     )
 
-first_accepted : (h : Held) (w : Rectangle) (first : List ℕ) (rs : List Record)
+pub first_accepted : (h : Held) (w : Rectangle) (first : List ℕ) (rs : List Record)
     → first_records h (Some w) first ≡ Ok rs → (x : Taken) × (part_verdict h (w ∷ []) first ≡ Ok x)
 first_accepted h w first rs given =
     let x = bind_ok (as_first (part_verdict h (w ∷ []) first)) (λ x. Ok x.records) rs given in

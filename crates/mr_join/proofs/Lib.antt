@@ -4,5 +4,8 @@ pub mod Framing
 pub mod Worth
 pub mod Written
 pub mod Audited
+pub mod Judged
+pub mod ReadParts
+pub mod Fetching
 pub mod Pairs
 pub mod AllPairs

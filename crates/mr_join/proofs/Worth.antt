@@ -15,12 +15,14 @@ use Rattle.mr_record.specs.declared.version.Version.TheVariants.{Two}
 use Rattle.mr_record.proofs.Encodings.{IsBytes}
 use Rattle.mr_record.proofs.Results.{bind_ok}
 use Rattle.mr_tree.specs.Tree as trees
-use Rattle.mr_tree.specs.Digest.{by}
+use Rattle.mr_tree.specs.Digest.{by, root}
 use Rattle.mr_tree.specs.WellFormed.{WellFormed, HasLayers}
 use Rattle.mr_tree.specs.declared.tree.Tree.{Tree}
 use Rattle.mr_tree.proofs.Joins.{rect_round}
 use Rattle.mr_proof.specs.declared.rule.Fault.{Fault}
 use Rattle.mr_proof.specs.Spelling.{Parsed}
+use Rattle.mr_proof.specs.Honest.{honest_said}
+use Rattle.mr_proof.specs.Reading.{checked}
 use Rattle.mr_proof.specs.Tight.{Question, MayCome, IsLawful}
 use Rattle.mr_proof.specs.Halves.{AcceptsHonestProof, IsHonestProof}
 use Rattle.mr_proof.specs.Headline.{AcceptedMatchesHonest, HonestProofIsQuiet}
@@ -69,12 +71,26 @@ worth hash list bytes all =
     accepted (by Two hash) letter (meets_way list) bytes (meets_narrow list) (all Two (question list)
     (asks_lawfully list))
 
+-- the honest part is accepted, as that of its head and cut
+pub honest_parsed : (hash : List ℕ → List ℕ) (m : Owned) (list : List Rectangle) → Honest hash → IsOwned m
+    → checked hash (root (by Two hash) m.tree m.batch) (question list) (part_proof hash m list)
+    ≡ Ok (honest_said (by Two hash) (question list) m.tree m.batch)
+honest_parsed hash m list all own =
+    all.accepts Two (question list) (asks_lawfully list) m.tree m.batch tt own.well (layers_two m.tree own.well)
+    own.batch
+
 pub part_again : (hash : List ℕ → List ℕ) (m : Owned) (list : List Rectangle) → Honest hash → IsOwned m
     → part_verdict (held (by Two hash) m) list (part_proof hash m list) ≡ Ok (part_taken hash m list)
 part_again hash m list all own =
     ap (λ (r : Result Parsed Fault). r >>= λ x. Ok (taken_of (meets_way list) x))
-    (all.accepts Two (question list) (asks_lawfully list) m.tree m.batch tt own.well
-    (layers_two m.tree own.well) own.batch)
+    (honest_parsed hash m list all own)
+
+-- and so are the records that it gives
+pub records_again : (hash : List ℕ → List ℕ) (m : Owned) (w : Rectangle) → Honest hash → IsOwned m
+    → first_records (held (by Two hash) m) (Some w) (part_proof hash m (w ∷ []))
+    ≡ Ok (part_taken hash m (w ∷ [])).records
+records_again hash m w all own =
+    ap (λ (r : Result Taken Fault). as_first r >>= λ x. Ok x.records) (part_again hash m (w ∷ []) all own)
 
 part_given : (hash : List ℕ → List ℕ) (m : Owned) (list : List Rectangle) → IsOwned m
     → IsChosen m.tree (meets_way list) (part_taken hash m list)
@@ -84,7 +100,8 @@ part_given hash m list own =
 part_quiet : (hash : List ℕ → List ℕ) (m : Owned) (list : List Rectangle) → Honest hash → IsOwned m
     → part_clash (by Two hash) m (part_proof hash m list) ≡ None
 part_quiet hash m list all own =
-    all.quiet Two (question list) (asks_lawfully list) m.tree m.batch tt own.well (layers_two m.tree own.well) own.batch
+    all.quiet Two (question list) (asks_lawfully list) m.tree m.batch tt own.well (layers_two m.tree own.well)
+    own.batch
 
 part_short : (hash : List ℕ → List ℕ) (m : Owned) (list : List Rectangle) → Honest hash → IsOwned m
     → length (part_proof hash m list) < 2 ^ 32
@@ -186,7 +203,8 @@ alone_worth : (f g : List ℕ → List ℕ) (bytes second : List ℕ) (m n : Own
     (record { rect = None; first = []; second = second }) ≡ Ok pairs
     → NoneAnd g (part_clash (by Two g) n second) (IsHonestJoin f g m n bytes pairs)
 alone_worth f g bytes second m n pairs own match line e =
-    let y = bind_ok (second_taken (held (by Two g) n) [] second) (λ y. pairs_behind None (length bytes) [] y) pairs e in
+    let y = bind_ok (second_taken (held (by Two g) n) [] second) (λ y. pairs_behind None (length bytes) [] y) pairs e
+    in
     let test = if_good (y.0.count == 0) (pairs_of [] y.0.records) pairs (frame_fault rule.WrongFlag
     (length bytes)) y.2 in
     let part = second_was (part_verdict (held (by Two g) n) [] second) y.0 y.1 in
@@ -228,7 +246,8 @@ both_worth f g bytes first second w m n pairs own_m own_n honest match_f match_g
     none_more f (part_clash (by Two f) m first) (IsHonestChoice (by Two f) m.tree m.batch letter (meets_way
     (w ∷ [])) first x.0)
     (NoneAnd g (part_clash (by Two g) n second) (IsHonestJoin f g m n bytes pairs))
-    (worth f (w ∷ []) first match_f m.tree m.batch x.0 own_m.well (layers_two m.tree own_m.well) own_m.batch first_part)
+    (worth f (w ∷ []) first match_f m.tree m.batch x.0 own_m.well (layers_two m.tree own_m.well) own_m.batch
+    first_part)
     (λ o.
     none_more g (part_clash (by Two g) n second)
     (IsHonestChoice (by Two g) n.tree n.batch letter (meets_way (rects_of rs.0)) second y.0)
@@ -345,12 +364,17 @@ second_quiet f g m n None honest own = part_quiet g n [] honest own
 second_quiet f g m n (Some w) honest own =
     part_quiet g n (rects_of (part_taken f m (w ∷ [])).records) honest own
 
+pub honest_read : (f g : List ℕ → List ℕ) (m n : Owned) → Honest f → IsOwned m → IsOwned n
+    → frame_of (join_proof f g m n) ≡ Ok (honest_frame f g m n)
+honest_read f g m n honest own_m own_n =
+    frame_again (honest_frame f g m n) (frame_fits f g m n (trees.rect n.tree) honest own_m own_n refl)
+
 pub honest_accepted : (f g : List ℕ → List ℕ) → Honest f → Honest g → AcceptsHonestJoin f g
 honest_accepted f g honest_f honest_g = λ m n own_m own_n.
     let o = trees.rect n.tree in
     let x = honest_frame f g m n in
     let bytes = join_proof f g m n in
-    let read : frame_of bytes ≡ Ok x = frame_again x (frame_fits f g m n o honest_f own_m own_n refl) in
+    let read : frame_of bytes ≡ Ok x = honest_read f g m n honest_f own_m own_n in
     record {
       accepted = by_frame (held (by Two f) m) (held (by Two g) n) bytes x read
           ∙ by_rect_accepted f g m n (length bytes) o honest_f honest_g own_m own_n refl;

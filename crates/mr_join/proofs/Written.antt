@@ -1,9 +1,11 @@
 -- What is written of a join's proof, and what its first part gives.
-use Rattle.std.proofs.Common.{◌≡◌, ℕ, ◌^◌, ◌<◌, List, [], ◌∷◌, ◌++◌, length, Option, Some, None, Result, Ok, Err, refl, sym, ap, subst, ◌∙◌, append_assoc}
+use Rattle.std.proofs.Common.{◌≡◌, ℕ, ◌^◌, ◌<◌, List, [], ◌∷◌, ◌++◌, length, Option, Some, None, Result, Ok, Err, refl, sym, ap, subst, ◌∙◌, ◌+◌, ◌≤◌, drop, append_assoc, arith}
 use Rattle.std.specs.Prelude.{option_map, IsSome, IsSomeAnd, IfSome, OnOk, OnErr}
 use Rattle.std.specs.Int.{w32, to_be_bytes}
 use Rattle.std.proofs.Props.{props}
+use Rattle.std.proofs.Math.Bridge.{le_prop}
 use Rattle.std.proofs.Math.Logic.{∥∥₁_elim}
+use Rattle.std.proofs.Math.Seq.{drop-append_seam}
 use Rattle.mr_geom.specs.Rectangle.{Rectangle}
 use Rattle.mr_outside.specs.State.{Sunk}
 use Rattle.mr_outside.specs.Told.{TakesBytes, TakesFront}
@@ -22,7 +24,7 @@ use Rattle.mr_tree.specs.declared.entry.Entry.{Entry}
 use Rattle.mr_tree.specs.declared.tree.Tree.{Tree}
 use Rattle.mr_tree.specs.declared.tree.Tree.TheVariants as tree
 use Rattle.mr_tree.proofs.Equations.{rect-Empty, entry_rect}
-use Rattle.mr_proof.specs.Honest.{proof_for}
+use Rattle.mr_proof.specs.Honest.{proof_for, opened_for}
 use Rattle.mr_prove.specs.declared.error.ProveErr.{ProveErr}
 use Rattle.mr_clash.specs.Finding.{root_at}
 use Rattle.mr_clash.proofs.Roots.{root_told}
@@ -33,6 +35,7 @@ use Rattle.mr_join.specs.Meets.{meets_way, rects_of}
 use Rattle.mr_join.specs.Frame.{magic, frame_bytes}
 use Rattle.mr_join.specs.Verdict.{letter, part_verdict}
 use Rattle.mr_join.specs.Accepted.{Owned, IsOwned, owned, held, part_proof, part_taken, frame_for, join_proof}
+use Rattle.mr_join.specs.Fetches.{part_opens, second_opens}
 use Rattle.mr_join.specs.private.Parts.{IsFirstPart, alone_bytes, rect_in}
 use Rattle.mr_join.proofs.Worth.{Honest, part_again}
 
@@ -230,3 +233,112 @@ pub without_wells : (q : Option Tree) (P : Tree → Type 0) → ((t : Tree) → 
     → IfSome q (λ t. ∥ WellFormed t ∥₁) → IfSome q (λ t. WellFormed t → P t) → IfSome q P
 without_wells None P once wells h = tt
 without_wells (Some t) P once wells h = ∥∥₁_elim wells (once t) (λ well. h well)
+
+-- ---- fronts, whatever is known of the tree
+
+-- the front that was taken, by what the sink held before and holds now
+abbrev taken_front : (before now : Option (List ℕ)) → List ℕ
+taken_front None now = []
+taken_front (Some xs) None = []
+taken_front (Some xs) (Some ys) = drop (length xs) ys
+
+same_list : (xs ys : List ℕ) → ◌≡◌ {A = Option (List ℕ)} (Some xs) (Some ys) → xs ≡ ys
+same_list xs ys e = cc
+
+not_there : (xs : List ℕ) → ◌≡◌ {A = Option (List ℕ)} None (Some xs) → ⊥
+not_there xs e = cc
+
+taken_whole : (o p : Option (List ℕ)) (bytes front rest : List ℕ) → bytes ≡ front ++ rest
+    → p ≡ option_map (λ t. t ++ front) o
+    → (bytes ≡ taken_front o p ++ drop (length (taken_front o p)) bytes)
+    × (p ≡ option_map (λ t. t ++ taken_front o p) o)
+taken_whole None p bytes front rest whole e = (refl, e)
+taken_whole (Some xs) None bytes front rest whole e = absurd (not_there (xs ++ front) e)
+taken_whole (Some xs) (Some ys) bytes front rest whole e =
+    let long = same_list ys (xs ++ front) e in
+    let same : drop (length xs) ys ≡ front = ap (drop (length xs)) long ∙ drop-append_seam xs front in
+    let left : drop (length front) bytes ≡ rest = ap (drop (length front)) whole ∙ drop-append_seam front rest in (
+      whole ∙ (λ i. sym same i ++ (sym left ∙ ap (λ (zs : List ℕ). drop (length zs) bytes) (sym same)) i),
+      ap Some (long ∙ ap (λ (zs : List ℕ). xs ++ zs) (sym same)),
+    )
+
+front_once : {W : Type 0} (from to : Sunk) (bytes : List ℕ) → ∥ W ∥₁ → (W → TakesFront from to bytes)
+    → TakesFront from to bytes
+front_once from to bytes once h = record {
+  front = taken_front from.taken to.taken;
+  rest = drop (length (taken_front from.taken to.taken)) bytes;
+  whole = ∥∥₁_elim once (hlevel props) (λ w. (taken_whole from.taken to.taken bytes (h w).front (h w).rest (h w).whole
+      (h w).takes).0);
+  takes = ∥∥₁_elim once (hlevel props) (λ w. (taken_whole from.taken to.taken bytes (h w).front (h w).rest (h w).whole
+      (h w).takes).1);
+}
+
+pub fronts_once : (q o : Option Tree) (r : Result (Unit {0}) ProveErr) (from to : Sunk) (bytes : Tree → Tree → List ℕ)
+    → IfSome q (λ t. ∥ WellFormed t ∥₁)
+    → IfSome q (λ t. WellFormed t → IfSome o (λ u. OnErr r (TakesFront from to (bytes t u))))
+    → IfSome q (λ t. IfSome o (λ u. OnErr r (TakesFront from to (bytes t u))))
+fronts_once None o r from to bytes wells h = tt
+fronts_once (Some t) None r from to bytes wells h = tt
+fronts_once (Some t) (Some u) (Ok x) from to bytes wells h = tt
+fronts_once (Some t) (Some u) (Err e) from to bytes wells h = front_once from to (bytes t u) wells h
+
+-- ---- fetches
+
+pub few_once : (q o : Option Tree) (before after : ℕ) (opens : Tree → Tree → ℕ) → IfSome q (λ t. ∥ WellFormed t ∥₁)
+    → IfSome q (λ t. WellFormed t → IfSome o (λ u. after ≤ before + opens t u))
+    → IfSome q (λ t. IfSome o (λ u. after ≤ before + opens t u))
+few_once None o before after opens wells h = tt
+few_once (Some t) None before after opens wells h = tt
+few_once (Some t) (Some u) before after opens wells h = ∥∥₁_elim wells le_prop h
+
+-- what is not asked fetches nothing
+pub none_more : (n k : ℕ) → n ≤ n + k
+none_more n k = omega arith
+
+pub none_fetched : (q : Option Tree) (n : ℕ) (opens : Tree → ℕ) → IfSome q (λ t. n ≤ n + opens t)
+none_fetched q n opens = for_all q (λ t. n ≤ n + opens t) (λ t. none_more n (opens t))
+
+pub neither_fetched : (q o : Option Tree) (n : ℕ) (opens : Tree → Tree → ℕ)
+    → IfSome q (λ t. IfSome o (λ u. n ≤ n + opens t u))
+neither_fetched q o n opens =
+    for_all q (λ t. IfSome o (λ u. n ≤ n + opens t u)) (λ t. none_fetched o n (opens t))
+
+-- behind a tree that is well formed
+pub second_unasked : (q o : Option Tree) (n : ℕ) (opens : Tree → Tree → ℕ)
+    → IfSome q (λ t. WellFormed t → IfSome o (λ u. n ≤ n + opens t u))
+second_unasked q o n opens =
+    for_all q (λ t. WellFormed t → IfSome o (λ u. n ≤ n + opens t u)) (λ t well. none_fetched o n (opens t))
+
+-- of a map of version 2, for rectangles of which the choice is the same
+pub part_few : (hash : List ℕ → List ℕ) (s : MapModel) (ms list : List Rectangle) (before after : ℕ)
+    → s.version ≡ Two → meets_way ms ≡ meets_way list
+    → IfSome s.tree (λ t. after ≤ before + opened_for (by s.version hash) (chosen letter (meets_way ms)) t)
+    → IfSome s.tree (λ t. after ≤ before + part_opens hash (owned s t) list)
+part_few hash s ms list before after two same few =
+    for_each s.tree (λ t. after ≤ before + opened_for (by s.version hash) (chosen letter (meets_way ms)) t)
+    (λ t. after ≤ before + part_opens hash (owned s t) list)
+    (λ t h. subst (λ n. after ≤ before + n) (λ i. opened_for (by (two i) hash) (chosen letter (same i)) t) h) few
+
+-- for the records that the first part gives
+pub second_few : (f g : List ℕ → List ℕ) (s v : MapModel) (w : Rectangle) (ms list : List Rectangle)
+    (records : List Record) (before after : ℕ) (bytes : List ℕ) → v.version ≡ Two → list ≡ rects_of records
+    → meets_way ms ≡ meets_way list
+    → IfSome s.tree (λ t. WellFormed t → IsFirstPart f (owned s t) w bytes records)
+    → IfSome v.tree (λ u. after ≤ before + opened_for (by v.version g) (chosen letter (meets_way ms)) u)
+    → IfSome s.tree (λ t. WellFormed t → IfSome v.tree (λ u. after ≤ before
+    + second_opens f g (owned s t) (owned v u) (Some w)))
+second_few f g s v w ms list records before after bytes two rects same given few =
+    for_each s.tree (λ t. WellFormed t → IsFirstPart f (owned s t) w bytes records)
+    (λ t. WellFormed t → IfSome v.tree (λ u. after ≤ before + second_opens f g (owned s t) (owned v u) (Some w)))
+    (λ t first well. part_few g v ms (rects_of (part_taken f (owned s t) (w ∷ [])).records) before after two
+    (same ∙ ap meets_way (rects ∙ ap rects_of (first well).given)) few) given
+
+-- by the rectangle that the second map says of its root node
+pub rect_known : (g : List ℕ → List ℕ) (v : MapModel) (top : Top) (o : Option Rectangle) → IsTop g v top
+    → o ≡ rect_in top.root → (P : Tree → Option Rectangle → Type 0) → IfSome v.tree (λ u. P u o)
+    → IfSome v.tree (λ u. P u (trees.rect u))
+rect_known g v top o is root P h = by_tree v.tree refl h
+  where
+    by_tree : (p : Option Tree) → v.tree ≡ p → IfSome p (λ u. P u o) → IfSome p (λ u. P u (trees.rect u))
+    by_tree None told h = tt
+    by_tree (Some u) told h = subst (P u) (root ∙ sym (top_rect g v top u is told)) h

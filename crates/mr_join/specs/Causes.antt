@@ -10,7 +10,7 @@ use Rattle.mr_prove.specs.declared.error.ProveErr.TheVariants as errors
 use Rattle.mr_clash.specs.declared.error.AuditErr.{AuditErr}
 use Rattle.mr_clash.specs.declared.error.AuditErr.TheVariants as audits
 
--- what a map stands for, and its count of faults before a call and after it
+-- what a map stands for, and a count of it, of faults or of fetches, before a call and after it
 pub record Watched : Type 0 where
   pub map : MapModel
   pub before : ℕ

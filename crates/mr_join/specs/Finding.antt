@@ -1,13 +1,16 @@
 -- What the audit of a join's proof finds.
 use Rattle.std.specs.Prelude.{◌≡◌, ◌↔◌, ℕ, List, Option, Some, None, Result, Ok, Err, ⊤}
 use Rattle.mr_tree.specs.Digest.{Scheme}
+use Rattle.mr_tree.specs.Nodes.{MapModel, IsTop}
+use Rattle.mr_tree.specs.declared.nodes.Top.{Top}
 use Rattle.mr_proof.specs.Clash as clashes
 use Rattle.mr_proof.specs.Clash.{IsCollision}
+use Rattle.mr_clash.specs.Finding.{root_at}
 use Rattle.mr_join.specs.declared.fault.JoinFault.{JoinFault}
 use Rattle.mr_join.specs.declared.finding.JoinFinding.{JoinFinding}
 use Rattle.mr_join.specs.declared.finding.JoinFinding.TheVariants as findings
 use Rattle.mr_join.specs.declared.pair.Pair.{Pair}
-use Rattle.mr_join.specs.Verdict.{join_verdict}
+use Rattle.mr_join.specs.Verdict.{Held, join_verdict, MayBreakJoin}
 use Rattle.mr_join.specs.Accepted.{Owned, held, first_clash, second_clash, join_proof, map_pairs}
 
 -- of bytes that are accepted with these pairs: the strings of the first map, where there are two,
@@ -47,3 +50,26 @@ pub record FindsHonestJoin (f g : List ℕ → List ℕ) (m n : Owned) (bytes : 
     (finding : JoinFinding) : Type 0 where
   pub just : IsSound finding ↔ (bytes ≡ join_proof f g m n)
   pub whole : (pairs : List Pair) → finding ≡ findings.Sound pairs → pairs ≡ map_pairs m n
+
+-- a fault that is found is of no flag and no squared radius in either part, whatever the maps
+abbrev pub BreaksNoFlag : JoinFinding → Type 0
+BreaksNoFlag (findings.Refused f) = MayBreakJoin f
+BreaksNoFlag _ = ⊤
+
+-- ---- of maps that need not be told
+
+-- what a client holds of a map that says this of itself
+abbrev pub said_by : (List ℕ → List ℕ) → Top → Held
+said_by hash top = record { of = hash; root = hash (root_at top) }
+
+-- told or not: by the verdict against the root digests of what maps that stand so say of themselves
+pub record FindsForJoin (f g : List ℕ → List ℕ) (s v : MapModel) (bytes : List ℕ)
+    (finding : JoinFinding) : Type 0 where
+  pub top : Top
+  pub other : Top
+  pub is_top : IsTop f s top
+  pub is_other : IsTop g v other
+  pub first : Option clashes.Pair
+  pub second : Option clashes.Pair
+  pub found : finding
+      ≡ finding_of (join_verdict (said_by f top) (said_by g other) bytes) first second

@@ -84,3 +84,8 @@ FitsParts (Some w) first = IsOrdered w × FitsMap w × (length first < 2 ^ 32)
 -- there are such bytes
 abbrev pub FitsFrame : Frame → Type 0
 FitsFrame x = FitsParts x.rect x.first
+
+-- What the bytes hold: one such frame at most, which reading finds.
+pub record ReadsJust (bytes : List ℕ) : Type 0 where
+  pub spelled : (x : Frame) → frame_of bytes ≡ Ok x → bytes ≡ frame_bytes x
+  pub found : (x : Frame) → FitsFrame x → bytes ≡ frame_bytes x → frame_of bytes ≡ Ok x

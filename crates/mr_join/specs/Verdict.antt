@@ -4,7 +4,7 @@ use Rattle.mr_geom.specs.Rectangle.{Rectangle}
 use Rattle.mr_record.specs.Results.{◌>>=◌}
 use Rattle.mr_record.specs.declared.record.Record.{Record}
 use Rattle.mr_proof.specs.declared.rule.Fault.{Fault}
-use Rattle.mr_count.specs.Chosen.{verdict_for}
+use Rattle.mr_count.specs.Chosen.{verdict_for, MayBreak}
 use Rattle.mr_count.specs.Inside.{lies_in}
 use Rattle.mr_count.specs.declared.taken.Taken.{Taken}
 use Rattle.mr_join.specs.declared.fault.FrameRule.TheVariants as rule
@@ -79,3 +79,10 @@ abbrev pub AnswersJoin : Result (List Pair) JoinErr → Result (List Pair) JoinF
 AnswersJoin (Ok pairs) verdict = verdict ≡ Ok pairs
 AnswersJoin (Err (errors.Fault f)) verdict = verdict ≡ Err f
 AnswersJoin (Err errors.NoMemory) verdict = ⊤
+
+-- the rules that it may break: of either part any but those on a flag and a squared radius, which
+-- it does not have
+abbrev pub MayBreakJoin : JoinFault → Type 0
+MayBreakJoin (faults.Frame broken at) = ⊤
+MayBreakJoin (faults.First f) = MayBreak f.rule
+MayBreakJoin (faults.Second f) = MayBreak f.rule

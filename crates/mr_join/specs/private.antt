@@ -5,3 +5,4 @@ pub mod Frames
 pub mod Answers
 pub mod Parts
 pub mod Worths
+pub mod Judging

@@ -1,8 +1,12 @@
 //! The pairs of a join, by its frame.
 
-ghost use Rattle.std.specs.Prelude.{◌≡◌};
+ghost use Rattle.std.specs.Prelude.{◌≡◌, Err};
 ghost use Rattle.mr_count.specs.Inside.{lies_in};
-ghost use Rattle.mr_join.specs.Verdict.{is_rect, pairs_behind, frame_verdict, join_verdict, AnswersJoin};
+ghost use Rattle.mr_outside.specs.Bytes.{AreBytes};
+ghost use Rattle.mr_join.specs.Frame.{ReadsJust};
+ghost use Rattle.mr_join.specs.Parts.{ReadsParts};
+ghost use Rattle.mr_join.specs.Verdict.{is_rect, pairs_behind, frame_verdict, join_verdict, AnswersJoin, MayBreakJoin};
+ghost use Rattle.mr_join.specs.declared.fault.JoinFault as faults;
 ghost use Rattle.mr_join.specs.Accepted.{AcceptedJoinIsHonest, AcceptsHonestJoin};
 ghost use Rattle.mr_join.specs.private.Answers.{Answers, GivesJoined};
 ghost use Rattle.mr_join.specs.private.Frames.{frame_value};
@@ -18,6 +22,11 @@ use mr_outside::Items;
 use mr_record::Record;
 use mr_tree::Hashes;
 use std::alloc::Global;
+
+// What the type tells of its value.
+pub(crate) fn are_bytes(_bytes: &[u8])
+    ensures { AreBytes _bytes.now }
+{}
 
 // Whether the first lies in the second.
 fn lies_in(one: &Rect, other: &Rect) -> bool
@@ -121,6 +130,14 @@ pub fn check_join<H: Hashes>(
 ) -> Result<Pairs, JoinErr>
     ensures exact { AnswersJoin result (join_verdict (record { of = H.of; root = first.now })
         (record { of = H.of; root = second.now }) proof.now) }
+    // What the bytes hold: one frame at most, which reading finds, and what that of its parts
+    // finds.
+    ensures frame { ReadsJust proof.now }
+    ensures parts { ReadsParts (record { of = H.of; root = first.now })
+        (record { of = H.of; root = second.now }) proof.now }
+    // No rule on a flag of version 1 or a squared radius is broken in a part, since there is none.
+    ensures rules { (f : faults.JoinFault) → join_verdict (record { of = H.of; root = first.now })
+        (record { of = H.of; root = second.now }) proof.now ≡ Err f → MayBreakJoin f }
     // What accepted bytes are worth: they are the honest proof of the two maps with these roots,
     // and give all their pairs, or the hash function has a collision. The honest proof of any two
     // maps of version 2 is accepted, and shows no collision.
@@ -131,6 +148,10 @@ pub fn check_join<H: Hashes>(
     honest_join_is_accepted::<H, H>();
     match frame_of(proof) {
         Err(fault) => Err(JoinErr::Fault(fault)),
-        Ok(frame) => pairs_in::<H>(alloc, first, second, proof.len() as u64, &frame),
+        Ok(frame) => {
+            are_bytes(frame.first);
+            are_bytes(frame.second);
+            pairs_in::<H>(alloc, first, second, proof.len() as u64, &frame)
+        }
     }
 }

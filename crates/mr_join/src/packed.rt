@@ -155,8 +155,10 @@ fn next_met(nodes: &[Node], from: usize, rect: &Rect) -> Option<usize>
 /// passes over these where their rectangle is missed. They are cut in halves by their left, lower,
 /// right and upper sides in turn, as points of four numbers (a k-d tree, Bentley 1975).
 ///
-/// A search mostly takes about log n steps. Whatever the entries, it takes at most in proportion to
-/// n to the power 3/4 and to what it finds (Lee and Wong 1977). No clause says so.
+/// A search mostly takes about log n steps: some 60 of 2^20 random rectangles. Whatever the
+/// entries, it takes at most in proportion to n to the power 3/4 and to what it finds (Lee and Wong
+/// 1977). The worst known list of 2^20, of rectangles that each miss a point by one of their four
+/// sides, takes some 17,000. No clause says so.
 #[derive(Drop)]
 pub(crate) struct Packed {
     nodes: Vec<Node>,

@@ -1,15 +1,16 @@
 //! The proof of a join.
 
-ghost use Rattle.std.specs.Prelude.{◌≡◌, ◌<◌, ◌^◌, ◌∷◌, ◌++◌, length, IfOk, IfErr, IfSome, OnOk, OnErr, Some, Ok};
+ghost use Rattle.std.specs.Prelude.{◌≡◌, ◌+◌, ◌≤◌, ◌<◌, ◌^◌, [], ◌∷◌, ◌++◌, length, IfOk, IfErr, IfSome, OnOk, OnErr, Some, Ok};
 ghost use Rattle.std.specs.Int.{w32, to_be_bytes};
 ghost use Rattle.mr_outside.specs.Told.{TakesBytes, TakesFront};
 ghost use Rattle.mr_record.specs.Record.{rectangle_bytes};
 ghost use Rattle.mr_record.specs.declared.version.Version.TheVariants.{Two};
+ghost use Rattle.mr_tree.specs.Tree.{rect};
 ghost use Rattle.mr_tree.specs.Digest.{by};
 ghost use Rattle.mr_tree.specs.Nodes.{TellsRefusal};
 ghost use Rattle.mr_tree.specs.WellFormed.{WellFormed};
 ghost use Rattle.mr_clash.specs.Finding.{root_at};
-ghost use Rattle.mr_proof.specs.Honest.{proof_for};
+ghost use Rattle.mr_proof.specs.Honest.{proof_for, opened_for};
 ghost use Rattle.mr_prove.specs.Causes.{ProveCauses, IsHandedOn, of_nodes};
 ghost use Rattle.mr_count.specs.Chosen.{chosen, verdict_for};
 ghost use Rattle.mr_join.specs.Meets.{meets_way};
@@ -17,6 +18,7 @@ ghost use Rattle.mr_join.specs.Frame.{magic, frame_bytes};
 ghost use Rattle.mr_join.specs.Verdict.{letter};
 ghost use Rattle.mr_join.specs.Accepted.{owned, frame_for, join_proof, AcceptsHonestJoin};
 ghost use Rattle.mr_join.specs.Causes.{watched, JoinCauses, IsHandedByOne};
+ghost use Rattle.mr_join.specs.Fetches.{part_opens, first_opens, second_opens};
 ghost use Rattle.mr_join.specs.private.Parts.{nothing, IsFirstPart, alone_bytes, rect_in};
 
 use crate::Meets;
@@ -57,6 +59,9 @@ fn part_of<N: Nodes>(alloc: Global, nodes: &mut N, meets: &Meets) -> Result<Part
     ensures written { IfSome (N.stands nodes.old).tree (λ t. IfOk result (λ p. p.bytes.items
         ≡ proof_for (by (N.stands nodes.old).version N.Hash.of)
         (chosen letter (meets_way meets.now)) t (N.stands nodes.old).batch)) }
+    ensures fetched { IfSome (N.stands nodes.old).tree (λ t. N.fetches nodes.new ≤
+        N.fetches nodes.old + opened_for (by (N.stands nodes.old).version N.Hash.of)
+        (chosen letter (meets_way meets.now)) t) }
     ensures causes { ProveCauses (N.stands nodes.old) (N.faults nodes.old) (N.faults nodes.new)
         nothing nothing result }
     ensures refused { IfErr result (IsHandedOn (N.refusal nodes.new)) }
@@ -108,6 +113,9 @@ fn first_part<N: Nodes>(alloc: Global, nodes: &mut N, rect: &Rect) -> Result<Fir
     ensures given { IfSome (N.stands nodes.old).tree (λ t. WellFormed t → IfOk result (λ p.
         IsFirstPart N.Hash.of (record { tree = t; batch = (N.stands nodes.old).batch }) rect.now
         p.bytes.items p.records)) }
+    ensures fetched { IfSome (N.stands nodes.old).tree (λ t. N.fetches nodes.new ≤
+        N.fetches nodes.old
+        + part_opens N.Hash.of (owned (N.stands nodes.old) t) (rect.now ∷ [])) }
     ensures causes { ProveCauses (N.stands nodes.old) (N.faults nodes.old) (N.faults nodes.new)
         nothing nothing result }
     ensures refused { IfErr result (IsHandedOn (N.refusal nodes.new)) }
@@ -159,6 +167,9 @@ fn write_behind<N: Nodes, W: Sink>(
         (TakesFront (W.state out.old) (W.state out.new) (front.now
         ++ proof_for (by (N.stands nodes.old).version N.Hash.of)
         (chosen letter (meets_way meets.now)) t (N.stands nodes.old).batch))) }
+    ensures fetched { IfSome (N.stands nodes.old).tree (λ t. N.fetches nodes.new ≤
+        N.fetches nodes.old + opened_for (by (N.stands nodes.old).version N.Hash.of)
+        (chosen letter (meets_way meets.now)) t) }
     ensures causes { ProveCauses (N.stands nodes.old) (N.faults nodes.old) (N.faults nodes.new)
         (W.state out.old) (W.state out.new) result }
     ensures refused { IfErr result (IsHandedOn (N.refusal nodes.new)) }
@@ -190,6 +201,13 @@ fn write_both<A: Nodes, B: Nodes, W: Sink>(
         (TakesFront (W.state out.old) (W.state out.new)
         (frame_bytes (frame_for A.Hash.of B.Hash.of (owned (A.stands first.old) t)
         (owned (B.stands second.old) u) (Some rect.now)))))) }
+    ensures fetched_first { IfSome (A.stands first.old).tree (λ t.
+        A.fetches first.new ≤ A.fetches first.old
+        + first_opens A.Hash.of (owned (A.stands first.old) t) (Some rect.now)) }
+    ensures fetched_second { IfSome (A.stands first.old).tree (λ t. WellFormed t
+        → IfSome (B.stands second.old).tree (λ u. B.fetches second.new ≤ B.fetches second.old
+        + second_opens A.Hash.of B.Hash.of (owned (A.stands first.old) t)
+        (owned (B.stands second.old) u) (Some rect.now))) }
     ensures causes { JoinCauses (watched (A.stands first.old) (A.faults first.old)
         (A.faults first.new)) (watched (B.stands second.old) (B.faults second.old)
         (B.faults second.new)) (W.state out.old) (W.state out.new) result }
@@ -216,6 +234,8 @@ fn write_alone<N: Nodes, W: Sink>(alloc: Global, nodes: &mut N, out: &mut W) -> 
     ensures front { IfSome (N.stands nodes.old).tree (λ u. OnErr result
         (TakesFront (W.state out.old) (W.state out.new)
         (alone_bytes N.Hash.of (owned (N.stands nodes.old) u)))) }
+    ensures fetched { IfSome (N.stands nodes.old).tree (λ u. N.fetches nodes.new ≤
+        N.fetches nodes.old + part_opens N.Hash.of (owned (N.stands nodes.old) u) []) }
     ensures causes { ProveCauses (N.stands nodes.old) (N.faults nodes.old) (N.faults nodes.new)
         (W.state out.old) (W.state out.new) result }
     ensures refused { IfErr result (IsHandedOn (N.refusal nodes.new)) }
@@ -237,12 +257,14 @@ fn rect_of(top: &Top) -> Option<Rect>
 }
 
 /// Writes the proof of the join of two maps of version 2: where both trees are told, the bytes are
-/// `join_proof` of them, which a client accepts.
+/// `join_proof` of them, which a client accepts, and no more nodes are fetched of either map than
+/// its part opens.
 ///
 /// The first map's proof is made first, and kept with the records that it gives; the second map is
 /// asked for those that meet one of them, and its proof goes out as it is made. After a refusal
-/// some front of the proof was taken. Where a tree is not told and its own proof is refused, this
-/// is answered as want of memory.
+/// some front of the proof was taken. It is answered as want of memory too where a tree is not told
+/// and its own proof is refused, and where the first map's proof has 2^32 bytes or more, which is
+/// of no tree that is told.
 pub fn prove_join<A: Nodes, B: Nodes, W: Sink>(
     alloc: Global,
     first: &mut A,
@@ -257,11 +279,17 @@ pub fn prove_join<A: Nodes, B: Nodes, W: Sink>(
         (λ u. OnOk result (TakesBytes (W.state out.old) (W.state out.new)
         (join_proof A.Hash.of B.Hash.of (owned (A.stands first.old) t)
         (owned (B.stands second.old) u))))) }
-    ensures front { IfSome (A.stands first.old).tree (λ t. WellFormed t
-        → IfSome (B.stands second.old).tree (λ u. OnErr result
-        (TakesFront (W.state out.old) (W.state out.new)
+    ensures front { IfSome (A.stands first.old).tree (λ t. IfSome (B.stands second.old).tree
+        (λ u. OnErr result (TakesFront (W.state out.old) (W.state out.new)
         (join_proof A.Hash.of B.Hash.of (owned (A.stands first.old) t)
         (owned (B.stands second.old) u))))) }
+    ensures fetched_first { IfSome (A.stands first.old).tree (λ t.
+        IfSome (B.stands second.old).tree (λ u. A.fetches first.new ≤ A.fetches first.old
+        + first_opens A.Hash.of (owned (A.stands first.old) t) (rect u))) }
+    ensures fetched_second { IfSome (A.stands first.old).tree (λ t.
+        IfSome (B.stands second.old).tree (λ u. B.fetches second.new ≤ B.fetches second.old
+        + second_opens A.Hash.of B.Hash.of (owned (A.stands first.old) t)
+        (owned (B.stands second.old) u) (rect u))) }
     ensures causes { JoinCauses (watched (A.stands first.old) (A.faults first.old)
         (A.faults first.new)) (watched (B.stands second.old) (B.faults second.old)
         (B.faults second.new)) (W.state out.old) (W.state out.new) result }

@@ -1,5 +1,6 @@
 pub mod Paging
 pub mod Running
+pub mod Quiet
 pub mod Gating
 pub mod Walking
 pub mod Replaying

@@ -5,6 +5,7 @@ use Rattle.std.proofs.lemmas.Grind.{fold-append}
 use Rattle.std.proofs.lemmas.List.Sums.{fold_more}
 use Rattle.mr_outside.proofs.Rises.{next_count-Rose}
 use Rattle.mr_journal.proofs.Running.{answered}
+use Rattle.mr_journal.proofs.Quiet.{on_answer}
 use Rattle.std.proofs.lemmas.Bool.{cases_lt}
 use Rattle.std.specs.declared.alloc.Global.{Global}
 use Rattle.mr_outside.specs.Faults.{Rose, next_count}
@@ -193,9 +194,10 @@ stored_none area first = refl
 pub kept_passes : {A : Type 0} (m j m' j' : List ℕ) (calls calls' : List Call) (call : Call) (f f' : ℕ)
     (r : Result A DiskErr) (step : Image → Image → Type 0) → m' ≡ m → j' ≡ j → calls' ≡ calls ++ call ∷ []
     → Steps (first_image m j) calls call step → (IsErrOf r Fault → Rose f f') → f ≤ f'
+    → ((x : A) → r ≡ answered x → f' ≡ f)
     → IsDiskCall (memory_state (first_image m j) calls f) (memory_state (first_image m' j') calls' f')
     (left_since (first_image m j) calls) (left_since (first_image m' j') calls') r step
-kept_passes m j m' j' calls calls' call f f' r step p q e steps fault faults =
+kept_passes m j m' j' calls calls' call f f' r step p q e steps fault faults quiet =
     let first = first_image m j in
     let P : Image → List Call → Type 0 = λ i cs. IsDiskCall (memory_state first calls f) (memory_state i cs f')
     (left_since first calls) (left_since i cs) r step in
@@ -205,8 +207,12 @@ kept_passes m j m' j' calls calls' call f f' r step p q e steps fault faults =
     (record {
       moves = moves_more first calls call f f' step steps;
       ticks = ticks_more first calls call f f' r;
-      causes =
-          record { fault = fault; faults = faults };
+      causes = record {
+        fault = fault;
+        faults = faults;
+        told = refl;
+        quiet = λ some. on_answer r (f' ≡ f) quiet;
+      };
     })))
 
 pub kept_held : (m j m' j' : List ℕ) (calls calls' : List Call) (call : Call) → m' ≡ m → j' ≡ j

@@ -1,5 +1,5 @@
 -- What the calls of a shelf make of a disk over two of its files.
-use Rattle.std.proofs.Common.{◌≡◌, ◌≢◌, ◌⊎◌, inl, inr, ⊎_elim, ℕ, ◌+◌, ◌<◌, ◌≤◌, List, [], ◌∷◌, ◌++◌, length, take, drop, true, false, is_some, Option, Some, None, Result, Ok, Err, IfSome, IsSomeAnd, MatchOption, OnOk, OnErr, IsErrOf, refl, sym, ap, ◌∙◌, subst, arith, length-append, add-zero}
+use Rattle.std.proofs.Common.{◌≡◌, ◌≢◌, ◌⊎◌, inl, inr, ⊎_elim, ℕ, ◌+◌, ◌<◌, ◌≤◌, List, [], ◌∷◌, ◌++◌, length, take, drop, true, false, is_some, Option, Some, None, Result, Ok, Err, IsSome, IfSome, IsSomeAnd, MatchOption, OnOk, OnErr, IsErrOf, refl, sym, ap, ◌∙◌, subst, arith, length-append, add-zero}
 use Rattle.std.proofs.lemmas.Bool.{cases_lt}
 use Rattle.std.specs.Prelude.{option_map, ⊤}
 use Rattle.std.specs.Result.{IsErr}
@@ -21,6 +21,7 @@ use Rattle.mr_journal.specs.Moments.{AddsSteps, IsDiskCall, IsDurable}
 use Rattle.mr_journal.specs.Shelves.{or_none, bytes_or_none, image_on, disk_state, images_on, KeepsBeside}
 use Rattle.mr_journal.specs.private.FileChanges.{name_of, KeepsRest, ChangesFile, WritesFront, AppendsFront, WritesBytes}
 use Rattle.mr_journal.proofs.Running.{contents_move}
+use Rattle.mr_journal.proofs.Quiet.{some_map}
 use Rattle.mr_journal.proofs.Replaying.{written_torn}
 
 -- ---- bytes
@@ -316,14 +317,20 @@ not_true : false ≡ true → ⊥
 not_true t = cc
 
 module _ {A : Type 0} (m j : List ℕ) (s u : Shelved) (r : Result A DiskErr) (fault : IsErrOf r Fault
-    → Rose s.faults u.faults) (faults : s.faults ≤ u.faults) where
+    → Rose s.faults u.faults) (faults : s.faults ≤ u.faults)
+    (quiet : IsSome s.files → OnOk r (u.faults ≡ s.faults)) where
   passed : (step : Image → Image → Type 0)
       → AddsSteps (disk_state m j s) (disk_state m j u) (images_on m j s) (images_on m j u) step
       → IsDiskCall (disk_state m j s) (disk_state m j u) (images_on m j s) (images_on m j u) r step
   passed step moves = record {
     moves = moves;
     ticks = record { rises = λ t n. absurd (not_true t); keeps = λ t. absurd (not_true t) };
-    causes = record { fault = fault; faults = faults };
+    causes = record {
+      fault = fault;
+      faults = faults;
+      told = moves.told;
+      quiet = λ some. quiet (sym (some_map (image_on m j) s.files) ∙ some);
+    };
   }
 
   pub shelf_wrote : (area : Area) (at : ℕ) (bytes : List ℕ) → m ≢ j

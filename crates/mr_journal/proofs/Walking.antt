@@ -1,5 +1,5 @@
 -- On the way through the pages of a journal.
-use Rattle.std.proofs.Common.{◌≡◌, ℕ, zero, suc, ◌+◌, ◌-◌, ◌*◌, ◌<◌, ◌≤◌, max, true, List, [], ◌∷◌, ◌++◌, length, take, drop, Option, Some, None, IfSome, option_map, refl, sym, ap, ◌∙◌, subst, arith, append_assoc}
+use Rattle.std.proofs.Common.{◌≡◌, ℕ, zero, suc, ◌+◌, ◌-◌, ◌*◌, ◌<◌, ◌≤◌, max, true, List, [], ◌∷◌, ◌++◌, length, take, drop, Option, Some, None, IsSome, IfSome, option_map, refl, sym, ap, ◌∙◌, subst, arith, append_assoc}
 use Rattle.mr_outside.specs.Files.{replaced}
 use Rattle.mr_journal.specs.declared.disk.Area.TheVariants.{Map}
 use Rattle.mr_journal.specs.Images.{Image, DiskState, written, InArea}
@@ -24,6 +24,7 @@ pub record OnTheWay (a b : DiskState) (s u : ImagesSince) (size : ℕ) (all : Li
       (with_pages size all) a.contents
   pub moves : AddsSteps a b s u (InArea Map (Torn (places size all)))
   pub faults : a.faults ≤ b.faults
+  pub quiet : IsSome a.contents → b.faults ≡ a.faults
 
 pub way_start : (a : DiskState) (s : ImagesSince) (size count : ℕ) (bytes : List ℕ) (reach : ℕ)
     → pages_fit size 0 reach (entries size count bytes) ≡ true
@@ -39,6 +40,7 @@ way_start a s size count bytes reach whole begins = record {
   makes = refl;
   moves = course_start a s (IsAfterStep a s (InArea Map (Torn (places size (entries size count bytes)))));
   faults = omega arith;
+  quiet = λ some. refl;
 }
 
 pub way_begins : (size low left : ℕ) (rest : List ℕ) (o : Option Image) → 0 < left
@@ -88,9 +90,9 @@ pub way_step : (a b c : DiskState) (s u w : ImagesSince) (size left : ℕ) (all 
     → after ≡ drop (4 + size) rest → c.contents ≡ option_map
     (written Map (number_of rest * size) (take size (drop 4 rest))) b.contents
     → AddsSteps b c u w (InArea Map (TornAt (number_of rest * size) size)) → b.faults ≤ c.faults
-    → OnTheWay a c s w size all (left - 1) after
-way_step a b c s u w size zero all rest after more earlier way is put moves faults = absurd (omega arith)
-way_step a b c s u w size (suc n) all rest after more earlier way is put moves faults =
+    → (IsSome b.contents → c.faults ≡ b.faults) → OnTheWay a c s w size all (left - 1) after
+way_step a b c s u w size zero all rest after more earlier way is put moves faults quiet = absurd (omega arith)
+way_step a b c s u w size (suc n) all rest after more earlier way is put moves faults quiet =
     let page = first_page size rest in
     let tail = entries size n (drop (4 + size) rest) in
     let p = placed_parts size way.low way.reach page tail way.whole in
@@ -107,6 +109,7 @@ way_step a b c s u w size (suc n) all rest after more earlier way is put moves f
       makes = ap (option_map (with_pages size tail)) put ∙ makes_next size page tail b.contents ∙ way.makes;
       moves = way_moves a b c s u w size (suc n) all rest more earlier way moves;
       faults = omega (arith, way.faults, faults);
+      quiet = λ some. quiet (way.moves.told ∙ some) ∙ way.quiet some;
     } in
     subst (λ (l : List ℕ). OnTheWay a c s w size all (suc n - 1) l) (sym is)
     (subst (λ (k : ℕ). OnTheWay a c s w size all k (drop (4 + size) rest)) count step)

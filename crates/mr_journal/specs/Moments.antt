@@ -1,6 +1,6 @@
 -- What a call of a disk, or a run of calls, adds to what a crash may leave. In all of these `past`
 -- and `now` are what counts as an image of the disk since a time, before the call and after it.
-use Rattle.std.specs.Prelude.{◌≡◌, ◌⊎◌, ℕ, ◌<◌, ◌≤◌, IsTrue, is_some, IsSomeAnd, Some, Result, IsErrOf, OnOk}
+use Rattle.std.specs.Prelude.{◌≡◌, ◌⊎◌, ℕ, ◌<◌, ◌≤◌, IsTrue, is_some, IsSome, IsSomeAnd, Some, Result, IsErrOf, OnOk}
 use Rattle.mr_outside.specs.Faults.{Rose}
 use Rattle.mr_journal.specs.Images.{Image, DiskState, part}
 use Rattle.mr_journal.specs.declared.disk.Area.{Area}
@@ -61,11 +61,14 @@ pub record LeadsThrough {A : Type 0} (before after : DiskState) (past now : Imag
   pub meanwhile : EveryImage before past P → AddsOnly before after past now Q
   pub done : EveryImage before past P → OnOk result (EveryImage after now R)
 
--- Fault comes only where the count of faults rose, and it never falls.
+-- Fault comes only where the count of faults rose, and it never falls. Where the contents are told,
+-- which never changes, a call that is answered counts no fault.
 pub record DiskCauses {A : Type 0} (before after : DiskState) (result : Result A DiskErr)
     : Type 0 where
   pub fault : IsErrOf result Fault → Rose before.faults after.faults
   pub faults : before.faults ≤ after.faults
+  pub told : is_some after.contents ≡ is_some before.contents
+  pub quiet : IsSome before.contents → OnOk result (after.faults ≡ before.faults)
 
 -- One call of a disk: what it adds to what a crash may leave, its time, and why it may be refused.
 pub record IsDiskCall {A : Type 0} (before after : DiskState) (past now : ImagesSince)

@@ -1,6 +1,6 @@
 //! A map and its journal in two files of a shelf.
 
-ghost use Rattle.std.specs.Prelude.{◌≡◌, ◌≢◌, ◌≤◌, false, IfOk, IsErrOf};
+ghost use Rattle.std.specs.Prelude.{◌≡◌, ◌≢◌, ◌≤◌, false, IsSome, IfOk, OnOk, IsErrOf};
 ghost use Rattle.mr_outside.specs.Faults.{Rose};
 ghost use Rattle.mr_journal.specs.Shelves.{KeepsBeside};
 ghost use Rattle.mr_journal.specs.Recovered.{RecoversMap};
@@ -29,6 +29,9 @@ pub fn recover_files<S: Shelf>(
     ensures fault { IsErrOf result.0 DiskErr.Fault
         → Rose (S.state shelf).faults (S.state result.1).faults }
     ensures faults { (S.state shelf).faults ≤ (S.state result.1).faults }
+    // Over files that are told a call that is answered counts no fault.
+    ensures quiet { IsSome (S.state shelf).files
+        → OnOk result.0 ((S.state result.1).faults ≡ (S.state shelf).faults) }
     ensures reads { (S.state shelf).reads ≤ (S.state result.1).reads }
 {
     match ShelfDisk::new(alloc, shelf, map, journal) {

@@ -1,6 +1,6 @@
 //! A disk over two files of a shelf.
 
-ghost use Rattle.std.specs.Prelude.{◌≡◌, ◌≢◌, ◌+◌, ◌≤◌, ◌<◌, ◌++◌, length, None, IfOk, OnOk, IsErrOf, MatchResult};
+ghost use Rattle.std.specs.Prelude.{◌≡◌, ◌≢◌, ◌+◌, ◌≤◌, ◌<◌, ◌++◌, length, None, IsSome, IfOk, OnOk, IsErrOf, MatchResult};
 ghost use Rattle.std.specs.String.{string_bytes};
 ghost use Rattle.std.proofs.Common.{refl, ◌∙◌};
 ghost use Rattle.std.proofs.Props.{props};
@@ -99,6 +99,8 @@ fn length_of<S: Shelf>(shelf: &mut S, name: &str) -> Result<u64, DiskErr>
     ensures fault { IsErrOf result DiskErr.Fault
         → Rose (S.state shelf.old).faults (S.state shelf.new).faults }
     ensures faults { (S.state shelf.old).faults ≤ (S.state shelf.new).faults }
+    ensures quiet { IsSome (S.state shelf.old).files
+        → OnOk result ((S.state shelf.new).faults ≡ (S.state shelf.old).faults) }
 {
     match shelf.size(name) {
         Ok(length) => Ok(length),
@@ -124,6 +126,8 @@ fn read_existing<S: Shelf>(
     ensures fault { IsErrOf result DiskErr.Fault
         → Rose (S.state shelf.old).faults (S.state shelf.new).faults }
     ensures faults { (S.state shelf.old).faults ≤ (S.state shelf.new).faults }
+    ensures quiet { IsSome (S.state shelf.old).files
+        → OnOk result ((S.state shelf.new).faults ≡ (S.state shelf.old).faults) }
 {
     match shelf.read_at(name, at, into) {
         Ok(count) => Ok(count),
@@ -148,6 +152,8 @@ fn read_or_empty<S: Shelf>(
     ensures fault { IsErrOf result DiskErr.Fault
         → Rose (S.state shelf.old).faults (S.state shelf.new).faults }
     ensures faults { (S.state shelf.old).faults ≤ (S.state shelf.new).faults }
+    ensures quiet { IsSome (S.state shelf.old).files
+        → OnOk result ((S.state shelf.new).faults ≡ (S.state shelf.old).faults) }
 {
     if length_of(shelf, name)? == 0 {
         return Ok(0);
@@ -165,6 +171,8 @@ fn create_file<S: Shelf>(shelf: &mut S, name: &str) -> Result<(), DiskErr>
     ensures fault { IsErrOf result DiskErr.Fault
         → Rose (S.state shelf.old).faults (S.state shelf.new).faults }
     ensures faults { (S.state shelf.old).faults ≤ (S.state shelf.new).faults }
+    ensures quiet { IsSome (S.state shelf.old).files
+        → OnOk result ((S.state shelf.new).faults ≡ (S.state shelf.old).faults) }
 {
     match shelf.create(name) {
         Ok(()) => Ok(()),
@@ -185,6 +193,8 @@ fn size_or_create<S: Shelf>(shelf: &mut S, name: &str) -> Result<u64, DiskErr>
     ensures fault { IsErrOf result DiskErr.Fault
         → Rose (S.state shelf.old).faults (S.state shelf.new).faults }
     ensures faults { (S.state shelf.old).faults ≤ (S.state shelf.new).faults }
+    ensures quiet { IsSome (S.state shelf.old).files
+        → OnOk result ((S.state shelf.new).faults ≡ (S.state shelf.old).faults) }
 {
     match shelf.size(name) {
         Ok(length) => Ok(length),
@@ -221,6 +231,8 @@ fn overwrite<S: Shelf>(shelf: &mut S, name: &str, at: u64, bytes: &[u8]) -> Resu
     ensures fault { IsErrOf result DiskErr.Fault
         → Rose (S.state shelf.old).faults (S.state shelf.new).faults }
     ensures faults { (S.state shelf.old).faults ≤ (S.state shelf.new).faults }
+    ensures quiet { IsSome (S.state shelf.old).files
+        → OnOk result ((S.state shelf.new).faults ≡ (S.state shelf.old).faults) }
 {
     if bytes.is_empty() {
         return Ok(());
@@ -244,6 +256,8 @@ fn append<S: Shelf>(shelf: &mut S, name: &str, bytes: &[u8]) -> Result<(), DiskE
     ensures fault { IsErrOf result DiskErr.Fault
         → Rose (S.state shelf.old).faults (S.state shelf.new).faults }
     ensures faults { (S.state shelf.old).faults ≤ (S.state shelf.new).faults }
+    ensures quiet { IsSome (S.state shelf.old).files
+        → OnOk result ((S.state shelf.new).faults ≡ (S.state shelf.old).faults) }
 {
     if bytes.is_empty() {
         return Ok(());
@@ -266,6 +280,8 @@ fn write_bytes<S: Shelf>(shelf: &mut S, name: &str, at: u64, bytes: &[u8]) -> Re
     ensures fault { IsErrOf result DiskErr.Fault
         → Rose (S.state shelf.old).faults (S.state shelf.new).faults }
     ensures faults { (S.state shelf.old).faults ≤ (S.state shelf.new).faults }
+    ensures quiet { IsSome (S.state shelf.old).files
+        → OnOk result ((S.state shelf.new).faults ≡ (S.state shelf.old).faults) }
 {
     let length = size_or_create(shelf, name)?;
     let (front, rest) = bytes.split_at(overlap(length, at, bytes.len()));
@@ -280,6 +296,8 @@ fn sync_file<S: Shelf>(shelf: &mut S, name: &str) -> Result<(), DiskErr>
     ensures fault { IsErrOf result DiskErr.Fault
         → Rose (S.state shelf.old).faults (S.state shelf.new).faults }
     ensures faults { (S.state shelf.old).faults ≤ (S.state shelf.new).faults }
+    ensures quiet { IsSome (S.state shelf.old).files
+        → OnOk result ((S.state shelf.new).faults ≡ (S.state shelf.old).faults) }
 {
     match shelf.sync(name) {
         Ok(()) => Ok(()),

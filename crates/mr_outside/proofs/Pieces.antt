@@ -1,5 +1,5 @@
 -- A file that is read from its front, piece by piece.
-use Rattle.std.proofs.Common.{◌≡◌, ℕ, ◌+◌, ◌-◌, ◌<◌, ◌≤◌, min, List, [], ◌++◌, length, take, drop, Option, Some, None, MatchOption, Result, OnOk, subst, refl, sym, ap, ◌∙◌, arith, length-append, length-take-le, length-drop, take_all}
+use Rattle.std.proofs.Common.{◌≡◌, ℕ, ◌+◌, ◌-◌, ◌<◌, ◌≤◌, min, List, [], ◌++◌, length, take, drop, Option, Some, None, is_some, MatchOption, Result, OnOk, subst, refl, sym, ap, ◌∙◌, arith, length-append, length-take-le, length-drop, take_all}
 use Rattle.std.proofs.Math.Seq.{take-add}
 use Rattle.mr_outside.specs.Files.{Files, file}
 use Rattle.mr_outside.specs.Told.{OfFile, MayMiss}
@@ -25,6 +25,7 @@ ShelfCauses-later name before between after result files quiet later = record {
   fault = λ e. later_then_rose before.faults between.faults after.faults (omega (arith, quiet)) (later.fault e);
   faults = omega (arith, quiet, later.faults);
   quiet = subst (λ n. OnOk result (after.faults ≡ n)) quiet later.quiet;
+  absent = λ e told. later.absent e (ap is_some files ∙ told) ∙ quiet;
 }
 
 of_found : (found : Option (List ℕ)) (P Q : List ℕ → Type 0) → ((bytes : List ℕ) → P bytes → Q bytes)

@@ -1,5 +1,5 @@
 -- A shelf and a sink in memory as their callers see them, with calls that fail by their number.
-use Rattle.std.specs.Prelude.{ℕ, ◌/◌, Bool, List, length, take, Some, ◌==◌, map, if◌then◌else◌, refl, string_bytes, String, Vec}
+use Rattle.std.specs.Prelude.{ℕ, ◌/◌, Bool, List, length, take, Some, ◌==◌, map, if◌then◌else◌, refl, string_bytes, String}
 use Rattle.std.specs.List.{list_any}
 use Rattle.std.specs.Coded.{Coded, code_by, coded×, coded_ℕ, coded_list}
 use Rattle.std.specs.FinMap as finite
@@ -7,6 +7,7 @@ use Rattle.std.specs.BTreeMap.{BTreeMap}
 use Rattle.std.specs.declared.alloc.Global.{Global}
 use Rattle.mr_outside.specs.Files.{Files}
 use Rattle.mr_outside.specs.Faults.{next_count}
+use Rattle.mr_outside.specs.declared.held.Held.{Held}
 use Rattle.mr_outside.specs.State.{Shelved, Sunk}
 
 -- calls that are numbered from 1
@@ -61,8 +62,8 @@ abbrev pub shelved : MemoryShelf → Shelved
 shelved s = record { files = Some s.files; faults = s.calls.faults; reads = s.reads }
 
 -- the files of a map from names to contents
-abbrev pub files_of : BTreeMap (String Global) (Vec ℕ Global) → Files
-files_of m = finite.from_entries (map (λ e. (string_bytes e.0, e.1.items)) m.entries)
+abbrev pub files_of : BTreeMap (String Global) Held → Files
+files_of m = finite.from_entries (map (λ e. (string_bytes e.0, e.1.cells.items)) m.entries)
 
 pub record MemorySink : Type 0 where
   -- all bytes taken

@@ -1,6 +1,7 @@
 -- What is known of an object outside: all that it holds where it tells, and nothing where it does
 -- not.
 use Rattle.std.specs.Prelude.{◌≡◌, ℕ, List, ◌++◌, Option, Some, None, option_map, MatchOption, ⊤}
+use Rattle.mr_outside.specs.Bytes.{AreBytes}
 use Rattle.mr_outside.specs.Files.{Files, file}
 use Rattle.mr_outside.specs.Faults.{Rose}
 use Rattle.mr_outside.specs.State.{Sunk}
@@ -13,6 +14,10 @@ OfFiles (Some files) P = P files
 -- where the files are told: P where the name is absent, Q of the file's bytes where it is there
 abbrev pub OfFile : Option Files → List ℕ → Type 0 → (List ℕ → Type 0) → Type 0
 OfFile told name P Q = OfFiles told (λ files. MatchOption (file files name) P Q)
+
+-- each file that is told is of bytes
+abbrev pub HoldBytes : Option Files → Type 0
+HoldBytes told = (name : List ℕ) → OfFile told name ⊤ AreBytes
 
 -- why a call on this name may answer that there is no such file: it is told and absent, or a fault
 -- was counted

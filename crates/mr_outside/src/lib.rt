@@ -5,6 +5,7 @@
 mod buffer;
 mod calls;
 mod gate;
+mod held;
 mod items;
 mod mem_shelf;
 mod mem_sink;

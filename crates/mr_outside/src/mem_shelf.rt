@@ -2,8 +2,8 @@
 
 ghost use Rattle.std.specs.Prelude.{◌≡◌, ◌+◌, ◌-◌, ◌≤◌, ◌++◌, ◌↔◌, ◌⊎◌, [], ⊤, Some, None, IsTrue, IfOk, OnOk, OnErr, IsErrOf, option_map, length, min, take, drop};
 ghost use Rattle.mr_outside.specs.Bytes.{AreBytes};
-ghost use Rattle.mr_outside.specs.Files.{file, with_file, grown, replaced, overwritten};
-ghost use Rattle.mr_outside.specs.Told.{OfFile};
+ghost use Rattle.mr_outside.specs.Files.{file, with_file, grown, overwritten};
+ghost use Rattle.mr_outside.specs.Told.{OfFile, HoldBytes};
 ghost use Rattle.mr_outside.specs.Causes.{ShelfCauses, CountsRead};
 ghost use Rattle.mr_outside.specs.Reading.{FillsFront, GivesFrom};
 ghost use Rattle.mr_outside.specs.Writing.{IsThere, WritesOrFront};
@@ -11,6 +11,7 @@ ghost use Rattle.mr_outside.specs.Memory.{no_calls, next_fails, called, half_of,
 ghost use Rattle.std.specs.FinMap as finite;
 
 use crate::calls::Calls;
+use crate::held::Held;
 use crate::{Shelf, ShelfErr};
 use std::alloc::{AllocError, Global};
 use std::collections::BTreeMap;
@@ -21,7 +22,7 @@ use std::marker::Model;
 #[derive(Drop)]
 pub struct MemShelf {
     alloc: Global,
-    files: BTreeMap<String, Vec<u8>>,
+    files: BTreeMap<String, Held>,
     calls: Calls,
     reads: u64,
 }
@@ -83,6 +84,7 @@ impl Shelf for MemShelf {
         ensures fails { IsErrOf result ShelfErr.Fault ↔ IsTrue (next_fails self.old.calls) }
         ensures memory { ¬ IsErrOf result ShelfErr.NoMemory }
         ensures bytes { OfFile (Some self.old.files) name.now ⊤ AreBytes }
+        ensures every { HoldBytes (Some self.old.files) }
         ensures length { IfOk result (λ n. OfFile (Some self.old.files) name.now ⊥
             (λ bytes. n ≡ length bytes)) }
         ensures causes { ShelfCauses name.now (shelved self.old) (shelved self.new) result }
@@ -197,26 +199,20 @@ impl Shelf for MemShelf {
     }
 }
 
-fn bytes_of<'a>(files: &'a BTreeMap<String, Vec<u8>>, name: &str) -> Option<&'a [u8]>
+fn bytes_of<'a>(files: &'a BTreeMap<String, Held>, name: &str) -> Option<&'a [u8]>
     ensures bytes { OfFile (Some (files_of files.now)) name.now ⊤ AreBytes }
+    ensures every { HoldBytes (Some (files_of files.now)) }
     ensures found { option_map (λ bytes. bytes.now) result ≡ file (files_of files.now) name.now }
 {
     match files.get(name) {
-        Some(bytes) => Some(cells(bytes)),
+        Some(held) => Some(held.as_slice()),
         None => None,
     }
 }
 
-fn cells(list: &Vec<u8>) -> &[u8]
-    ensures all { result.now ≡ list.now.items }
-    ensures bytes { AreBytes result.now }
-{
-    list.as_slice()
-}
-
 fn set_file(
     alloc: Global,
-    files: &mut BTreeMap<String, Vec<u8>>,
+    files: &mut BTreeMap<String, Held>,
     name: &str,
     bytes: &[u8],
 ) -> Result<(), AllocError>
@@ -225,13 +221,13 @@ fn set_file(
     ensures err { OnErr result (files_of files.new ≡ files_of files.old) }
 {
     let name = String::from_str(alloc, name)?;
-    let bytes = Vec::from_slice(alloc, bytes)?;
-    files.insert(name, bytes)?;
+    let held = Held::new(alloc, bytes)?;
+    files.insert(name, held)?;
     Ok(())
 }
 
 // Puts the bytes to the end of the named file.
-fn grow(files: &mut BTreeMap<String, Vec<u8>>, name: &str, bytes: &[u8]) -> Result<(), ShelfErr>
+fn grow(files: &mut BTreeMap<String, Held>, name: &str, bytes: &[u8]) -> Result<(), ShelfErr>
     ensures grown { OnOk result
         (files_of files.new ≡ grown name.now bytes.now (files_of files.old)) }
     ensures there { OnOk result (IsThere (Some (files_of files.old)) name.now) }
@@ -241,7 +237,7 @@ fn grow(files: &mut BTreeMap<String, Vec<u8>>, name: &str, bytes: &[u8]) -> Resu
 {
     match files.get_mut(name) {
         Some(held) => {
-            held.extend_from_slice(bytes)?;
+            held.extend(bytes)?;
             Ok(())
         }
         None => Err(ShelfErr::Missing),
@@ -250,7 +246,7 @@ fn grow(files: &mut BTreeMap<String, Vec<u8>>, name: &str, bytes: &[u8]) -> Resu
 
 // Replaces the bytes of the named file from a place on.
 fn overwrite(
-    files: &mut BTreeMap<String, Vec<u8>>,
+    files: &mut BTreeMap<String, Held>,
     name: &str,
     at: u64,
     bytes: &[u8],
@@ -266,20 +262,11 @@ fn overwrite(
 {
     match files.get_mut(name) {
         Some(held) => {
-            replace(held.as_mut_slice(), at as usize, bytes);
+            held.replace(at as usize, bytes);
             Ok(())
         }
         None => Err(ShelfErr::Missing),
     }
-}
-
-fn replace(held: &mut [u8], at: usize, bytes: &[u8])
-    requires { at + length bytes.now ≤ length held.old }
-    ensures { held.new ≡ replaced at bytes.now held.old }
-{
-    let (_, behind) = held.split_at_mut(at);
-    let (place, _) = behind.split_at_mut(bytes.len());
-    place.copy_from_slice(bytes);
 }
 
 // Copies what stands from a place on to the front of `into`, as far as both go.

@@ -4,7 +4,7 @@ ghost use Rattle.std.specs.Prelude.{◌≡◌, ◌+◌, ◌≤◌, [], length, N
 ghost use Rattle.mr_outside.specs.Bytes.{AreBytes};
 ghost use Rattle.mr_outside.specs.Files.{with_file, grown, overwritten};
 ghost use Rattle.mr_outside.specs.State.{Shelved};
-ghost use Rattle.mr_outside.specs.Told.{OfFile};
+ghost use Rattle.mr_outside.specs.Told.{OfFile, HoldBytes};
 ghost use Rattle.mr_outside.specs.Causes.{ShelfCauses, CountsRead};
 ghost use Rattle.mr_outside.specs.Reading.{FillsFront, GivesFrom};
 ghost use Rattle.mr_outside.specs.Writing.{IsThere, IsChanged, WritesOrFront};
@@ -43,9 +43,11 @@ pub trait Shelf {
     /// The files where they are told, and the counts.
     ghost state: { Self → Shelved };
 
-    /// The length of the file in bytes. What is told of it are bytes, whatever is answered.
+    /// The length of the file in bytes. What is told of it and of each other file are bytes,
+    /// whatever is answered.
     fn size(&mut self, name: &str) -> Result<u64, ShelfErr>
         ensures bytes { OfFile (state self.old).files name.now ⊤ AreBytes }
+        ensures every { HoldBytes (state self.old).files }
         ensures length { IfOk result (λ n. OfFile (state self.old).files name.now ⊥
             (λ bytes. n ≡ length bytes)) }
         ensures causes { ShelfCauses name.now (state self.old) (state self.new) result }

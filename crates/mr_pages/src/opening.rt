@@ -1,7 +1,7 @@
 //! Opening a map.
 
 ghost use Rattle.std.specs.Prelude.{◌≡◌, ◌≤◌, ◌+◌, ◌/◌, ⊤, ℕ, List, length, max, Some, Err, IfOk};
-ghost use Rattle.mr_outside.specs.Told.{OfFile};
+ghost use Rattle.mr_outside.specs.Told.{OfFile, HoldBytes};
 ghost use Rattle.mr_record.specs.private.Bytes.{AreBytes};
 ghost use Rattle.mr_record.specs.declared.version.Version as versions;
 ghost use Rattle.mr_pages.specs.PageBytes.{form_of, form_by, IsLayout};
@@ -128,6 +128,7 @@ fn open_named<H: Hashes, S: Shelf>(
         AgreesWithFault (form_by v) H.of bytes }
     ensures agrees { OfFile (S.state shelf.old).files name.now ⊤
         (λ bytes. AgreesWithFault (form_at bytes) H.of bytes) }
+    ensures every { HoldBytes (S.state shelf.old).files }
     ensures causes { MapCauses name.now (S.state shelf.old) (S.state shelf.new) result }
     ensures files { (S.state shelf.new).files ≡ (S.state shelf.old).files }
     ensures reads { (S.state shelf.old).reads ≤ (S.state shelf.new).reads }
@@ -178,6 +179,7 @@ pub fn open_plain<H: Hash32, S: Shelf>(
         AgreesWithFault (form_by v) H.of bytes }
     ensures agrees { OfFile (S.state shelf.old).files name.now ⊤
         (λ bytes. AgreesWithFault (form_at bytes) H.of bytes) }
+    ensures every { HoldBytes (S.state shelf.old).files }
     ensures version { (v : versions.Version) (bytes : List ℕ) (t : trees.Tree) (b : ℕ) →
         StandsForTree (form_by v) H.of bytes t b → version_of bytes ≡ v }
 

@@ -42,7 +42,7 @@ has_bytes : (word : List ℕ) → not (eqb (length word) 0) ≡ true → 0 < len
 has_bytes [] is = absurd cc
 has_bytes (b ∷ bytes) is = omega arith
 
-differ : (a b : List ℕ) → not (bytes_eq a b) ≡ true → a ≢ b
+pub differ : (a b : List ℕ) → not (bytes_eq a b) ≡ true → a ≢ b
 differ a b e same = both_ways (bytes_eq a b) (not-true (bytes_eq a b) e) ((bytes_eq-Decides a b).1 same)
 
 fresh_so : (word last earlier : List ℕ) → is_fresh word last earlier ≡ true
@@ -169,7 +169,7 @@ stand (kind ∷ kinds) (word ∷ words) last earlier right is =
 keeps_bytes : (word : List ℕ) → 0 < length word → not (eqb (length word) 0) ≡ true
 keeps_bytes word some = ap not (ne_eqb (length word) 0 (λ same. omega (arith, some, same)))
 
-keeps_apart : (a b : List ℕ) → a ≢ b → not (bytes_eq a b) ≡ true
+pub keeps_apart : (a b : List ℕ) → a ≢ b → not (bytes_eq a b) ≡ true
 keeps_apart a b apart = ap not (false_from_ne_true (bytes_eq a b) (λ t. apart ((bytes_eq-Decides a b).0 t)))
 
 found_within : (least most value : ℕ) → ltb most (2 ^ 64) ≡ true → (least ≤ value) × (value ≤ most)

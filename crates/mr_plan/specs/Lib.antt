@@ -2,6 +2,7 @@ pub mod Status
 pub mod First
 pub mod Words
 pub mod Counts
+pub mod Joins
 pub mod Found
 pub mod Outcome
 pub mod Lines

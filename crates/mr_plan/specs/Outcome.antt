@@ -1,13 +1,17 @@
 -- What a command comes to: its status, what it prints and what it writes.
-use Rattle.std.specs.Prelude.{◌≡◌, ◌⊎◌, ℕ, ◌+◌, ◌≤◌, max, false, List, ◌++◌, Option, Some, None, IfSome, option_map}
+use Rattle.std.specs.Prelude.{◌≡◌, ◌⊎◌, ⊤, ℕ, ◌+◌, ◌≤◌, max, false, List, ◌++◌, Option, Some, None, IfSome, option_map}
 use Rattle.std.specs.FinMap as map
 use Rattle.mr_outside.specs.Files.{Files}
 use Rattle.mr_outside.specs.Told.{OfFiles}
-use Rattle.mr_journal.specs.Format.{is_open}
+use Rattle.mr_journal.specs.Changed.{IsChange}
+use Rattle.mr_journal.specs.Format.{changed_by, is_open, recovered, restored}
+use Rattle.mr_journal.specs.Images.{Image}
 use Rattle.mr_journal.specs.Recovered.{restored_in}
-use Rattle.mr_journal.specs.Shelves.{bytes_or_none, image_on, KeepsBeside}
+use Rattle.mr_journal.specs.Shelves.{image_on, KeepsBeside}
+use Rattle.mr_record.specs.Version.{version_byte}
 use Rattle.mr_record.specs.declared.version.Version.{Version}
 use Rattle.mr_tree.specs.declared.tree.Tree.{Tree}
+use Rattle.mr_pages.specs.File.{version_of}
 use Rattle.mr_pages.specs.PageBytes.{form_by}
 use Rattle.mr_pages.specs.Law.{IsMapFile, map_in}
 use Rattle.mr_pages.specs.Saved.{saved, IsUnsealed}
@@ -53,27 +57,34 @@ IsPartly (text whole) bytes = (rest : List ℕ) × (whole ≡ bytes ++ rest)
 IsPartly (map_of v hash tree batch) bytes = IsUnsealed hash bytes
 IsPartly (changed v hash pages most tree batch) bytes = IsUnsealed hash bytes
 
--- The file that a command writes; or a map in its own file, beside its journal. Of these bytes,
--- which recovery leaves, it becomes the content, or it is recovered alone.
+-- The file that a command writes; or a map in its own file and its journal beside it, which were
+-- this image. They are recovered; then the map becomes the content, if there is one.
 pub data Written : Type 0 where
   Nothing : Written
   File : (name : List ℕ) (content : Content) → Written
-  InPlace : (map journal held : List ℕ) (content : Option Content) → Written
+  InPlace : (map journal : List ℕ) (was : Image) (content : Option Content) → Written
 
--- what the map's file then holds
-abbrev pub IsMended : (held : List ℕ) → Option Content → List ℕ → Type 0
-IsMended held None bytes = bytes ≡ held
-IsMended held (Some content) bytes = IsWholly content bytes
+-- Of a map that was recovered the content was made. The journal has just the pages that are new or
+-- changed, and page 0, in rising number behind a gate that is shut; what went further in it stays.
+pub record IsUpdatedTo (content : Content) (was now : Image) : Type 0 where
+  pub wholly : IsWholly content now.map
+  pub body : List ℕ
+  pub change : IsChange (version_byte (version_of was.map)) was.map now.map body
+  pub left : now ≡ changed_by body was
 
--- the map's file holds it, and the journal is not open
-pub record IsMendedOn (map journal held : List ℕ) (content : Option Content) (files : Files)
-    : Type 0 where
-  pub mended : IsMended held content (bytes_or_none files map)
-  pub shut : is_open (image_on map journal files) ≡ false
+-- what the map and its journal then are
+abbrev pub IsMended : (was : Image) → Option Content → (now : Image) → Type 0
+IsMended was None now = now ≡ recovered was
+IsMended was (Some content) now = IsUpdatedTo content (recovered was) now
+
+-- where nothing is to be done no file is changed, and none is made
+abbrev pub StaysClean : (was : Image) → Option Content → (before after : Option Files) → Type 0
+StaysClean was None before after = is_open was ≡ false → after ≡ before
+StaysClean was (Some content) before after = ⊤
 
 -- what recovery would leave is what it would have left before, or the content
-abbrev pub MayRestore : (map journal held : List ℕ) → Option Content → Files → Type 0
-MayRestore map journal held content files = (restored_in map journal files ≡ held)
+abbrev pub MayRestore : (map journal : List ℕ) → (was : Image) → Option Content → Files → Type 0
+MayRestore map journal was content files = (restored_in map journal files ≡ restored was)
     ⊎ IfSome content (λ made. IsWholly made (restored_in map journal files))
 
 pub record Outcome : Type 0 where
@@ -90,8 +101,9 @@ abbrev pub LeavesWritten : Written → Option Files → Option Files → Type 0
 LeavesWritten Nothing before after = after ≡ before
 LeavesWritten (File name content) before after = (bytes : List ℕ) × IsWholly content bytes
     × IsHeld name bytes before after
-LeavesWritten (InPlace map journal held content) before after = KeepsBeside map journal before after
-    × OfFiles after (IsMendedOn map journal held content)
+LeavesWritten (InPlace map journal was content) before after = KeepsBeside map journal before after
+    × OfFiles after (λ new. IsMended was content (image_on map journal new))
+    × StaysClean was content before after
 
 -- what the files may be where the command stopped before its end: as before, partly written, or as
 -- at the end; of a map in its own file and its journal, what recovery may be left to do
@@ -100,6 +112,6 @@ MayLeave Nothing before after = after ≡ before
 MayLeave (File name content) before after =
     (after ≡ before) ⊎ ((bytes : List ℕ) × (IsPartly content bytes ⊎ IsWholly content bytes)
     × IsHeld name bytes before after)
-MayLeave (InPlace map journal held content) before after = (after ≡ before)
+MayLeave (InPlace map journal was content) before after = (after ≡ before)
     ⊎ (KeepsBeside map journal before after
-    × OfFiles after (MayRestore map journal held content))
+    × OfFiles after (MayRestore map journal was content))

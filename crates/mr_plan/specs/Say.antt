@@ -1,5 +1,5 @@
 -- What each command says. The hash function is any one.
-use Rattle.std.specs.Prelude.{ℕ, List, [], ◌∷◌, Option, Some, None, Result, Ok, Err}
+use Rattle.std.specs.Prelude.{ℕ, Bool, if◌then◌else◌, List, [], ◌∷◌, Option, Some, None, Result, Ok, Err}
 use Rattle.mr_record.specs.declared.record.Record.{Record}
 use Rattle.mr_record.specs.declared.text_fault.TextFault.{TextFault}
 use Rattle.mr_record.specs.RecordText.{records_of_text, text_of}
@@ -31,23 +31,27 @@ use Rattle.mr_check.specs.Versions.{proof_version}
 use Rattle.mr_clash.specs.Finding.{found}
 use Rattle.mr_count.specs.Chosen.{total_whole}
 use Rattle.mr_count.specs.declared.taken.Taken.{Taken}
+use Rattle.mr_join.specs.declared.fault.JoinFault.{JoinFault}
+use Rattle.mr_join.specs.declared.pair.Pair.{Pair}
 use Rattle.mr_plan.specs.Counts.{count_ways, count_question, count_found, count_verdict}
 use Rattle.mr_plan.specs.Demo.{demo_lines}
 use Rattle.mr_plan.specs.First.{pages_by}
 use Rattle.mr_plan.specs.Found.{Found, bad_map_line}
-use Rattle.mr_plan.specs.Lines.{digest_line, bad_words_line, bad_text_line, bad_batch_line, counted_line, made_line, recovered_line}
+use Rattle.mr_plan.specs.Joins.{join_of, join_given, joined_found, lacks_join, pair_lines, join_refused_line}
+use Rattle.mr_plan.specs.Lines.{digest_line, bad_words_line, bad_text_line, bad_batch_line, counted_line, made_line, recovered_line, needs_version_2_line}
 use Rattle.mr_plan.specs.Outcome.{Outcome, File, map_of, changed}
 use Rattle.mr_plan.specs.Plan.{Input, Plan, comes, reads, opens, seeks}
 pub use Rattle.mr_plan.specs.Saying.{ends, prints, says_missing, say_text, say_written}
 pub use Rattle.mr_plan.specs.Saying.{lacks_proof, lacks_proof_for, unless_lacking}
 pub use Rattle.mr_plan.specs.Saying.{journal_of, say_in_place}
-pub use Rattle.mr_plan.specs.Saying.{say_finding, say_count_finding, say_bundle, opened_in}
+pub use Rattle.mr_plan.specs.Saying.{say_finding, say_count_finding, say_join_finding}
+pub use Rattle.mr_plan.specs.Saying.{say_bundle, opened_in}
 pub use Rattle.mr_plan.specs.Saying.{say_serve_of, say_verdicts, say_parts_of}
 use Rattle.mr_plan.specs.Refusal.{refused_line}
 use Rattle.mr_pages.specs.File.{version_of}
 use Rattle.mr_pages.specs.declared.opening.Opened.{Opened}
 use Rattle.mr_pages.specs.Law.{map_root, map_in}
-use Rattle.mr_plan.specs.declared.status.Status.TheVariants.{Done, BadWords, Refused, BadText, BadMap, BadBatch}
+use Rattle.mr_plan.specs.declared.status.Status.TheVariants.{Done, BadWords, Refused, BadText, BadMap, BadBatch, NeedsVersion2}
 use Rattle.mr_plan.specs.declared.words.Command.{Command}
 use Rattle.mr_plan.specs.declared.words.Command.TheVariants as commands
 
@@ -233,6 +237,61 @@ say_audit_count_of hash way map bytes = say_count_finding way
 abbrev pub say_audit_count : (List ℕ → List ℕ) → List ℕ → (Key → Way) → List ℕ → Plan
 say_audit_count hash name way proof = needs_beside hash name proof (say_audit_count_of hash way)
 
+-- the honest proof of the join of two maps, in a file, and its length; or that one of them is of
+-- the first version
+unfoldable pub say_join_of : (List ℕ → List ℕ) → (proof : List ℕ) → (first second : Opened)
+    → Outcome
+say_join_of hash proof first second = unless_lacking (lacks_join first second)
+    (say_written proof (join_of hash first second))
+
+-- what follows on two maps in files, which are read in this order
+abbrev pub needs_maps : (List ℕ → List ℕ) → (first second : List ℕ)
+    → (Opened → Opened → Plan) → Plan
+needs_maps hash first second next =
+    needs_map hash first (λ m. needs_map hash second (λ n. next m n))
+
+-- `join MAP MAP2 PROOF`: the proof of all pairs of records, one of each map in a file, that meet,
+-- written to another one
+abbrev pub say_join : (List ℕ → List ℕ) → (first second proof : List ℕ) → Plan
+say_join hash first second proof =
+    needs_maps hash first second (λ m n. comes (say_join_of hash proof m n))
+
+-- the pairs that such a proof gives, or its fault
+abbrev pub say_join_verdict : Result (List Pair) JoinFault → Outcome
+say_join_verdict (Ok pairs) = prints (pair_lines pairs)
+say_join_verdict (Err fault) = ends Refused (join_refused_line fault)
+
+-- what is said of the bytes of one
+unfoldable pub say_check_join_of : (List ℕ → List ℕ) → (first second : List ℕ) → List ℕ → Outcome
+say_check_join_of hash first second proof =
+    say_join_verdict (join_given hash first second proof)
+
+-- `check-join ROOT ROOT2 PROOF`: the pairs that the proof in a file proves
+abbrev pub say_check_join : (List ℕ → List ℕ) → (first second proof : List ℕ) → Plan
+say_check_join hash first second proof =
+    needs proof (λ bytes. comes (say_check_join_of hash first second bytes))
+
+-- what is said of the bytes of a proof and of two maps
+unfoldable pub say_audit_join_of : (List ℕ → List ℕ) → (first second : Opened) → List ℕ → Outcome
+say_audit_join_of hash first second bytes =
+    say_join_finding (joined_found hash first second bytes)
+
+-- what follows on two maps of the second version, or that one of them is of the first
+abbrev pub unless_first : Bool → Plan → Plan
+unless_first lacks next =
+    if lacks then comes (ends NeedsVersion2 needs_version_2_line) else next
+
+-- what is said of the proof in a file, by two maps
+abbrev pub say_beside_maps : (List ℕ → List ℕ) → (proof : List ℕ) → (first second : Opened) → Plan
+say_beside_maps hash proof first second = unless_first (lacks_join first second)
+    (needs proof (λ bytes. comes (say_audit_join_of hash first second bytes)))
+
+-- `audit-join MAP MAP2 PROOF`: what such a proof in a file is worth against the maps in two others.
+-- Where one of these is of the first version, the proof is not read.
+abbrev pub say_audit_join : (List ℕ → List ℕ) → (first second proof : List ℕ) → Plan
+say_audit_join hash first second proof =
+    needs_maps hash first second (say_beside_maps hash proof)
+
 -- the bundle for the script in a file on a map, in another file
 abbrev pub say_script : (List ℕ → List ℕ) → (script bundle : List ℕ) → Opened → Plan
 say_script hash script bundle map =
@@ -271,7 +330,7 @@ say_make count seed records = comes (say_make_of count seed records)
 abbrev pub say_demo : (List ℕ → List ℕ) → (count seed : ℕ) → Plan
 say_demo hash count seed = comes (prints (demo_lines hash count seed))
 
--- ---- a map in its own file, which no words ask for yet
+-- ---- a map in its own file
 
 -- the map and its journal by their bytes
 abbrev pub beside : (map journal : List ℕ) → Image
@@ -284,8 +343,7 @@ needs_both map next =
 
 -- what is said of a map and its journal that are recovered
 abbrev pub say_recovered : (map : List ℕ) → Image → Outcome
-say_recovered map image =
-    say_in_place Done (recovered_line (is_open image)) map (restored image) None
+say_recovered map image = say_in_place Done (recovered_line (is_open image)) map image None
 
 -- `recover MAP`: an update of the map in a file that a stop cut short is finished
 abbrev pub say_recover : (map : List ℕ) → Plan
@@ -293,40 +351,42 @@ say_recover map = needs_both map (λ image. comes (say_recovered map image))
 
 -- the map of the tree after a batch in its own file, at the batch's number, and its root; or why
 -- the batch may not be applied, and the map recovered
-abbrev pub say_admitted_here : Version → (List ℕ → List ℕ) → (map held : List ℕ) → Tree → Changes
-    → Option BatchFault → Outcome
-say_admitted_here v hash map held tree batch None =
+abbrev pub say_admitted_here : Version → (List ℕ → List ℕ) → (map : List ℕ) → (was : Image) → Tree
+    → Changes → Option BatchFault → Outcome
+say_admitted_here v hash map was tree batch None =
     let after = replay tree (batch ∷ []) in
-    say_in_place Done (digest_line (map_root hash (map_in v after batch.number))) map held
-    (Some (changed v hash (pages_by v held) (peak tree batch) after batch.number))
-say_admitted_here v hash map held tree batch (Some fault) =
-    say_in_place BadBatch (bad_batch_line fault) map held None
+    say_in_place Done (digest_line (map_root hash (map_in v after batch.number))) map was
+    (Some (changed v hash (pages_by v (restored was)) (peak tree batch) after batch.number))
+say_admitted_here v hash map was tree batch (Some fault) =
+    say_in_place BadBatch (bad_batch_line fault) map was None
 
 -- what is said of a batch for a map in its own file, or of a file that stands for none
-abbrev pub say_batch_here : Version → (List ℕ → List ℕ) → (map held : List ℕ) → Changes → Found
-    → Outcome
-say_batch_here v hash map held batch (Ok found) =
-    say_admitted_here v hash map held found.tree batch
+abbrev pub say_batch_here : Version → (List ℕ → List ℕ) → (map : List ℕ) → (was : Image) → Changes
+    → Found → Outcome
+say_batch_here v hash map was batch (Ok found) =
+    say_admitted_here v hash map was found.tree batch
     (batch_fault (records found.tree) found.batch batch)
-say_batch_here v hash map held batch (Err fault) =
-    say_in_place BadMap (bad_map_line fault) map held None
+say_batch_here v hash map was batch (Err fault) =
+    say_in_place BadMap (bad_map_line fault) map was None
 
 -- what is said of the batch of a text, or the text's first fault, with which nothing is written
-abbrev pub say_text_here : Version → (List ℕ → List ℕ) → (map held : List ℕ)
+abbrev pub say_text_here : Version → (List ℕ → List ℕ) → (map : List ℕ) → (was : Image)
     → Result Changes TextFault → Plan
-say_text_here v hash map held (Err fault) = comes (ends BadText (bad_text_line fault))
-say_text_here v hash map held (Ok batch) =
-    opens v hash held (λ found. comes (say_batch_here v hash map held batch found))
+say_text_here v hash map was (Err fault) = comes (ends BadText (bad_text_line fault))
+say_text_here v hash map was (Ok batch) =
+    opens v hash (restored was) (λ found. comes (say_batch_here v hash map was batch found))
 
--- what is said of the text of a batch for a map of these bytes, in the version that they have
-abbrev pub say_change_here : (List ℕ → List ℕ) → (map held text : List ℕ) → Plan
-say_change_here hash map held text = say_text_here (version_of held) hash map held
-    (batch_of_text (version_of held) text)
+-- what is said of the text of a batch for a map beside its journal, in the version that the map has
+-- once it is recovered
+abbrev pub say_change_here : (List ℕ → List ℕ) → (map : List ℕ) → (was : Image) → (text : List ℕ)
+    → Plan
+say_change_here hash map was text = say_text_here (version_of (restored was)) hash map was
+    (batch_of_text (version_of (restored was)) text)
 
 -- `apply-here MAP BATCH`: the map after the batch in a file, written to its own file
 abbrev pub say_apply_here : (List ℕ → List ℕ) → (map batch : List ℕ) → Plan
 say_apply_here hash map batch =
-    needs_both map (λ image. needs batch (say_change_here hash map (restored image)))
+    needs_both map (λ image. needs batch (say_change_here hash map image))
 
 -- ---- all commands
 
@@ -340,6 +400,8 @@ say hash (Some (commands.Build2 map records)) = say_build Two hash map.now recor
 say hash (Some (commands.Upgrade old new)) = say_upgrade hash old.now new.now
 say hash (Some (commands.List map)) = say_list hash map.now
 say hash (Some (commands.Apply old batch new)) = say_apply hash old.now batch.now new.now
+say hash (Some (commands.ApplyHere map batch)) = say_apply_here hash map.now batch.now
+say hash (Some (commands.Recover map)) = say_recover map.now
 say hash (Some (commands.Prove map query proof)) = say_prove hash map.now query proof.now
 say hash (Some (commands.Check root query proof)) = say_check hash root query proof.now
 say hash (Some (commands.Audit map query proof)) = say_audit hash map.now query proof.now
@@ -349,6 +411,12 @@ say hash (Some (commands.CheckCount root query proof)) =
     say_check_count hash root (count_ways query) proof.now
 say hash (Some (commands.AuditCount map query proof)) =
     say_audit_count hash map.now (count_ways query) proof.now
+say hash (Some (commands.Join first second proof)) =
+    say_join hash first.now second.now proof.now
+say hash (Some (commands.CheckJoin first second proof)) =
+    say_check_join hash first second proof.now
+say hash (Some (commands.AuditJoin first second proof)) =
+    say_audit_join hash first.now second.now proof.now
 say hash (Some (commands.Serve map script bundle)) =
     say_serve hash map.now script.now bundle.now
 say hash (Some (commands.CheckAll root script bundle)) =

@@ -1,10 +1,11 @@
 -- Outcomes, by what they say.
-use Rattle.std.specs.Prelude.{ℕ, Bool, false, if◌then◌else◌, List, ◌++◌, length, codes, Option, Result, Ok, Err}
+use Rattle.std.specs.Prelude.{ℕ, Bool, false, if◌then◌else◌, List, ◌++◌, length, Option, Result, Ok, Err}
 use Rattle.std.specs.List.{list_any}
 use Rattle.mr_record.specs.RecordText.{text_of}
 use Rattle.mr_record.specs.declared.version.Version.{Version}
 use Rattle.mr_record.specs.declared.version.Version.TheVariants.{One, Two}
 use Rattle.mr_record.specs.declared.text_fault.TextFault.{TextFault}
+use Rattle.mr_journal.specs.Images.{Image}
 use Rattle.mr_tree.specs.Digest.{by}
 use Rattle.mr_tree.specs.Snapshot.{tree_of}
 use Rattle.mr_tree.specs.declared.nodes.Top.{Top}
@@ -17,6 +18,8 @@ use Rattle.mr_proof.specs.declared.way.Way.{Way}
 use Rattle.mr_count.specs.Chosen.{total_whole}
 use Rattle.mr_count.specs.declared.finding.ChoiceFinding.{ChoiceFinding}
 use Rattle.mr_count.specs.declared.finding.ChoiceFinding.TheVariants as counts
+use Rattle.mr_join.specs.declared.finding.JoinFinding.{JoinFinding}
+use Rattle.mr_join.specs.declared.finding.JoinFinding.TheVariants as joins
 use Rattle.mr_bundle.specs.Bundle.{parts}
 use Rattle.mr_bundle.specs.Proofs.{bundle}
 use Rattle.mr_bundle.specs.Verdicts.{verdicts}
@@ -24,10 +27,12 @@ use Rattle.mr_bundle.specs.declared.verdict.Verdict.{Verdict}
 use Rattle.mr_clash.specs.declared.finding.Finding.{Finding}
 use Rattle.mr_clash.specs.declared.finding.Finding.TheVariants as findings
 use Rattle.mr_plan.specs.Judged.{bundle_text, bundle_status}
+use Rattle.mr_plan.specs.Joins.{first_name, second_name, pair_lines, join_refused_line, map_collision_lines}
 use Rattle.mr_plan.specs.Lines.{bad_text_line, needs_version_2_line, missing_line, proof_line, served_line, sound_line, collision_lines, counted_line}
 use Rattle.mr_plan.specs.Outcome.{Outcome, Content, Nothing, File, InPlace}
 use Rattle.mr_plan.specs.Outcome as content
 use Rattle.mr_plan.specs.Refusal.{refused_line}
+pub use Rattle.mr_plan.specs.Words.{journal_of}
 use Rattle.mr_plan.specs.declared.status.Status.{Status}
 use Rattle.mr_plan.specs.declared.status.Status.TheVariants.{Done, Refused, BadText, Collision, Outside, NeedsVersion2}
 
@@ -51,16 +56,13 @@ say_text line name bytes = record {
   written = File name (content.text bytes);
 }
 
--- the name of the journal beside a map's file
-abbrev pub journal_of : List ℕ → List ℕ
-journal_of map = map ++ codes ".journal"
-
--- a map in its own file, of these bytes once it is recovered, and what is said of it
-abbrev pub say_in_place : Status → List ℕ → (map held : List ℕ) → Option Content → Outcome
-say_in_place status text map held made = record {
+-- a map in its own file, which with its journal was this image, and what is said of it
+abbrev pub say_in_place : Status → List ℕ → (map : List ℕ) → (was : Image) → Option Content
+    → Outcome
+say_in_place status text map was made = record {
   status = status;
   printed = text;
-  written = InPlace map (journal_of map) held made;
+  written = InPlace map (journal_of map) was made;
 }
 
 -- these bytes in a file, and their number
@@ -81,6 +83,15 @@ say_count_finding way (counts.Refused fault) = ends Refused (refused_line fault)
 say_count_finding way (counts.Sound taken) =
     prints (sound_line ++ counted_line (total_whole way taken))
 say_count_finding way (counts.Collision owned shown) = ends Collision (collision_lines owned shown)
+
+-- and of a join: its pairs, a line for each, or the two strings of the first map or of the second
+abbrev pub say_join_finding : JoinFinding → Outcome
+say_join_finding (joins.Refused fault) = ends Refused (join_refused_line fault)
+say_join_finding (joins.Sound pairs) = prints (sound_line ++ pair_lines pairs)
+say_join_finding (joins.First owned shown) =
+    ends Collision (map_collision_lines first_name owned shown)
+say_join_finding (joins.Second owned shown) =
+    ends Collision (map_collision_lines second_name owned shown)
 
 -- whether a map of this version has no proof of what is asked: one of the first version where only
 -- proofs of the second may come

@@ -2,6 +2,7 @@
 -- page may be another one by then; over files that are told none ever is.
 use Rattle.std.specs.Prelude.{◌≡◌, ◌≢◌, ◌⊎◌, ◌↔◌, ⊤, true, ℕ, ◌^◌, ◌<◌, ◌≤◌, Bool, List, length, Option, Some, None, IfSome, IsNone, Ok, Err}
 use Rattle.mr_outside.specs.Files.{Files}
+use Rattle.mr_journal.specs.Images.{Image}
 use Rattle.mr_record.specs.private.Bytes.{AreBytes}
 use Rattle.mr_record.specs.declared.record.Record.{Record}
 use Rattle.mr_record.specs.declared.text_fault.TextFault.{TextFault}
@@ -12,6 +13,7 @@ use Rattle.mr_tree.specs.Nodes.{MapModel, root_entry}
 use Rattle.mr_tree.specs.View.{IsChild}
 use Rattle.mr_tree.specs.declared.child.Child.{Child}
 use Rattle.mr_tree.specs.WellFormed.{WellFormed}
+use Rattle.mr_pages.specs.Law.{IsMapFile, map_root}
 use Rattle.mr_pages.specs.declared.opening.Opened.{Opened}
 use Rattle.mr_pages.specs.Opening.{SomeFile}
 use Rattle.mr_pages.specs.declared.error.MapErr.TheVariants as errors
@@ -36,9 +38,11 @@ use Rattle.mr_plan.specs.Counts.{count_letter, count_question, count_ways}
 use Rattle.mr_plan.specs.Found.{bad_map_line}
 use Rattle.mr_plan.specs.Lines.{digest_line, needs_version_2_line, bad_text_line, bad_batch_line, recovered_line}
 use Rattle.mr_plan.specs.Outcome.{Outcome}
+use Rattle.mr_plan.specs.Outcome as content
 use Rattle.mr_plan.specs.Plan.{LeadsToOutcome}
 use Rattle.mr_plan.specs.Say.{say}
 use Rattle.mr_plan.specs.Saying.{ends, says_missing, say_text, say_written, say_finding, say_count_finding, say_in_place, say_serve_of}
+use Rattle.mr_plan.specs.declared.status.Status.{Status}
 use Rattle.mr_plan.specs.declared.status.Status.TheVariants.{Done, BadText, BadMap, BadBatch, NeedsVersion2}
 use Rattle.mr_plan.specs.declared.words.Command.{Command}
 use Rattle.mr_plan.specs.declared.words.Command.TheVariants as commands
@@ -157,6 +161,45 @@ abbrev pub MaySayApply : (List ℕ → List ℕ) → (old batch new : List ℕ) 
 MaySayApply hash old batch new said = IsRefused hash old said ⊎ (said ≡ says_missing batch)
     ⊎ IsBadText said ⊎ IsBadBatch said ⊎ IsSomeRoot hash new said
 
+-- ---- what is said of a map in its own file
+
+-- whatever the map and its journal were
+abbrev pub IsSaidInPlace : Status → (text map : List ℕ) → Outcome → Type 0
+IsSaidInPlace status text map said =
+    (was : Image) × (said ≡ say_in_place status text map was None)
+
+-- it is missing, or it is said whether its journal was open
+abbrev pub MaySayRecover : (map : List ℕ) → Outcome → Type 0
+MaySayRecover map said = (said ≡ says_missing map)
+    ⊎ ((was : Bool) × IsSaidInPlace Done (recovered_line was) map said)
+
+-- the first fault of some bytes as a map file
+abbrev pub IsBadMapHere : (List ℕ → List ℕ) → (map : List ℕ) → Outcome → Type 0
+IsBadMapHere hash map said = (fault : MapFault) × SomeFile hash (Err (errors.Map fault))
+    × IsSaidInPlace BadMap (bad_map_line fault) map said
+
+-- why the batch of some text may not be applied to some records at some batch
+abbrev pub IsBadBatchHere : (map : List ℕ) → Outcome → Type 0
+IsBadBatchHere map said = (v : Version) × (text : List ℕ) × AreBytes text × ((batch : Changes)
+    × (batch_of_text v text ≡ Ok batch) × ((rs : List Record) × (held : ℕ) × ((fault : BatchFault)
+    × (batch_fault rs held batch ≡ Some fault)
+    × IsSaidInPlace BadBatch (bad_batch_line fault) map said)))
+
+-- the root digest of the map that some bytes stand for, which the file then holds
+abbrev pub IsRootHere : (List ℕ → List ℕ) → (map : List ℕ) → Outcome → Type 0
+IsRootHere hash map said = (made : Opened) × (bytes : List ℕ) × IsMapFile hash bytes made
+    × ((was : Image)
+    × (said ≡ say_in_place Done (digest_line (map_root hash made)) map was
+    (Some (content.text bytes))))
+
+-- It is missing, or the batch is; or why some batch is not applied is said, or some root. That the
+-- map has no layers, and the batch some, comes where it was of version 2 when that was asked for.
+abbrev pub MaySayApplyHere : (List ℕ → List ℕ) → (map batch : List ℕ) → Outcome → Type 0
+MaySayApplyHere hash map batch said = (said ≡ says_missing map) ⊎ (said ≡ says_missing batch)
+    ⊎ IsBadText said ⊎ IsBadMapHere hash map said
+    ⊎ IsSaidInPlace NeedsVersion2 needs_version_2_line map said ⊎ IsBadBatchHere map said
+    ⊎ IsRootHere hash map said
+
 -- ---- all commands
 
 -- What may be said over files that are not told. What a command says that reads no page again is
@@ -174,16 +217,12 @@ MaySayUntold hash (Some (commands.Serve map script bundle)) said =
     MaySayServe hash map.now script.now bundle.now said
 MaySayUntold hash (Some (commands.Apply old batch new)) said =
     MaySayApply hash old.now batch.now new.now said
+MaySayUntold hash (Some (commands.ApplyHere map batch)) said =
+    MaySayApplyHere hash map.now batch.now said
+MaySayUntold hash (Some (commands.Recover map)) said = MaySayRecover map.now said
 MaySayUntold hash command said = LeadsToOutcome (say hash command) None said
 
 -- what may be said: over files that are told what the plan leads to
 abbrev pub MaySay : (List ℕ → List ℕ) → Option Command → Option Files → Outcome → Type 0
 MaySay hash command None said = MaySayUntold hash command said
 MaySay hash command (Some files) said = LeadsToOutcome (say hash command) (Some files) said
-
--- ---- a map in its own file, which no words ask for yet
-
--- what `recover` may say over files that are not told
-abbrev pub MaySayRecover : (map : List ℕ) → Outcome → Type 0
-MaySayRecover map said = (said ≡ says_missing map) ⊎ ((was : Bool) × (held : List ℕ)
-    × (said ≡ say_in_place Done (recovered_line was) map held None))

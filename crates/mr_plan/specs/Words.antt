@@ -73,6 +73,9 @@ words_of (commands.Upgrade old new) =
 words_of (commands.List map) = key (codes "list") ∷ file map.now ∷ []
 words_of (commands.Apply old batch new) =
     key (codes "apply") ∷ file old.now ∷ file batch.now ∷ file new.now ∷ []
+words_of (commands.ApplyHere map batch) =
+    key (codes "apply-here") ∷ file map.now ∷ file batch.now ∷ []
+words_of (commands.Recover map) = key (codes "recover") ∷ file map.now ∷ []
 words_of (commands.Prove map asked proof) =
     key (codes "prove") ∷ file map.now ∷ query asked ∷ file proof.now ∷ []
 words_of (commands.Check root asked proof) =
@@ -85,6 +88,12 @@ words_of (commands.CheckCount root asked proof) =
     key (codes "check-count") ∷ digest root ∷ window asked ∷ file proof.now ∷ []
 words_of (commands.AuditCount map asked proof) =
     key (codes "audit-count") ∷ file map.now ∷ window asked ∷ file proof.now ∷ []
+words_of (commands.Join first second proof) =
+    key (codes "join") ∷ file first.now ∷ file second.now ∷ file proof.now ∷ []
+words_of (commands.CheckJoin first second proof) =
+    key (codes "check-join") ∷ digest first ∷ digest second ∷ file proof.now ∷ []
+words_of (commands.AuditJoin first second proof) =
+    key (codes "audit-join") ∷ file first.now ∷ file second.now ∷ file proof.now ∷ []
 words_of (commands.Serve map script bundle) =
     key (codes "serve") ∷ file map.now ∷ file script.now ∷ file bundle.now ∷ []
 words_of (commands.CheckAll root script bundle) =
@@ -104,8 +113,14 @@ file_names (query asked ∷ words) = file_names words
 file_names (window asked ∷ words) = file_names words
 file_names (number least most value ∷ words) = file_names words
 
--- the files that a command reads or writes and no word names: today there is none
+-- the name of the journal beside a map's file
+abbrev pub journal_of : List ℕ → List ℕ
+journal_of map = map ++ codes ".journal"
+
+-- the files that a command reads or writes and no word names
 abbrev pub unnamed : Command → List (List ℕ)
+unnamed (commands.ApplyHere map batch) = journal_of map.now ∷ []
+unnamed (commands.Recover map) = journal_of map.now ∷ []
 unnamed command = []
 
 -- all files of a command

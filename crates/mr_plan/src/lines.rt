@@ -5,7 +5,7 @@ ghost use Rattle.std.specs.String.{string_bytes};
 ghost use Rattle.hex.specs.Hex.{encode_lower};
 ghost use Rattle.mr_plan.specs.Demo.{map_lines as lines_on_map, query_lines as lines_on_queries, total_lines as lines_on_totals};
 ghost use Rattle.mr_plan.specs.Found.{kept_text, bad_map_line};
-ghost use Rattle.mr_plan.specs.Lines.{bad_text_line, bad_batch_line, batch_fault_text, numbers_text, needs_version_2_line as line_of_need, missing_line, proof_line as line_of_proof, served_line as line_of_served, count_line as line_of_count, counted_line as line_counted, made_line as line_made, digest_line, collision_lines as collision_text, sound_line as line_of_sound};
+ghost use Rattle.mr_plan.specs.Lines.{bad_text_line, bad_batch_line, batch_fault_text, numbers_text, needs_version_2_line as line_of_need, recovered_line as line_of_recovery, missing_line, proof_line as line_of_proof, served_line as line_of_served, count_line as line_of_count, counted_line as line_counted, made_line as line_made, digest_line, collision_lines as collision_text, sound_line as line_of_sound};
 ghost use Rattle.mr_plan.specs.Refusal.{found_text, refused_line};
 
 use mr_batch::BatchFault;
@@ -23,7 +23,7 @@ fn push_hex(alloc: Global, line: &mut String, bytes: &[u8]) -> Result<(), AllocE
 }
 
 // Puts the root digest that was computed, where it is another than the held one.
-fn push_found(alloc: Global, line: &mut String, rule: &Rule) -> Result<(), AllocError>
+pub(crate) fn push_found(alloc: Global, line: &mut String, rule: &Rule) -> Result<(), AllocError>
     ensures { OnOk result (string_bytes line.new ≡ string_bytes line.old ++ found_text rule.now) }
 {
     if let Rule::WrongRoot { found } = rule {
@@ -246,7 +246,11 @@ pub fn push_totals(
 }
 
 // Puts some bytes as a line of hexadecimal.
-fn push_hex_line(alloc: Global, lines: &mut String, bytes: &[u8]) -> Result<(), AllocError>
+pub(crate) fn push_hex_line(
+    alloc: Global,
+    lines: &mut String,
+    bytes: &[u8],
+) -> Result<(), AllocError>
     ensures { OnOk result
         (string_bytes lines.new ≡ string_bytes lines.old ++ (encode_lower bytes.now ++ 10 ∷ [])) }
 {
@@ -284,6 +288,16 @@ pub fn needs_version_2_line(alloc: Global) -> Result<String, AllocError>
 {
     let mut line = String::new(alloc);
     line.push_str("needs version 2")?;
+    line.push('\n')?;
+    Ok(line)
+}
+
+/// The line of `recover`: `recovered`, or `clean` where there was nothing to finish.
+pub fn recovered_line(alloc: Global, was_open: bool) -> Result<String, AllocError>
+    ensures { IfOk result (λ line. string_bytes line ≡ line_of_recovery was_open) }
+{
+    let mut line = String::new(alloc);
+    line.push_str(if was_open { "recovered" } else { "clean" })?;
     line.push('\n')?;
     Ok(line)
 }

@@ -1,9 +1,10 @@
 //! The words of a command.
 
-ghost use Rattle.std.specs.Prelude.{Option, map};
+ghost use Rattle.std.specs.Prelude.{◌≡◌, Option, bytes_eq, map};
 ghost use Rattle.std.specs.String.{string_bytes};
-ghost use Rattle.mr_plan.specs.private.Kinds.{GivesCommand, reading_of};
+ghost use Rattle.mr_plan.specs.private.Kinds.{GivesCommand, reading_of, spares_any};
 ghost use Rattle.mr_plan.specs.Spelling.{IsSpelled, AsksAs};
+ghost use Rattle.mr_plan.specs.Words.{journal_of};
 ghost use Rattle.mr_plan.specs.declared.words.Command as types;
 
 use crate::reader::Reader;
@@ -34,6 +35,13 @@ pub enum Command<'a> {
     /// Apply the batch in the second file to the map in the first one, write the map after it to
     /// the third one, and print its root digest. The new file is as long as the old one at least.
     Apply(&'a str, &'a str, &'a str),
+    /// Apply the batch in the second file to the map in the first one, in its own file, and print
+    /// its root digest, so that a crash at any moment leaves the map as it was or after the batch.
+    /// A journal stands beside the map, in a file whose name is the map's with `.journal` behind.
+    ApplyHere(&'a str, &'a str),
+    /// Finish a change of the map in a file that a crash cut short, by its journal, and print
+    /// whether there was one.
+    Recover(&'a str),
     /// Write the proof for a query on the map in the first file to the second one, and print its
     /// length.
     Prove(&'a str, Query, &'a str),
@@ -51,6 +59,16 @@ pub enum Command<'a> {
     /// Say what the proof of such a number in the second file is worth against the map in the first
     /// one.
     AuditCount(&'a str, Query, &'a str),
+    /// Write the proof of all pairs of records, one of the map in the first file and one of the map
+    /// in the second, whose rectangles meet, to the third file, and print its length. Both maps
+    /// have to be of version 2.
+    Join(&'a str, &'a str, &'a str),
+    /// Print these pairs, as the proof in a file proves them against the root digests of the first
+    /// and the second map.
+    CheckJoin([u8; 32], [u8; 32], &'a str),
+    /// Say what the proof of such pairs in the third file is worth against the maps in the first
+    /// two. Both have to be of version 2.
+    AuditJoin(&'a str, &'a str, &'a str),
     /// Write the proofs for the queries of the script in the second file, on the map in the first
     /// one, to the third one as a bundle, and print how many they are and the bundle's length.
     Serve(&'a str, &'a str, &'a str),
@@ -78,12 +96,17 @@ fn command_of<'a>(words: &mut Reader<'a>) -> Option<Command<'a>>
         "list" => Some(Command::List(words.file())),
         "upgrade" => Some(Command::Upgrade(words.file(), words.file())),
         "apply" => Some(Command::Apply(words.file(), words.file(), words.file())),
+        "apply-here" => Some(Command::ApplyHere(words.file(), words.file())),
+        "recover" => Some(Command::Recover(words.file())),
         "prove" => Some(Command::Prove(words.file(), words.query(), words.file())),
         "check" => Some(Command::Check(words.digest(), words.query(), words.file())),
         "audit" => Some(Command::Audit(words.file(), words.query(), words.file())),
         "count" => Some(Command::Count(words.file(), words.window(), words.file())),
         "check-count" => Some(Command::CheckCount(words.digest(), words.window(), words.file())),
         "audit-count" => Some(Command::AuditCount(words.file(), words.window(), words.file())),
+        "join" => Some(Command::Join(words.file(), words.file(), words.file())),
+        "check-join" => Some(Command::CheckJoin(words.digest(), words.digest(), words.file())),
+        "audit-join" => Some(Command::AuditJoin(words.file(), words.file(), words.file())),
         "serve" => Some(Command::Serve(words.file(), words.file(), words.file())),
         "check-all" => Some(Command::CheckAll(words.digest(), words.file(), words.file())),
         "make" => {
@@ -100,6 +123,29 @@ fn command_of<'a>(words: &mut Reader<'a>) -> Option<Command<'a>>
     }
 }
 
+// The end of a journal's name.
+const JOURNAL: &[u8] = b".journal";
+
+// Whether this is the name of the journal beside a map's file.
+fn is_journal(name: &[u8], map: &[u8]) -> bool
+    ensures { result ≡ bytes_eq name.now (journal_of map.now) }
+{
+    match name.strip_prefix(map) {
+        Some(rest) => rest == JOURNAL,
+        None => false,
+    }
+}
+
+// Whether no file that is named is one that the command changes besides.
+fn spares_journal(command: &Option<Command<'_>>) -> bool
+    ensures { result ≡ spares_any command.now }
+{
+    match command {
+        Some(Command::ApplyHere(map, batch)) => !is_journal(batch.as_bytes(), map.as_bytes()),
+        _ => true,
+    }
+}
+
 /// The command that the words after the program's name spell. `None` where they spell none.
 pub fn read_words(words: &[String]) -> Option<Command<'_>>
     ensures written { IsSpelled (map string_bytes words.now) result }
@@ -108,5 +154,12 @@ pub fn read_words(words: &[String]) -> Option<Command<'_>>
 {
     let mut reader = Reader::new(words);
     let command = command_of(&mut reader);
-    if reader.is_complete() { command } else { None }
+    if !reader.is_complete() {
+        return None;
+    }
+    if spares_journal(&command) {
+        command
+    } else {
+        None
+    }
 }

@@ -102,13 +102,15 @@ fn is_free(group: &[&str], made: &[String], name: &str) -> bool {
         && (is_made(made, name) || has_word(group, ("change", "lay out"), name))
 }
 
-// Whether a group names a file that was made: a story by a command line alone.
+// Whether a group names a file that was made: by what it says of it, or a story by a command line,
+// and no story by its bytes at the start.
 fn names(group: &[&str], name: &str) -> bool {
-    if key_at(group, 0) == "story" {
-        has_word(group, ("run", "do"), name)
-    } else {
-        has(group, name) || tells(group, name)
-    }
+    tells(group, name)
+        || if key_at(group, 0) == "story" {
+            has_word(group, ("run", "do"), name)
+        } else {
+            has(group, name)
+        }
 }
 
 // Whether a group names each file that was made.

@@ -28,12 +28,15 @@ const SMALL: &[File<'static>] = &[
     ("s", "| window:2,0,3,0\n| nearest:0,0,1\n| window:2,0,3,0"),
     ("t", "times 100 window:2,0,3,0"),
     ("k", "| 7 0 0 0 0 5 -"),
+    ("a", "| 7 0 0 0 0 -"),
 ];
 
 // The pages of a map of version 1 are appended at once. One of version 2 is written child by child
 // of its root, behind zeros for page 0 and the root's page, and then the latter. All is synced
 // before page 0 is written over its zeros, and again after. A batch is applied to a copy of the
-// pages, which is made sixteen pages at a time.
+// pages, which is made sixteen pages at a time. Where it is applied in place, the files are synced;
+// the journal gets its gate, its body, and its gate anew, is synced behind each of these, and then
+// come the pages, a sync, and the gate once more.
 const CALLS: &[Made<'static>] = &[
     Made {
         words: "root r",
@@ -85,6 +88,29 @@ const CALLS: &[Made<'static>] = &[
     Made {
         words: "build2 o k",
         calls: "size k\nread_at k\ncreate o\nappend o\nsync o\nwrite_at o\nsync o\n",
+        pieces: 0,
+    },
+    Made {
+        words: "upgrade m w",
+        calls: "size m\nread_at m\nread_at m\nread_at m\nread_at m\ncreate w\nappend w\nappend w\n\
+            append w\nwrite_at w\nsync w\nwrite_at w\nsync w\n",
+        pieces: 0,
+    },
+    Made {
+        words: "join o w j",
+        calls: "size o\nread_at o\nread_at o\nsize w\nread_at w\nread_at w\nread_at w\nread_at w\n\
+            create j\nappend j\nsync j\n",
+        pieces: 0,
+    },
+    Made {
+        words: "check-join ..3e ..0c j",
+        calls: "size j\nread_at j\n",
+        pieces: 0,
+    },
+    Made {
+        words: "audit-join o w j",
+        calls: "size o\nread_at o\nread_at o\nsize w\nread_at w\nread_at w\nread_at w\nread_at w\n\
+            size j\nread_at j\n",
         pieces: 0,
     },
     Made {
@@ -141,6 +167,29 @@ const CALLS: &[Made<'static>] = &[
         words: "demo 33 1",
         calls: "",
         pieces: 3,
+    },
+    Made {
+        words: "build A a",
+        calls: "size a\nread_at a\ncreate A\nappend A\nsync A\nwrite_at A\nsync A\n",
+        pieces: 1,
+    },
+    Made {
+        words: "apply-here A b",
+        calls: "size A\nsize A\nsize A.journal\nsize A.journal\nsize A\nread_at A\n\
+            size b\nread_at b\nsync A\nsync A.journal\n\
+            size A\nsize A.journal\nsize A.journal\nsize A\nsize A\nread_at A\n\
+            size A.journal\nsize A.journal\ncreate A.journal\nappend A.journal\nsync A.journal\n\
+            size A.journal\nappend A.journal\nsync A.journal\n\
+            size A.journal\nwrite_at A.journal\nsync A.journal\n\
+            size A\nwrite_at A\nsize A\nwrite_at A\nsync A\n\
+            size A.journal\nwrite_at A.journal\nsync A.journal\n",
+        pieces: 0,
+    },
+    Made {
+        words: "recover A",
+        calls: "size A\nsync A\nsync A.journal\nsize A\nsize A.journal\nsize A.journal\n\
+            read_at A.journal\n",
+        pieces: 0,
     },
 ];
 

@@ -179,27 +179,71 @@ fn leaves_one_of_two(alloc: Global, maps: &Maps, disk: &MemDisk) -> Result<bool,
     Ok(old > 20 && new > 20)
 }
 
-// Whether each crash of a recovery leaves the new map, on what this crash of the update left.
-fn is_recovered(alloc: Global, maps: &Maps, disk: &MemDisk, step: u64) -> Result<bool, DiskErr> {
-    let mut left = disk.crash(step, 1)?;
-    if !recover(alloc, &mut left)? {
-        return Ok(true);
-    }
-    for step in 0..=left.calls_made() {
-        for pick in PICKS {
-            if recovered(alloc, maps, &left, step, *pick)? != Left::New {
-                return Ok(false);
-            }
+// Of these the ones that are taken behind each call of a recovery.
+const FEW: &[u64] = &[0, 1, 2, 7];
+
+// Whether each crash behind this call leaves the new map.
+fn leaves_new(
+    alloc: Global,
+    maps: &Maps,
+    disk: &MemDisk,
+    step: u64,
+    picks: &[u64],
+) -> Result<bool, DiskErr> {
+    for pick in picks {
+        if recovered(alloc, maps, disk, step, *pick)? != Left::New {
+            return Ok(false);
         }
     }
     Ok(true)
 }
 
-// Whether each crash of a recovery does, of every fourth one.
+// Whether a recovery of these files, of which this call fails, is refused, and leaves the new map.
+fn is_refused(
+    alloc: Global,
+    maps: &Maps,
+    (map, journal): (&[u8], &[u8]),
+    failing: u64,
+) -> Result<bool, DiskErr> {
+    let mut disk = MemDisk::new(alloc, map, journal, vec![in alloc; failing]?)?;
+    let is_fault = recover(alloc, &mut disk) == Err(DiskErr::Fault);
+    Ok(is_fault && leaves_new(alloc, maps, &disk, u64::MAX, &[1])?)
+}
+
+// Whether each crash of a recovery leaves the new map, and each call of one that fails, on what
+// this crash of the update left; or there is nothing to recover.
+fn is_recovered(
+    alloc: Global,
+    maps: &Maps,
+    disk: &MemDisk,
+    (step, pick): (u64, u64),
+) -> Result<bool, DiskErr> {
+    let mut left = disk.crash(step, pick)?;
+    let map = read_map(alloc, &mut left)?;
+    let journal = read_journal(alloc, &mut left)?;
+    let mut left = MemDisk::new(alloc, &map, &journal, Vec::new(alloc))?;
+    if !recover(alloc, &mut left)? {
+        return Ok(true);
+    }
+    for step in 0..=left.calls_made() {
+        if !leaves_new(alloc, maps, &left, step, FEW)? {
+            return Ok(false);
+        }
+        if step > 0 && !is_refused(alloc, maps, (&map, &journal), step)? {
+            return Ok(false);
+        }
+    }
+    Ok(true)
+}
+
+// Whether each crash of each recovery does, on what was synced, on what was written, and on that
+// with other bytes.
 fn are_recovered(alloc: Global, maps: &Maps, disk: &MemDisk) -> Result<bool, DiskErr> {
     for step in 0..=disk.calls_made() {
-        if step % 4 == 0 && !is_recovered(alloc, maps, disk, step)? {
-            return Ok(false);
+        for pick in 0..3u64 {
+            if !is_recovered(alloc, maps, disk, (step, pick))? {
+                return Ok(false);
+            }
         }
     }
     Ok(true)

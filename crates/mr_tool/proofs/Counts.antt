@@ -51,13 +51,15 @@ use Rattle.mr_plan.specs.declared.words.Command.{Command}
 use Rattle.mr_plan.specs.declared.words.Command.TheVariants as commands
 use Rattle.mr_command.specs.Answer.{World, HasStopped, IsWhole}
 use Rattle.mr_command.specs.Ending.{EndsAsSaid, EndsPlan, IsCarriedOut}
+use Rattle.mr_command.proofs.Rereading.{loud_of}
 use Rattle.mr_command.specs.private.Steps.{PrintsEnding}
 use Rattle.mr_command.specs.declared.ending.Ending.{Ending}
 use Rattle.mr_command.specs.declared.ending.Halt.{Halt}
 use Rattle.mr_command.proofs.Verdicts.{says_count_verdict, says_count_finding}
 use Rattle.mr_tool.specs.Promises.{HoldsBytes, DeliversOutcome, SaysSoundOrPair, CollidesRightly, CountsHonest, PrintsCount, IsCountWorth, CountsOrCollides, AuditsAcceptedCount}
 use Rattle.mr_tool.proofs.CountWorth.{count_from, count_honest, shown_honest, law_of, narrow_ways, number_there, own_number, own_taken, own_verdict}
-use Rattle.mr_tool.proofs.Promises.{HasRun, IsRunOr, Shown, beside_on, ends_on, layers_of, not_collided, not_refused, not_stopped, other_status, ran, shown_audit, shown_beside, taken_on, told_ends, whole_of}
+use Rattle.mr_tool.proofs.Ended.{HasRun, IsRunOr, beside_on, ends_on, layers_of, not_collided, not_refused, not_stopped, other_status, ran, taken_on, told_ends, whole_of}
+use Rattle.mr_tool.proofs.Audited.{Shown, shown_audit, shown_beside}
 
 abbrev way_at : Rectangle → (mask : Option ℕ) → Key → Way
 way_at w mask = count_ways (asks (Window w) mask)
@@ -254,7 +256,8 @@ module _ (hash : List ℕ → List ℕ) (words : List (List ℕ)) (before after 
     (carried : (c : Command) → SpellsCommand words c → IsCarriedOut hash c before.shelf after.shelf came)
     (ended : PrintsEnding came before.sink after.sink status) where
   ran_as : (command : Command) → SpellsCommand words command → IsRunOr hash command before after status
-  ran_as command spells = ran hash command before after status came (carried command spells) ended
+  ran_as command spells = ran hash command before after status came
+      (loud_of hash before.shelf after.shelf came command (carried command spells)) ended
 
   pub counted_honest : IsSized hash → CountsHonest hash words before after status
   counted_honest sized t batch root w mask name bytes well low is_root spells held own =

@@ -1,5 +1,11 @@
 pub mod Runs
 pub mod CountWorth
+pub mod JoinWorth
+pub mod Here
+pub mod Ended
+pub mod Audited
+pub mod InOrder
 pub mod Promises
 pub mod Counts
+pub mod Joins
 pub mod WholeRuns

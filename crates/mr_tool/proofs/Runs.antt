@@ -2,10 +2,11 @@
 use Rattle.std.proofs.Common.{append-nil, ◌≡◌, ℕ, List, [], refl, sym, ap, subst, ◌∙◌, inl, inr}
 use Rattle.std.specs.Prelude.{Option, Some, None, ◌⊎◌, Result, Ok, Err}
 use Rattle.mr_outside.specs.Files.{Files}
+use Rattle.mr_outside.specs.State.{Shelved}
 use Rattle.mr_outside.specs.Told.{OfFiles, TakesBytes, TakesFront}
 use Rattle.mr_outside.proofs.Taking.{TakesBytes-none}
 use Rattle.mr_command.specs.Answer.{World, HasOutsideCause, IsAnswer, IsQuiet, IsSettled, IsStopped, IsWhole, ShelfFailed}
-use Rattle.mr_command.specs.Ending.{AreJudged, EndsAsSaid, GivesUpAsSaid, IsCarriedOut, printed_of}
+use Rattle.mr_command.specs.Ending.{AreJudged, EndsAsSaid, GivesUpAsSaid, IsCalm, printed_of}
 use Rattle.mr_command.specs.private.Steps.{PrintsEnding, PrintsText}
 use Rattle.mr_plan.specs.Lines.{bad_words_line, shelf_fault_line}
 use Rattle.mr_plan.specs.Outcome.{Outcome, Written, Nothing, File, InPlace, LeavesWritten, MayLeave}
@@ -19,6 +20,7 @@ use Rattle.mr_plan.specs.declared.status.Status.{Status}
 use Rattle.mr_plan.specs.declared.status.Status.TheVariants.{BadWords, Outside, NoMemory}
 use Rattle.mr_plan.specs.declared.words.Command.{Command}
 use Rattle.mr_plan.proofs.InPlace.{mended_may}
+use Rattle.mr_command.proofs.Rereading.{IsCarriedLoudly}
 use Rattle.mr_command.proofs.Plans.{ended_so, given_up, one_outcome, stays}
 
 -- over files that are told, it is the one that they give
@@ -158,7 +160,7 @@ left_so hash command (Some files) left judged up =
     record { said = on.said; leads = on.leads; files = on.files }
 
 pub answer_of : (hash : List ℕ → List ℕ) (command : Command) (before after : World) (status : Status)
-    (came : Result Ending Halt) → IsCarriedOut hash command before.shelf after.shelf came
+    (came : Result Ending Halt) → IsCarriedLoudly hash command before.shelf after.shelf came
     → PrintsEnding came before.sink after.sink status → IsAnswer hash (Some command) before after status
 answer_of hash command before after status (Ok ending) comes ended =
     let on = said_so hash (Some command) before.shelf.files after.shelf.files ending.status (printed_of ending)
@@ -186,7 +188,7 @@ from_sink plan before after status meant text (inr stop) cause outside = elim st
     [ inl e ↦ absurd (cc) | inr e ↦ inr (inl e.1) ]
 
 pub outside_of : (hash : List ℕ → List ℕ) (command : Command) (before after : World) (status : Status)
-    (came : Result Ending Halt) → IsCarriedOut hash command before.shelf after.shelf came
+    (came : Result Ending Halt) → IsCarriedLoudly hash command before.shelf after.shelf came
     → PrintsEnding came before.sink after.sink status
     → status ≡ Outside → HasOutsideCause (say hash (Some command)) before after
 outside_of hash command before after status (Ok ending) comes ended outside =
@@ -199,20 +201,27 @@ outside_of hash command before after status (Err halts.Words) comes ended outsid
 outside_of hash command before after status (Err halts.Shelf) comes ended outside = inl comes.came.0
 outside_of hash command before after status (Err halts.NoMemory) comes ended outside = absurd (cc)
 
-pub quiet_of : (hash : List ℕ → List ℕ) (command : Command) (before after : World) (status : Status)
-    (came : Result Ending Halt) → IsCarriedOut hash command before.shelf after.shelf came
-    → PrintsEnding came before.sink after.sink status → IsQuiet status before after
-quiet_of hash command before after status (Ok ending) comes ended settled = elim ended.printed [
-  | inl whole ↦ (comes.quiet (subst IsSettled whole.0 settled), whole.2)
+pub quiet_of : (before after : World) (status : Status) (came : Result Ending Halt)
+    → IsCalm before.shelf after.shelf came → PrintsEnding came before.sink after.sink status
+    → (came ≡ Err halts.Words → ⊥) → IsQuiet status before after
+quiet_of before after status (Ok ending) calm ended spelled settled = elim ended.printed [
+  | inl whole ↦ (calm (subst IsSettled whole.0 settled), whole.2)
   | inr stop ↦ elim stop.0 [ inl e ↦ absurd (settled.1 e) | inr e ↦ absurd (settled.0 e.0) ]
 ]
-quiet_of hash command before after status (Err halts.Words) comes ended settled = absurd comes.came.0
-quiet_of hash command before after status (Err halts.Shelf) comes ended settled = elim ended.printed [
+quiet_of before after status (Err halts.Words) calm ended spelled settled = absurd (spelled refl)
+quiet_of before after status (Err halts.Shelf) calm ended spelled settled = elim ended.printed [
   | inl whole ↦ absurd (settled.0 whole.0)
   | inr stop ↦ elim stop.0 [ inl e ↦ absurd (settled.1 e) | inr e ↦ absurd (settled.0 e.0) ]
 ]
-quiet_of hash command before after status (Err halts.NoMemory) comes ended settled = absurd
-    (settled.1 ended.printed.0)
+quiet_of before after status (Err halts.NoMemory) calm ended spelled settled = absurd (settled.1 ended.printed.0)
+
+-- a command is not given up for its words
+pub spelled_of : (hash : List ℕ → List ℕ) (command : Command) (before after : Shelved) (came : Result Ending Halt)
+    → IsCarriedLoudly hash command before after came → came ≡ Err halts.Words → ⊥
+spelled_of hash command before after (Ok ending) comes is = cc
+spelled_of hash command before after (Err halts.Words) comes is = comes.came.0
+spelled_of hash command before after (Err halts.Shelf) comes is = cc
+spelled_of hash command before after (Err halts.NoMemory) comes is = cc
 
 -- the line on words that spell no command was printed, or a front of it
 pub words_answered : (hash : List ℕ → List ℕ) (before after : World) (status : Status)

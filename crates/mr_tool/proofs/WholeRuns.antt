@@ -8,10 +8,10 @@ use Rattle.mr_query.specs.declared.query.Shape.TheVariants.{Window}
 use Rattle.mr_outside.specs.Files.{Files}
 use Rattle.mr_command.specs.Answer.{World, IsQuiet}
 use Rattle.mr_command.specs.Counting.{AllowsReads, MayRead}
-use Rattle.mr_command.specs.Ending.{RunsPlan, IsCarriedOut}
+use Rattle.mr_command.specs.Ending.{ComesAsSaid, RunsPlan, IsCarriedOut}
 use Rattle.mr_command.specs.private.Steps.{PrintsEnding, PrintsText}
 use Rattle.mr_plan.specs.Lines.{bad_words_line}
-use Rattle.mr_tool.specs.Run.{AnswersWords, BlamesRightly, IsRun, ReadsFewWords}
+use Rattle.mr_tool.specs.Run.{AnswersWords, BlamesRightly, IsRun, ReadsFewWords, StaysQuiet}
 use Rattle.mr_plan.specs.Outcome.{Outcome}
 use Rattle.mr_plan.specs.Plan.{LeadsToOutcome}
 use Rattle.mr_plan.specs.Say.{ends, say}
@@ -26,10 +26,24 @@ use Rattle.mr_plan.specs.declared.status.Status.TheVariants.{BadWords}
 use Rattle.mr_plan.specs.declared.words.Command.{Command}
 use Rattle.mr_plan.specs.declared.words.Command.TheVariants as commands
 use Rattle.mr_command.proofs.Counting.{few_none}
-use Rattle.mr_command.proofs.Rereading.{carried_alike, comes_plain}
+use Rattle.mr_command.proofs.Rereading.{calm_of, loudly, carried_alike, comes_plain, loud_of}
 use Rattle.mr_tool.proofs.Counts.{counted_honest, counted_worth, counted_audited, collided_rightly}
-use Rattle.mr_tool.proofs.Promises.{completes, honest_answered, accepted_worth, accepted_audited, applied_alike, upgraded_all}
-use Rattle.mr_tool.proofs.Runs.{answer_of, from_sink, outside_of, quiet_of, words_answered}
+use Rattle.mr_tool.proofs.Joins.{joined_honest, joined_worth, joined_audited, joined_collided}
+use Rattle.mr_tool.proofs.Promises.{completes, honest_answered, accepted_worth, accepted_audited, applied_alike, applied_here, recovered_here, upgraded_all}
+use Rattle.mr_tool.proofs.Runs.{answer_of, from_sink, outside_of, quiet_of, spelled_of, words_answered}
+
+-- what comes as is said is carried out
+carried_of : (hash : List ℕ → List ℕ) (c : Command) (before after : Shelved) (result : Result Ending Halt)
+    → ComesAsSaid (say hash (Some c)) (MaySayUntold hash (Some c)) (MayRead hash (Some c)) before after result
+    → IsCarriedOut hash c before after result
+carried_of hash (commands.ApplyHere map batch) before after result on =
+    let c : Command = commands.ApplyHere map batch in
+    loudly (say hash (Some c)) (MaySayUntold hash (Some c)) (MayRead hash (Some c)) before after result on
+carried_of hash (commands.Recover map) before after result on =
+    let c : Command = commands.Recover map in
+    loudly (say hash (Some c)) (MaySayUntold hash (Some c)) (MayRead hash (Some c)) before after result on
+carried_of hash (commands.Root records) before after result on = on
+carried_of hash c before after result on = on
 
 -- a command that is its plan over any files is carried out
 pub as_plain : (hash : List ℕ → List ℕ) (command other : Command) (before after : Shelved)
@@ -39,8 +53,9 @@ pub as_plain : (hash : List ℕ → List ℕ) (command other : Command) (before 
     → RunsPlan (say hash (Some other)) before after result → IsCarriedOut hash command before after result
 as_plain hash command other before after result is says few on =
     subst (λ c. IsCarriedOut hash c before after result) (sym is)
+    (carried_of hash other before after result
     (comes_plain (say hash (Some other)) before after (MaySayUntold hash (Some other)) (MayRead hash (Some other))
-    result says few on)
+    result says few on))
 
 pub as_carried : (hash : List ℕ → List ℕ) (command other : Command) (before after : Shelved)
     (result : Result Ending Halt) → command ≡ other → IsCarriedOut hash other before after result
@@ -57,15 +72,16 @@ module _ (hash : List ℕ → List ℕ) (words : List (List ℕ)) (before after 
   run_of command came sized read comes ended =
       let carried : (c : Command) → SpellsCommand words c → IsCarriedOut hash c before.shelf after.shelf came =
       λ c spells. carried_alike hash c command before.shelf after.shelf came (read (Some c) spells) comes in
+      let loud = loud_of hash before.shelf after.shelf came command comes in
       record {
         answer = answer carried;
         outside = outside carried;
         counts = record {
-          shelf_faults = comes.counts.faults;
-          reads = comes.counts.reads;
+          shelf_faults = loud.counts.faults;
+          reads = loud.counts.reads;
           sink_faults = ended.faults;
         };
-        quiet = quiet_of hash command before after status came comes ended;
+        quiet = quiet carried;
         reads = reads carried;
         complete = completes hash words before after status came carried ended sized;
         honest = honest_answered hash words before after status came carried ended sized;
@@ -75,8 +91,14 @@ module _ (hash : List ℕ → List ℕ) (words : List (List ℕ)) (before after 
         count_honest = counted_honest hash words before after status came carried ended sized;
         count_worth = counted_worth hash words before after status came carried ended sized;
         count_audited = counted_audited hash words before after status came carried ended sized;
+        join_honest = joined_honest hash words before after status came carried ended sized;
+        join_worth = joined_worth hash words before after status came carried ended sized;
+        join_audited = joined_audited hash words before after status came carried ended sized;
+        join_collides = joined_collided hash words before after status came carried ended sized;
         alike = applied_alike hash words before after status came carried ended;
         upgrades = upgraded_all hash words before after status came carried ended;
+        recovers = recovered_here hash words before after status came carried ended;
+        applies_here = applied_here hash words before after status came carried ended;
       }
     where
       not_none : {A : Type 0} → IsSpelled words None → A
@@ -85,17 +107,28 @@ module _ (hash : List ℕ → List ℕ) (words : List (List ℕ)) (before after 
       answer : ((c : Command) → SpellsCommand words c → IsCarriedOut hash c before.shelf after.shelf came)
           → AnswersWords hash words before after status
       answer carried None spelled = not_none spelled
-      answer carried (Some c) spelled = answer_of hash c before after status came (carried c spelled) ended
+      answer carried (Some c) spelled = answer_of hash c before after status came
+          (loud_of hash before.shelf after.shelf came c (carried c spelled)) ended
 
       outside : ((c : Command) → SpellsCommand words c → IsCarriedOut hash c before.shelf after.shelf came)
           → BlamesRightly hash words before after status
       outside carried None spelled is = not_none spelled
-      outside carried (Some c) spelled is = outside_of hash c before after status came (carried c spelled) ended is
+      outside carried (Some c) spelled is = outside_of hash c before after status came
+          (loud_of hash before.shelf after.shelf came c (carried c spelled)) ended is
+
+      quiet : ((c : Command) → SpellsCommand words c → IsCarriedOut hash c before.shelf after.shelf came)
+          → StaysQuiet words before after status
+      quiet carried None spelled = not_none spelled
+      quiet carried (Some c) spelled = elim (calm_of hash before.shelf after.shelf came c (carried c spelled)) [
+        | inl loud ↦ inl loud
+        | inr calm ↦ inr (quiet_of before after status came calm ended (spelled_of hash c before.shelf after.shelf came
+            (loud_of hash before.shelf after.shelf came c (carried c spelled))))
+      ]
 
       reads : ((c : Command) → SpellsCommand words c → IsCarriedOut hash c before.shelf after.shelf came)
           → ReadsFewWords hash words before after
       reads carried None spelled = not_none spelled
-      reads carried (Some c) spelled = (carried c spelled).few
+      reads carried (Some c) spelled = (loud_of hash before.shelf after.shelf came c (carried c spelled)).few
 
   quiet_words : after.shelf ≡ before.shelf → PrintsText BadWords bad_words_line before.sink after.sink status
       → IsQuiet status before after
@@ -115,7 +148,7 @@ module _ (hash : List ℕ → List ℕ) (words : List (List ℕ)) (before after 
       reads = omega (arith, ap (λ s. s.reads) same);
       sink_faults = ended.faults;
     };
-    quiet = quiet_words same ended.printed;
+    quiet = λ command spelled. inr (quiet_words same ended.printed);
     reads = reads;
     complete = λ command spells order. absurd (none command spells);
     honest = λ v t batch root q name bytes well layers low is_root spells held own. absurd
@@ -134,9 +167,19 @@ module _ (hash : List ℕ → List ℕ) (words : List (List ℕ)) (before after 
         absurd (none (commands.CheckCount root (asks (Window w) mask) name) spells);
     count_audited = λ v t batch map w mask name held bytes said spells map_held stands name_held shows.
         absurd (none (commands.AuditCount map (asks (Window w) mask) name) spells);
+    join_honest = λ m n first second name bytes own_m own_n is_first is_second spells held own.
+        absurd (none (commands.CheckJoin first second name) spells);
+    join_worth = λ m n first second name bytes own_m own_n is_first is_second spells held done.
+        absurd (none (commands.CheckJoin first second name) spells);
+    join_audited = λ m n first second name one other bytes pairs spells held_m stands_m held_n stands_n held all given.
+        absurd (none (commands.AuditJoin first second name) spells);
+    join_collides = λ first second name spells is. absurd (none (commands.AuditJoin first second name) spells);
     alike = λ v t held old batch new bytes text b spells there stands beside right done.
         absurd (none (commands.Apply old batch new) spells);
     upgrades = λ v t batch old new bytes spells held stands done. absurd (none (commands.Upgrade old new) spells);
+    recovers = λ map files spells told done. absurd (none (commands.Recover map) spells);
+    applies_here = λ v t held map batch files text b spells told stands beside right done.
+        absurd (none (commands.ApplyHere map batch) spells);
   }
     where
       answer : AnswersWords hash words before after status

@@ -1,11 +1,15 @@
 -- What a run promises of inputs that are in order, of honest proofs and of accepted ones: theorems
 -- over what it answers, in the form in which they are quoted. They speak of files that are told,
 -- but for the commands that read none.
-use Rattle.std.specs.Prelude.{◌≡◌, ◌⊎◌, ⊤, ℕ, ◌^◌, ◌<◌, List, [], ◌∷◌, ◌++◌, length, All, Option, Some, None, Ok}
+use Rattle.std.specs.Prelude.{◌≡◌, ◌⊎◌, ⊤, ℕ, ◌^◌, ◌<◌, List, [], ◌∷◌, ◌++◌, length, All, false, Option, Some, None, Ok}
 use Rattle.std.specs.Borrow.{Bor}
 use Rattle.mr_geom.specs.Rectangle.{Rectangle}
 use Rattle.mr_outside.specs.Files.{Files, file}
 use Rattle.mr_outside.specs.Told.{TakesBytes}
+use Rattle.mr_journal.specs.Format.{is_open}
+use Rattle.mr_journal.specs.Recovered.{FilesHave, restored_in}
+use Rattle.mr_journal.specs.Shelves.{bytes_or_none, image_on}
+use Rattle.mr_record.specs.private.Bytes.{AreBytes}
 use Rattle.mr_record.specs.RecordText.{records_of_text, text_of}
 use Rattle.mr_record.specs.declared.record.Record.{Record}
 use Rattle.mr_record.specs.declared.version.Version.{Version}
@@ -33,16 +37,19 @@ use Rattle.mr_proof.specs.Spelling.{Parsed}
 use Rattle.mr_proof.specs.Tight.{Question, MayCome, question}
 use Rattle.mr_proof.specs.declared.head.Kind.TheVariants as kind
 use Rattle.mr_count.specs.Inside.{inside_way, count_inside}
+use Rattle.mr_join.specs.Accepted.{Owned, IsOwned, join_proof, map_pairs, first_clash, second_clash}
+use Rattle.mr_join.specs.declared.pair.Pair as joined
 use Rattle.mr_bundle.specs.Bundle.{parts}
 use Rattle.mr_bundle.specs.Proofs.{HasProofs}
 use Rattle.mr_bundle.specs.Verdicts.{verdicts}
 use Rattle.mr_command.specs.Answer.{World, IsWhole, HasStopped}
 use Rattle.mr_plan.specs.Counts.{count_letter, count_question, count_ways}
+use Rattle.mr_plan.specs.Joins.{join_given, pair_lines, map_collision_lines, first_name, second_name}
 use Rattle.mr_plan.specs.Judged.{IsAccepted}
 use Rattle.mr_plan.specs.Outcome.{Outcome}
-use Rattle.mr_plan.specs.Lines.{digest_line, counted_line, sound_line, collision_lines}
+use Rattle.mr_plan.specs.Lines.{digest_line, counted_line, recovered_line, sound_line, collision_lines}
 use Rattle.mr_plan.specs.Say.{ends, prints}
-use Rattle.mr_plan.specs.Words.{SpellsCommand}
+use Rattle.mr_plan.specs.Words.{SpellsCommand, journal_of}
 use Rattle.mr_plan.specs.declared.status.Status.{Status}
 use Rattle.mr_plan.specs.declared.status.Status.TheVariants.{Done, Collision}
 use Rattle.mr_plan.specs.declared.words.Command.{Command}
@@ -143,6 +150,57 @@ pub record HoldsBundle (hash : List ℕ → List ℕ) (told : Option Files) (roo
   pub accepted : All IsAccepted
       (verdicts hash root queries bytes (parts bytes (length queries)).list)
 
+-- two maps of version 2
+pub record HoldsMaps (hash : List ℕ → List ℕ) (told : Option Files) (first second : List ℕ)
+    : Type 0 where
+  pub one : HoldsMap Two hash told first
+  pub other : HoldsMap Two hash told second
+
+-- the map, as its owner has it
+abbrev pub owner_of : {v : Version} {hash : List ℕ → List ℕ} {told : Option Files} {name : List ℕ}
+    → HoldsMap v hash told name → Owned
+owner_of on = record { tree = on.tree; batch = on.batch }
+
+-- it proves pairs of records of two maps
+pub record HoldsPairs (hash : List ℕ → List ℕ) (told : Option Files) (first second : List ℕ)
+    (name : List ℕ) : Type 0 where
+  pub bytes : List ℕ
+  pub held : HoldsBytes told name bytes
+  pub pairs : List joined.Pair
+  pub given : join_given hash first second bytes ≡ Ok pairs
+
+-- two maps of version 2, and the honest proof of their join
+pub record HoldsHonestJoin (hash : List ℕ → List ℕ) (told : Option Files) (first second : List ℕ)
+    (name : List ℕ) : Type 0 where
+  pub on : HoldsMaps hash told first second
+  pub bytes : List ℕ
+  pub beside : HoldsBytes told name bytes
+  pub own : bytes ≡ join_proof hash hash (owner_of on.one) (owner_of on.other)
+
+-- the named file is there
+abbrev pub HoldsFile : Option Files → List ℕ → Type 0
+HoldsFile told name = (bytes : List ℕ) × HoldsBytes told name bytes
+
+-- the map as recovery would leave it, where the files are told
+abbrev pub restored_on : Option Files → (map : List ℕ) → List ℕ
+restored_on None map = []
+restored_on (Some files) map = restored_in map (journal_of map) files
+
+-- a map that is there, and as recovery would leave it stands for one of either version; and a text
+-- of a batch without a fault in that version, which may be applied to it
+pub record HoldsHere (hash : List ℕ → List ℕ) (told : Option Files) (map : List ℕ)
+    (name : List ℕ) : Type 0 where
+  pub there : HoldsFile told map
+  pub version : Version
+  pub tree : Tree
+  pub batch : ℕ
+  pub stands : IsMapFile hash (restored_on told map) (map_in version tree batch)
+  pub text : List ℕ
+  pub beside : HoldsBytes told name text
+  pub changes : Changes
+  pub right : batch_of_text version text ≡ Ok changes
+  pub may : IsAdmissible (records tree) batch changes
+
 -- the inputs of a command are there, and each is in order
 abbrev pub IsInOrder : (List ℕ → List ℕ) → Option Files → Command → Type 0
 IsInOrder hash told (commands.Root name) = HoldsRecords One told name.now
@@ -152,6 +210,8 @@ IsInOrder hash told (commands.Build2 map name) = HoldsRecords Two told name.now
 IsInOrder hash told (commands.List map) = HoldsAnyMap hash told map.now
 IsInOrder hash told (commands.Upgrade old new) = HoldsAnyMap hash told old.now
 IsInOrder hash told (commands.Apply old batch new) = HoldsBatch hash told old.now batch.now
+IsInOrder hash told (commands.ApplyHere map batch) = HoldsHere hash told map.now batch.now
+IsInOrder hash told (commands.Recover map) = HoldsFile told map.now
 IsInOrder hash told (commands.Prove map q proof) = HoldsProvable hash told map.now q
 IsInOrder hash told (commands.Check root q proof) = HoldsProof hash told root q proof.now
 IsInOrder hash told (commands.Audit map q proof) =
@@ -161,6 +221,12 @@ IsInOrder hash told (commands.CheckCount root q proof) =
     HoldsCut hash told root (count_question (count_ways q)) proof.now
 IsInOrder hash told (commands.AuditCount map q proof) =
     HoldsHonest hash told map.now (count_question (count_ways q)) proof.now
+IsInOrder hash told (commands.Join first second proof) =
+    HoldsMaps hash told first.now second.now
+IsInOrder hash told (commands.CheckJoin first second proof) =
+    HoldsPairs hash told first second proof.now
+IsInOrder hash told (commands.AuditJoin first second proof) =
+    HoldsHonestJoin hash told first.now second.now proof.now
 IsInOrder hash told (commands.Serve map script bundle) =
     HoldsScript hash told map.now script.now
 IsInOrder hash told (commands.CheckAll root script bundle) =
@@ -328,6 +394,90 @@ AuditsAcceptedCount hash words before after status =
     (counted_line (count_inside window (layers_named mask) (records t)))
     (clash_of (kind.Choice count_letter) (by v hash) t batch bytes) before after status
 
+-- ---- joins
+
+-- the root digest of a map of version 2
+abbrev pub owned_root : (List ℕ → List ℕ) → Owned → List ℕ
+owned_root hash m = map_root hash (map_in Two m.tree m.batch)
+
+-- `check-join` of the proof that an honest server gives, against the root digests of its two maps
+-- of version 2, prints all pairs of their records whose rectangles meet, a line for each.
+abbrev pub JoinsHonest : (List ℕ → List ℕ) → List (List ℕ) → World → World → Status → Type 0
+JoinsHonest hash words before after status =
+    (m n : Owned) (first second : List ℕ) (proof : Bor (List ℕ)) (bytes : List ℕ)
+    → IsOwned m → IsOwned n → first ≡ owned_root hash m → second ≡ owned_root hash n
+    → SpellsCommand words (commands.CheckJoin first second proof)
+    → HoldsBytes before.shelf.files proof.now bytes → bytes ≡ join_proof hash hash m n
+    → DeliversOutcome (prints (pair_lines (map_pairs m n))) before after status
+
+-- the bytes are those that an honest server gives, and what was printed are exactly the pairs of
+-- one record of each map whose rectangles meet
+pub record PrintsPairs (hash : List ℕ → List ℕ) (m n : Owned) (bytes : List ℕ)
+    (before after : World) : Type 0 where
+  pub own : bytes ≡ join_proof hash hash m n
+  pub printed : TakesBytes before.sink after.sink (pair_lines (map_pairs m n))
+
+-- The bytes prove pairs. And no two strings stand at one place of the first map and of its part of
+-- the bytes and differ, nor of the second map, the bytes are the honest proof and what was printed
+-- are all pairs; or the first two that do differ, of the first map or else of the second, have one
+-- hash.
+pub record IsJoinWorth (hash : List ℕ → List ℕ) (m n : Owned) (bytes : List ℕ)
+    (before after : World) : Type 0 where
+  pub pairs : List joined.Pair
+  pub given : join_given hash (owned_root hash m) (owned_root hash n) bytes ≡ Ok pairs
+  pub worth : NoneAnd hash (first_clash (by Two hash) m bytes)
+      (NoneAnd hash (second_clash (by Two hash) n bytes) (PrintsPairs hash m n bytes before after))
+
+-- What it is worth that `check-join` accepts bytes against the root digests of two maps of version
+-- 2, for every two maps and bytes.
+abbrev pub JoinsOrCollides : (List ℕ → List ℕ) → List (List ℕ) → World → World → Status → Type 0
+JoinsOrCollides hash words before after status =
+    (m n : Owned) (first second : List ℕ) (proof : Bor (List ℕ)) (bytes : List ℕ)
+    → IsOwned m → IsOwned n → first ≡ owned_root hash m → second ≡ owned_root hash n
+    → SpellsCommand words (commands.CheckJoin first second proof)
+    → HoldsBytes before.shelf.files proof.now bytes → status ≡ Done
+    → IsJoinWorth hash m n bytes before after
+
+-- What an audit says of an accepted join, by the first two strings of either map that differ: that
+-- the bytes are the honest proof, and then these lines; or the two strings, which have one hash.
+abbrev pub SaysJoinOrPair : (List ℕ → List ℕ) → (own : Type 0) → (lines : List ℕ)
+    → (first second : Option Pair) → World → World → Status → Type 0
+SaysJoinOrPair hash own lines None None before after status =
+    own × DeliversOutcome (prints (sound_line ++ lines)) before after status
+SaysJoinOrPair hash own lines None (Some p) before after status = IsCollision hash p
+    × DeliversOutcome (ends Collision (map_collision_lines second_name p.owned p.shown)) before
+    after status
+SaysJoinOrPair hash own lines (Some p) second before after status = IsCollision hash p
+    × DeliversOutcome (ends Collision (map_collision_lines first_name p.owned p.shown)) before
+    after status
+
+-- So `audit-join` says of each proof that is accepted against the root digests of the two maps of
+-- version 2 that files stand for.
+abbrev pub AuditsAcceptedJoin : (List ℕ → List ℕ) → List (List ℕ) → World → World → Status → Type 0
+AuditsAcceptedJoin hash words before after status =
+    (m n : Owned) (first second proof : Bor (List ℕ)) (one other bytes : List ℕ)
+    (pairs : List joined.Pair)
+    → SpellsCommand words (commands.AuditJoin first second proof)
+    → HoldsBytes before.shelf.files first.now one → IsMapFile hash one (map_in Two m.tree m.batch)
+    → HoldsBytes before.shelf.files second.now other
+    → IsMapFile hash other (map_in Two n.tree n.batch)
+    → HoldsBytes before.shelf.files proof.now bytes → AreBytes bytes
+    → join_given hash (owned_root hash m) (owned_root hash n) bytes ≡ Ok pairs
+    → SaysJoinOrPair hash (bytes ≡ join_proof hash hash m n) (pair_lines (map_pairs m n))
+    (first_clash (by Two hash) m bytes) (second_clash (by Two hash) n bytes) before after status
+
+-- Two strings that it shows as a collision, of the first map or of the second, differ and have one
+-- hash, whether files are told or not; that they are the printed ones is known where the sink tells
+-- what it takes.
+abbrev pub JoinsCollideRightly : (List ℕ → List ℕ) → List (List ℕ) → World → World → Status
+    → Type 0
+JoinsCollideRightly hash words before after status =
+    (first second proof : Bor (List ℕ))
+    → SpellsCommand words (commands.AuditJoin first second proof) → status ≡ Collision
+    → (name : List ℕ) × ((name ≡ first_name) ⊎ (name ≡ second_name)) × ((p : Pair)
+    × IsCollision hash p
+    × TakesBytes before.sink after.sink (map_collision_lines name p.owned p.shown))
+
 -- ---- changes
 
 -- what `apply` prints and leaves of a batch on a map: the batch may be applied, the root digest of
@@ -368,3 +518,42 @@ UpgradesAll hash words before after status =
     → SpellsCommand words (commands.Upgrade old new) → HoldsBytes before.shelf.files old.now bytes
     → IsMapFile hash bytes (map_in v t batch) → status ≡ Done
     → IsUpgraded hash t batch new.now before after
+
+-- ---- a map in its own file
+
+-- what `recover` prints and leaves of a map and its journal: whether that was open is printed; the
+-- map's file holds what both restored to, and the journal is not open
+pub record IsRecovered (map : List ℕ) (files : Files) (before after : World) : Type 0 where
+  pub printed : TakesBytes before.sink after.sink
+      (recovered_line (is_open (image_on map (journal_of map) files)))
+  pub left : FilesHave after.shelf.files
+      (λ new. (bytes_or_none new map ≡ restored_in map (journal_of map) files)
+      × (is_open (image_on map (journal_of map) new) ≡ false))
+
+-- so it does of whatever files there are
+abbrev pub RecoversHere : List (List ℕ) → World → World → Status → Type 0
+RecoversHere words before after status = (map : Bor (List ℕ)) (files : Files)
+    → SpellsCommand words (commands.Recover map) → before.shelf.files ≡ Some files
+    → status ≡ Done → IsRecovered map.now files before after
+
+-- what `apply-here` prints and leaves of a batch on a map: the batch may be applied, the root
+-- digest of the map after it is printed, the map's own file stands for that, and the journal is
+-- not open
+pub record IsAppliedHere (v : Version) (hash : List ℕ → List ℕ) (t : Tree) (held : ℕ) (b : Changes)
+    (map : List ℕ) (before after : World) : Type 0 where
+  pub may : IsAdmissible (records t) held b
+  pub printed : TakesBytes before.sink after.sink
+      (digest_line (map_root hash (map_in v (replay t (b ∷ [])) b.number)))
+  pub left : FilesHave after.shelf.files
+      (λ new. IsMapFile hash (bytes_or_none new map) (map_in v (replay t (b ∷ [])) b.number)
+      × (is_open (image_on map (journal_of map) new) ≡ false))
+
+-- So it does of each map that the file and its journal restore to, of either version.
+abbrev pub AppliesHere : (List ℕ → List ℕ) → List (List ℕ) → World → World → Status → Type 0
+AppliesHere hash words before after status =
+    (v : Version) (t : Tree) (held : ℕ) (map batch : Bor (List ℕ)) (files : Files)
+    (text : List ℕ) (b : Changes)
+    → SpellsCommand words (commands.ApplyHere map batch) → before.shelf.files ≡ Some files
+    → IsMapFile hash (restored_in map.now (journal_of map.now) files) (map_in v t held)
+    → HoldsBytes before.shelf.files batch.now text → batch_of_text v text ≡ Ok b → status ≡ Done
+    → IsAppliedHere v hash t held b map.now before after

@@ -3,10 +3,10 @@
 ghost use Rattle.std.specs.Prelude.{◌≡◌, ℕ, List, length, Some, None, map};
 ghost use Rattle.std.specs.String.{string_bytes};
 ghost use Rattle.mr_record.specs.private.Bytes.{AreBytes};
-ghost use Rattle.mr_command.specs.Answer.{NoCountFalls, IsQuiet, world};
+ghost use Rattle.mr_command.specs.Answer.{NoCountFalls, world};
 ghost use Rattle.mr_command.specs.Ending.{RunsPlan, IsCarriedOut};
-ghost use Rattle.mr_tool.specs.Promises.{CompletesWords, AnswersHonest, AcceptsHonestOrCollides, AuditsAccepted, CollidesRightly, CountsHonest, CountsOrCollides, AuditsAcceptedCount, AppliesAlike, UpgradesAll};
-ghost use Rattle.mr_tool.specs.Run.{AnswersWords, BlamesRightly, IsRun, ReadsFewWords};
+ghost use Rattle.mr_tool.specs.Promises.{CompletesWords, AnswersHonest, AcceptsHonestOrCollides, AuditsAccepted, CollidesRightly, CountsHonest, CountsOrCollides, AuditsAcceptedCount, JoinsHonest, JoinsOrCollides, AuditsAcceptedJoin, JoinsCollideRightly, AppliesAlike, AppliesHere, RecoversHere, UpgradesAll};
+ghost use Rattle.mr_tool.specs.Run.{AnswersWords, BlamesRightly, IsRun, ReadsFewWords, StaysQuiet};
 ghost use Rattle.mr_plan.specs.Say.{say_root, say_build};
 ghost use Rattle.mr_plan.specs.Spelling.{IsSpelled};
 ghost use Rattle.mr_plan.specs.private.Asking.{MayBeAsked};
@@ -15,8 +15,9 @@ ghost use Rattle.mr_query.specs.Word.{IsAskable};
 
 use crate::finish::finish;
 use mr_command::{
-    Ending, Halt, apply, audit_count, audit_query, build, check_bundle, check_count, check_proof,
-    count, demo, list, make, prove_query, root, serve, upgrade,
+    Ending, Halt, apply, apply_in_place, audit_count, audit_join_proof, audit_query, build,
+    check_bundle, check_count, check_join_proof, check_proof, count, demo, join, list, make,
+    prove_query, recover_map, root, serve, upgrade,
 };
 use mr_outside::{Gate, Shelf, Sink};
 use mr_plan::{Command, Status, read_words};
@@ -114,6 +115,8 @@ fn carry_out<H: Hash32, S: Shelf, G: Gate, R: Threads + Sync>(
             (came, shelf)
         }
         Command::Apply(old, batch, new) => apply::<H, S>(alloc, *old, *batch, *new, shelf),
+        Command::ApplyHere(map, batch) => apply_in_place::<H, S>(alloc, *map, *batch, shelf),
+        Command::Recover(map) => recover_map::<S>(alloc, *map, shelf),
         Command::Prove(map, query, proof) => {
             prove_query::<H, S>(alloc, *map, query, *proof, shelf)
         }
@@ -131,6 +134,21 @@ fn carry_out<H: Hash32, S: Shelf, G: Gate, R: Threads + Sync>(
         }
         Command::AuditCount(map, query, proof) => {
             audit_count::<H, S>(alloc, *map, query, *proof, shelf)
+        }
+        Command::Join(first, second, proof) => {
+            let mut shelf = shelf;
+            let came = join::<H, S>(alloc, *first, *second, *proof, &mut shelf);
+            (came, shelf)
+        }
+        Command::CheckJoin(first, second, proof) => {
+            let mut shelf = shelf;
+            let came = check_join_proof::<H, S>(alloc, first, second, *proof, &mut shelf);
+            (came, shelf)
+        }
+        Command::AuditJoin(first, second, proof) => {
+            let mut shelf = shelf;
+            let came = audit_join_proof::<H, S>(alloc, *first, *second, *proof, &mut shelf);
+            (came, shelf)
         }
         Command::Serve(map, script, bundle) => {
             serve::<H, S, G, R>(rt, alloc, *map, *script, *bundle, shelf, gate)
@@ -207,10 +225,11 @@ pub fn run<H: Hash32, S: Shelf, W: Sink, G: Gate, R: Threads + Sync>(
     ensures counts { let before = world (S.state shelf) (W.state out.old) in
         let after = world (S.state result.1) (W.state out.new) in
         NoCountFalls before after }
-    // Where it blames nothing outside and no want of memory, nothing outside failed.
+    // Where it blames nothing outside and no want of memory, nothing outside failed. Of a map in
+    // its own file, whose journal may be absent, that is said where the files are told alone.
     ensures quiet { let before = world (S.state shelf) (W.state out.old) in
         let after = world (S.state result.1) (W.state out.new) in
-        IsQuiet result.0 before after }
+        StaysQuiet (map string_bytes words.now) before after result.0 }
     // Where the files are told, no input that is read whole is read twice; a map that is read page
     // by page takes its pages once, and a large one besides the nodes that the proof opens, or each
     // node once for `serve` and for the directory of `apply`; `apply`, where the batch may be
@@ -222,7 +241,7 @@ pub fn run<H: Hash32, S: Shelf, W: Sink, G: Gate, R: Threads + Sync>(
     // Words that spell no command leave the shelf alone.
     ensures unspoken { IsSpelled (map string_bytes words.now) None → result.1 ≡ shelf }
     // Inputs that are in order are dealt with to the end. A map that is proved is in order where it
-    // is of version 2, or the queries name no mask; of a count, where it is of version 2.
+    // is of version 2, or the queries name no mask; of a count or a join, where it is of version 2.
     ensures complete { let before = world (S.state shelf) (W.state out.old) in
         let after = world (S.state result.1) (W.state out.new) in
         CompletesWords H.of (map string_bytes words.now) before after result.0 }
@@ -258,6 +277,24 @@ pub fn run<H: Hash32, S: Shelf, W: Sink, G: Gate, R: Threads + Sync>(
     ensures count_audited { let before = world (S.state shelf) (W.state out.old) in
         let after = world (S.state result.1) (W.state out.new) in
         AuditsAcceptedCount H.of (map string_bytes words.now) before after result.0 }
+    // The proof of a join that an honest server gives of two maps of version 2 is accepted, with
+    // all pairs of their records that meet.
+    ensures join_honest { let before = world (S.state shelf) (W.state out.old) in
+        let after = world (S.state result.1) (W.state out.new) in
+        JoinsHonest H.of (map string_bytes words.now) before after result.0 }
+    // What is accepted as such a proof is that one, and the pairs printed are exactly those; or the
+    // hash function has a collision, in the first map or in the second.
+    ensures join_worth { let before = world (S.state shelf) (W.state out.old) in
+        let after = world (S.state result.1) (W.state out.new) in
+        JoinsOrCollides H.of (map string_bytes words.now) before after result.0 }
+    // An audit of it says which of the two it is.
+    ensures join_audited { let before = world (S.state shelf) (W.state out.old) in
+        let after = world (S.state result.1) (W.state out.new) in
+        AuditsAcceptedJoin H.of (map string_bytes words.now) before after result.0 }
+    // Two strings that this shows as a collision are one.
+    ensures join_collides { let before = world (S.state shelf) (W.state out.old) in
+        let after = world (S.state result.1) (W.state out.new) in
+        JoinsCollideRightly H.of (map string_bytes words.now) before after result.0 }
     // What is made of a map by a batch goes by the map, of either version, and not by the layout of
     // its file.
     ensures alike { let before = world (S.state shelf) (W.state out.old) in
@@ -267,6 +304,15 @@ pub fn run<H: Hash32, S: Shelf, W: Sink, G: Gate, R: Threads + Sync>(
     ensures upgrades { let before = world (S.state shelf) (W.state out.old) in
         let after = world (S.state result.1) (W.state out.new) in
         UpgradesAll H.of (map string_bytes words.now) before after result.0 }
+    // A map that a crash left beside its journal is recovered, and it is said whether there was
+    // anything to be done.
+    ensures recovers { let before = world (S.state shelf) (W.state out.old) in
+        let after = world (S.state result.1) (W.state out.new) in
+        RecoversHere (map string_bytes words.now) before after result.0 }
+    // A batch is applied to a map in its own file, which then stands for the map after it.
+    ensures applies_here { let before = world (S.state shelf) (W.state out.old) in
+        let after = world (S.state result.1) (W.state out.new) in
+        AppliesHere H.of (map string_bytes words.now) before after result.0 }
 {
     answered::<H, S, W, G, R>(rt, alloc, words, shelf, out, gate)
 }

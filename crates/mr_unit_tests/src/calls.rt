@@ -1,6 +1,6 @@
 //! Tables of calls as text: on each line a call, its words and, behind ` = `, what it answers.
 
-use crate::{batches, fields, queries, rects, splits, texts, trees};
+use crate::{batches, fields, joins, queries, rects, splits, texts, trees};
 use mr_geom::Rect;
 use mr_record::read_i32;
 use std::alloc::{AllocError, Global};
@@ -10,6 +10,7 @@ use std::alloc::{AllocError, Global};
 pub enum Kind {
     Batches,
     Fields,
+    Joins,
     Queries,
     Rects,
     Splits,
@@ -21,6 +22,7 @@ fn answer(alloc: Global, kind: Kind, call: &str, words: &str) -> Result<String, 
     match kind {
         Kind::Batches => batches::answer(alloc, call, words),
         Kind::Fields => fields::answer(alloc, call, words),
+        Kind::Joins => joins::answer(alloc, call, words),
         Kind::Queries => queries::answer(alloc, call, words),
         Kind::Rects => rects::answer(alloc, call, words),
         Kind::Splits => splits::answer(alloc, call, words),

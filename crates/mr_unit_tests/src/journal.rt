@@ -1,21 +1,21 @@
 //! A map's file that is changed in place by its journal: the calls on the files in their order, a
-//! journal that is found open, and a change that is stopped after each call on the disk, or of
-//! which each call fails. Roots are under the exclusive or of all bytes.
+//! journal that is found open, and a batch that is stopped after each call on the disk, or of which
+//! each call fails. Roots are under the exclusive or of all bytes.
 
-ghost use Rattle.std.specs.Prelude.{◌≡◌, ℕ, true, length, IfOk, IfSome, OnOk, OnErr};
+ghost use Rattle.std.specs.Prelude.{◌≡◌, true, All, IfSome, OnOk, OnErr};
 ghost use Rattle.mr_record.specs.declared.version.Version.TheVariants.{One};
 ghost use Rattle.mr_tree.specs.WellFormed.{WellFormed, HasLayers};
 ghost use Rattle.mr_outside.specs.Faults.{next_count};
-ghost use Rattle.mr_journal.specs.Format.{ready};
+ghost use Rattle.mr_batch.specs.Changes.{IsLayered};
 
-use crate::assertions::{all_hold_in_memory, holds};
-use crate::made::{is_first, record_of, records_of, tree_of};
-use mr_grow::insert;
-use mr_journal::{
-    Disk, DiskErr, MemDisk, ShelfDisk, read_map, recover, spell_changes, write_pages,
-};
+use crate::assertions::{all_hold, all_hold_in_memory, holds};
+use crate::made::{is_first, records_of, tree_of};
+use mr_batch::{Batch, read_batch_of};
+use mr_here::{HereErr, apply_here};
+use mr_journal::{DiskErr, MemDisk, ShelfDisk, read_map, recover};
 use mr_outside::{MemShelf, Shelf, ShelfErr};
 use mr_pages::{open_plain, save_plain};
+use mr_record::Version;
 use mr_tree::{Tree, XorHash, root_of};
 use std::alloc::{AllocError, Global};
 
@@ -54,82 +54,93 @@ fn root_at(alloc: Global, bytes: &[u8], later: u64) -> Result<(u64, u8), AllocEr
     }
 }
 
-// The files of a map before and after a change.
+// The bytes of a map's file, and a batch.
 #[derive(Drop)]
-struct Maps {
+struct Change {
     old: Vec<u8>,
-    new: Vec<u8>,
+    batch: Batch,
 }
 
-// A leaf of sixteen records, which a seventeenth one splits.
-fn split_leaf(alloc: Global) -> Option<Maps> {
-    let tree = tree_of(alloc, records_of(alloc, SIXTEEN)?)?;
-    let old = file_of(alloc, &tree, 0)?;
-    let Ok(grown) = insert(alloc, tree, record_of("17 100 100 100 100 -")?) else {
-        return None;
-    };
-    if !is_first(alloc, &grown) {
-        return None;
-    }
-    let new = file_of(alloc, &grown, 1)?;
-    Some(Maps { old, new })
-}
-
-// A leaf of one record, which goes, so that its page is free.
-fn emptied_leaf(alloc: Global) -> Option<Maps> {
-    let old = file_of(alloc, &tree_of(alloc, records_of(alloc, SEVEN)?)?, 0)?;
-    let Ok(mut new) = (vec![in alloc; 0u8; 8192]) else {
-        return None;
-    };
-    let marks: &[(usize, u8)] = &[
-        (0, b'M'),
-        (1, b'R'),
-        (2, b'M'),
-        (3, b'P'),
-        (4, 1),
-        (13, 1),
-        (25, 2),
-        (81, 1),
-        (4092, b'S'),
-        (4093, b'E'),
-        (4094, b'A'),
-        (4095, b'L'),
-        (4096, b'F'),
-    ];
-    for (at, byte) in marks {
-        if *at < new.len() {
-            new[*at] = *byte;
-        }
-    }
-    Some(Maps { old, new })
-}
-
-// The body of the journal that makes the new file, of so many pages, of the old one.
-fn body_of(alloc: Global, maps: &Maps, pages: u32) -> Option<Vec<u8>>
-    ensures { IfSome result (λ b. ready (length maps.now.old.items) b.items ≡ true) }
+// The map of these records at batch 0, and the batch of this text.
+fn change_of(alloc: Global, records: &str, batch: &str) -> Option<Change>
+    ensures { IfSome result (λ c. All IsLayered c.batch.list) }
 {
-    if pages < 1 || pages > 64 || maps.new.len() != pages as usize * 4096 {
+    let tree = tree_of(alloc, records_of(alloc, records)?)?;
+    if !is_first(alloc, &tree) {
         return None;
     }
-    if maps.old.len() > maps.new.len() {
-        return None;
-    }
-    match spell_changes(alloc, 1, pages, &maps.old, &maps.new) {
-        Ok(body) => Some(body),
+    let old = file_of(alloc, &tree, 0)?;
+    match read_batch_of(alloc, Version::One, batch.as_bytes()) {
+        Ok(batch) => Some(Change { old, batch }),
         Err(_) => None,
     }
 }
 
-// Recovers, and puts in the pages of a body.
-fn changed<D: Disk>(alloc: Global, disk: &mut D, body: &[u8]) -> Result<(), DiskErr>
-    requires ready { (n : ℕ) × (ready n body.now ≡ true) }
-    requires begins { IfSome (D.state disk.old).contents
-        (λ k. ready (length k.map) body.now ≡ true) }
+// A leaf of sixteen records, which a seventeenth one splits.
+fn split_leaf(alloc: Global) -> Option<Change>
+    ensures { IfSome result (λ c. All IsLayered c.batch.list) }
 {
-    if recover(alloc, disk)? {
-        return Ok(());
+    change_of(alloc, SIXTEEN, "batch 1\n+ 17 100 100 100 100 -\n")
+}
+
+// A leaf of one record, which goes, so that its page is free.
+fn emptied_leaf(alloc: Global) -> Option<Change>
+    ensures { IfSome result (λ c. All IsLayered c.batch.list) }
+{
+    change_of(alloc, SEVEN, "batch 1\n- 7\n")
+}
+
+// A journal with this gate, version 1 and one entry: page 0 of the map, at this batch.
+fn journal_of(alloc: Global, gate: u8, batch: u8, map: &[u8]) -> Result<Vec<u8>, AllocError> {
+    let mut journal = Vec::from_slice(alloc, &[gate, 1, 0, 0, 0, 1, 0, 0, 0, 0])?;
+    let (page, _) = map.split_at(map.len().min(4096));
+    journal.extend_from_slice(page)?;
+    if journal.len() > 23 {
+        journal[23] = batch;
     }
-    write_pages(disk, body)
+    Ok(journal)
+}
+
+// The journals that a change begins with: none, and ones that would be open but for their gate, or
+// for their length, of which the entry would give another root; with the calls that prepare the
+// gate and write the body, of two pages of the map. A journal that is empty, or whose gate is that
+// of an open one, gets its gate, 00. Of one with any other byte there the version is spoiled first,
+// so that it stays closed whatever becomes of the gate. Where the gate is 00, nothing is written
+// before the body. A shelf takes bytes up to a file's end and behind it apart.
+const GATES: &[(&str, Option<u8>, &str)] = &[
+    (
+        "no journal",
+        None,
+        "write A.journal 0 1\nsync A.journal\nwrite A.journal 1 8205\n",
+    ),
+    (
+        "a journal with another gate",
+        Some(0x17),
+        "write A.journal 1 1\nsync A.journal\nwrite A.journal 0 1\nsync A.journal\n\
+            write A.journal 1 4105\nwrite A.journal 4106 4100\n",
+    ),
+    (
+        "a journal that is cut",
+        Some(0x4f),
+        "write A.journal 0 1\nsync A.journal\nwrite A.journal 1 4104\nwrite A.journal 4105 4101\n",
+    ),
+    (
+        "a journal that is closed",
+        Some(0),
+        "write A.journal 1 4105\nwrite A.journal 4106 4100\n",
+    ),
+];
+
+// The journal with such a gate; of one that would be open the last byte is cut off.
+fn journal_with(alloc: Global, gate: Option<u8>, map: &[u8]) -> Result<Vec<u8>, AllocError> {
+    let Some(gate) = gate else {
+        return Ok(Vec::new(alloc));
+    };
+    let mut journal = journal_of(alloc, gate, 9, map)?;
+    if gate == 0x4f {
+        journal.pop();
+    }
+    Ok(journal)
 }
 
 // ---- the calls on files
@@ -251,70 +262,93 @@ impl Shelf for Listing {
     }
 }
 
-// Both files are synced to begin with, and no journal is there. Its gate is made, 00; behind it
-// comes the body, of two pages of the map; then the gate is opened, the pages are put into the map,
-// and the gate is closed. What is written is synced before the next is.
-const CALLS: &str = "sync A\nsync A.journal\nwrite A.journal 0 1\nsync A.journal\n\
-    write A.journal 1 8205\nsync A.journal\nwrite A.journal 0 1\nsync A.journal\n\
-    write A 0 4096\nwrite A 4096 4096\nsync A\nwrite A.journal 0 1\nsync A.journal\n";
+// How a change begins: both files are synced, in either order.
+const BEGINNINGS: &[&str] = &["sync A\nsync A.journal\n", "sync A.journal\nsync A\n"];
 
-// Whether the file becomes the new map, by these calls.
-fn is_changed_in_place(alloc: Global) -> Option<Result<bool, AllocError>> {
-    let maps = emptied_leaf(alloc)?;
-    let body = body_of(alloc, &maps, 2)?;
-    let mut shelf = MemShelf::new(alloc, Vec::new(alloc));
-    if shelf.put("A", &maps.old).is_err() {
-        return None;
+// How it goes on behind the body: the gate is opened, the pages are put into the map, and the gate
+// is closed. What is written is synced before the next is.
+const CALLS: &str = "sync A.journal\nwrite A.journal 0 1\nsync A.journal\nwrite A 0 4096\n\
+    write A 4096 4096\nsync A\nwrite A.journal 0 1\nsync A.journal\n";
+
+// Whether these are the calls of a change that prepares the gate and writes the body so.
+fn are_calls(alloc: Global, lines: &str, prepared: &str) -> Result<bool, AllocError> {
+    let changes = CALLS;
+    for begins in BEGINNINGS {
+        if lines == format!(in alloc; "{begins}{prepared}{changes}")?.as_str() {
+            return Ok(true);
+        }
     }
-    let shelf = Listing {
+    Ok(false)
+}
+
+// A shelf with the map, and with this journal where it has bytes.
+fn listing_of(alloc: Global, map: &[u8], journal: &[u8]) -> Result<Listing, AllocError> {
+    let mut shelf = MemShelf::new(alloc, Vec::new(alloc));
+    shelf.put("A", map)?;
+    if !journal.is_empty() {
+        shelf.put("A.journal", journal)?;
+    }
+    Ok(Listing {
         alloc,
         shelf,
         lines: String::new(alloc),
         faults: 0,
         reads: 0,
+    })
+}
+
+// Whether the file becomes the new map, by these calls.
+fn is_changed_in_place(
+    alloc: Global,
+    change: &Change,
+    gate: Option<u8>,
+    prepared: &str,
+) -> Result<bool, AllocError>
+    requires { All IsLayered change.now.batch.list }
+{
+    let journal = journal_with(alloc, gate, &change.old)?;
+    let shelf = listing_of(alloc, &change.old, &journal)?;
+    let mut disk = match ShelfDisk::new(alloc, shelf, "A", "A.journal") {
+        Ok(disk) => disk,
+        Err((_, error)) => return Err(error),
     };
-    let Ok(mut disk) = ShelfDisk::new(alloc, shelf, "A", "A.journal") else {
-        return None;
-    };
-    let done = changed(alloc, &mut disk, &body).is_ok();
+    let root = apply_here::<XorHash, ShelfDisk<Listing>>(alloc, &mut disk, &change.batch);
     let left = disk.close();
-    let listed = done && left.lines.as_str() == CALLS;
-    match root_at(alloc, left.shelf.file("A")?, 0) {
-        Ok(root) => Some(Ok(listed && root == (1, 0x45))),
-        Err(error) => Some(Err(error)),
+    let bytes = left.shelf.file("A").unwrap_or(&[]);
+    Ok(
+        matches!(root, Ok(root) if root[31] == 0x45)
+            && root_at(alloc, bytes, 0)? == (1, 0x45)
+            && are_calls(alloc, &left.lines, prepared)?,
+    )
+}
+
+fn first_unlisted(alloc: Global) -> Result<Option<&'static str>, AllocError> {
+    let Some(change) = emptied_leaf(alloc) else {
+        return Ok(Some("a change"));
+    };
+    for (name, gate, prepared) in GATES {
+        if !is_changed_in_place(alloc, &change, *gate, prepared)? {
+            return Ok(Some(name));
+        }
     }
+    Ok(None)
 }
 
 #[test]
 fn files_are_written_and_synced_in_their_order(rt: HostRuntime) {
-    holds(
-        &rt,
-        "the calls and the root",
-        matches!(is_changed_in_place(rt.alloc()), Some(Ok(true))),
-    );
+    all_hold_in_memory(&rt, first_unlisted(rt.alloc()));
 }
 
 // ---- a disk that tells what a crash may leave
 
-// A journal with this gate, version 1 and one entry: page 0 of the map, at this batch.
-fn journal_of(alloc: Global, gate: u8, batch: u8, map: &[u8]) -> Result<Vec<u8>, AllocError> {
-    let mut journal = Vec::from_slice(alloc, &[gate, 1, 0, 0, 0, 1, 0, 0, 0, 0])?;
-    let (page, _) = map.split_at(map.len().min(4096));
-    journal.extend_from_slice(page)?;
-    if journal.len() > 23 {
-        journal[23] = batch;
-    }
-    Ok(journal)
-}
-
 // Whether an open journal is carried out once: the map is at batch 1 then, and its root at batch 2
 // is this one.
 fn is_recovered_once(alloc: Global) -> Result<bool, DiskErr> {
-    let Some(Maps { old, new: _ }) = emptied_leaf(alloc) else {
+    let Some(change) = emptied_leaf(alloc) else {
         return Ok(false);
     };
-    let journal = journal_of(alloc, 0x4f, 1, &old)?;
-    let mut disk = MemDisk::new(alloc, &old, &journal, Vec::new(alloc))?;
+    let journal = journal_of(alloc, 0x4f, 1, &change.old)?;
+    let mut disk = MemDisk::new(alloc, &change.old, &journal, Vec::new(alloc))?;
     let was_open = recover(alloc, &mut disk)?;
     let is_open = recover(alloc, &mut disk)?;
     let map = read_map(alloc, &mut disk)?;
@@ -327,7 +361,7 @@ fn an_open_journal_is_carried_out_once(rt: HostRuntime) {
     holds(&rt, "recovered, then clean", matches!(is_done, Ok(true)));
 }
 
-// The last byte of the root of the map that recovery leaves.
+// The last byte of the root of the map that recovery leaves of a crash.
 fn root_left(alloc: Global, disk: &MemDisk, step: u64, pick: u64) -> Result<u8, DiskErr> {
     let mut left = disk.crash(step, pick)?;
     recover(alloc, &mut left)?;
@@ -335,102 +369,76 @@ fn root_left(alloc: Global, disk: &MemDisk, step: u64, pick: u64) -> Result<u8, 
     Ok(root_at(alloc, &map, 0)?.1)
 }
 
-// Whether each crash leaves the map as it was or as it is to be, and one behind the last call the
-// latter.
-fn leaves_one_of_two(alloc: Global, disk: &MemDisk) -> Result<bool, DiskErr> {
-    for step in 0..=disk.calls_made() {
-        for pick in 0..3u64 {
-            let root = root_left(alloc, disk, step, pick)?;
-            let is_new = root == 0x04;
-            if !is_new && (root != 0x1e || step == disk.calls_made()) {
-                return Ok(false);
-            }
+// Whether each crash behind so many calls leaves one of these roots.
+fn leaves_one_of(alloc: Global, disk: &MemDisk, step: u64, roots: &[u8]) -> Result<bool, DiskErr> {
+    for pick in 0..3u64 {
+        if !roots.contains(&root_left(alloc, disk, step, pick)?) {
+            return Ok(false);
         }
     }
     Ok(true)
 }
 
+// Whether each crash leaves the map as it was or as it is to be, and one behind the last call the
+// latter.
+fn leaves_one_of_two(alloc: Global, disk: &MemDisk) -> Result<bool, DiskErr> {
+    for step in 0..disk.calls_made() {
+        if !leaves_one_of(alloc, disk, step, &[0x1e, 0x04])? {
+            return Ok(false);
+        }
+    }
+    leaves_one_of(alloc, disk, disk.calls_made(), &[0x04])
+}
+
 // How a change ends on a disk with this journal, of which this call fails, and the disk then.
 fn changed_on(
     alloc: Global,
-    maps: &Maps,
-    body: &[u8],
+    change: &Change,
     journal: &[u8],
     failing: u64,
-) -> Result<(Result<(), DiskErr>, MemDisk), AllocError>
-    requires { ready (length maps.now.old.items) body.now ≡ true }
+) -> Result<(Result<[u8; 32], HereErr>, MemDisk), AllocError>
+    requires { All IsLayered change.now.batch.list }
 {
-    let mut disk = MemDisk::new(alloc, &maps.old, journal, vec![in alloc; failing]?)?;
-    let answer = changed(alloc, &mut disk, body);
+    let mut disk = MemDisk::new(alloc, &change.old, journal, vec![in alloc; failing]?)?;
+    let answer = apply_here::<XorHash, MemDisk>(alloc, &mut disk, &change.batch);
     Ok((answer, disk))
 }
 
-// The journals that a change begins with: none, and ones that would be open but for their gate, of
-// which the entry would give another root.
-const GATES: &[(&str, Option<u8>)] = &[
-    ("no journal", None),
-    ("a journal with another gate", Some(0x17)),
-    ("a journal that is closed", Some(0)),
-];
-
-fn journal_with(alloc: Global, gate: Option<u8>, map: &[u8]) -> Result<Vec<u8>, AllocError> {
-    match gate {
-        Some(gate) => journal_of(alloc, gate, 9, map),
-        None => Ok(Vec::new(alloc)),
-    }
-}
-
-fn first_torn(alloc: Global, maps: &Maps, body: &[u8]) -> Result<Option<&'static str>, AllocError>
-    requires { ready (length maps.now.old.items) body.now ≡ true }
+// Whether a crash at each call leaves one of two maps, and each call that fails is a fault, and
+// leaves them too: what stands then is recovered, and what a crash makes of it. There are more than
+// fifteen calls.
+fn is_safe(alloc: Global, change: &Change, gate: Option<u8>) -> Result<bool, DiskErr>
+    requires { All IsLayered change.now.batch.list }
 {
-    for (name, gate) in GATES {
-        let journal = journal_with(alloc, *gate, &maps.old)?;
-        let (answer, disk) = changed_on(alloc, maps, body, &journal, 0)?;
-        if answer.is_err() || !matches!(leaves_one_of_two(alloc, &disk), Ok(true)) {
-            return Ok(Some(name));
-        }
+    let journal = journal_with(alloc, gate, &change.old)?;
+    let (answer, whole) = changed_on(alloc, change, &journal, 0)?;
+    if !matches!(answer, Ok(root) if root[31] == 0x04) || !leaves_one_of_two(alloc, &whole)? {
+        return Ok(false);
     }
-    Ok(None)
-}
-
-#[test]
-fn a_crash_leaves_one_of_two_maps(rt: HostRuntime) {
-    let alloc = rt.alloc();
-    let torn = match split_leaf(alloc) {
-        Some(maps) => match body_of(alloc, &maps, 4) {
-            Some(body) => first_torn(alloc, &maps, &body),
-            None => Ok(Some("no body")),
-        },
-        None => Ok(Some("no maps")),
-    };
-    all_hold_in_memory(&rt, torn);
-}
-
-// Whether each call that fails is a fault, and leaves one of two maps. Fifteen of them write or
-// sync.
-fn are_faults(alloc: Global, maps: &Maps, body: &[u8]) -> Result<bool, AllocError>
-    requires { ready (length maps.now.old.items) body.now ≡ true }
-{
-    let (_, whole) = changed_on(alloc, maps, body, &[], 0)?;
     for failing in 1..=whole.calls_made() {
-        let (answer, disk) = changed_on(alloc, maps, body, &[], failing)?;
-        let root = root_left(alloc, &disk, u64::MAX, 1);
-        if answer != Err(DiskErr::Fault) || !matches!(root, Ok(0x1e | 0x04)) {
+        let (answer, disk) = changed_on(alloc, change, &journal, failing)?;
+        if !matches!(answer, Err(HereErr::Fault))
+            || !leaves_one_of(alloc, &disk, u64::MAX, &[0x1e, 0x04])?
+        {
             return Ok(false);
         }
     }
     Ok(whole.calls_made() > 15)
 }
 
-#[test]
-fn a_call_that_fails_leaves_one_of_two_maps(rt: HostRuntime) {
-    let alloc = rt.alloc();
-    let are_faults = match split_leaf(alloc) {
-        Some(maps) => match body_of(alloc, &maps, 4) {
-            Some(body) => are_faults(alloc, &maps, &body),
-            None => Ok(false),
-        },
-        None => Ok(false),
+fn first_torn(alloc: Global) -> Option<&'static str> {
+    let Some(change) = split_leaf(alloc) else {
+        return Some("a change");
     };
-    holds(&rt, "each call", matches!(are_faults, Ok(true)));
+    for (name, gate, _) in GATES {
+        if !matches!(is_safe(alloc, &change, *gate), Ok(true)) {
+            return Some(name);
+        }
+    }
+    None
+}
+
+#[test]
+fn a_stop_leaves_one_of_two_maps(rt: HostRuntime) {
+    all_hold(&rt, first_torn(rt.alloc()));
 }

@@ -12,6 +12,8 @@ mod choices;
 #[cfg(test)]
 mod fields;
 #[cfg(test)]
+mod joins;
+#[cfg(test)]
 mod journal;
 #[cfg(test)]
 mod judge;
@@ -24,6 +26,8 @@ mod opening;
 #[cfg(test)]
 mod outside;
 #[cfg(test)]
+mod paired;
+#[cfg(test)]
 mod queries;
 #[cfg(test)]
 mod questions;
@@ -33,6 +37,8 @@ mod rects;
 mod second;
 #[cfg(test)]
 mod splits;
+#[cfg(test)]
+mod stopping;
 #[cfg(test)]
 mod texts;
 #[cfg(test)]

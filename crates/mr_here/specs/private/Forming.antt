@@ -1,5 +1,5 @@
 -- A map that is changed in memory. This serves private functions.
-use Rattle.std.specs.Prelude.{◌≡◌, ℕ, ◌+◌, ◌*◌, ◌≤◌, max, false, true, List, length, Option, Some, Result, Ok, Err}
+use Rattle.std.specs.Prelude.{◌≡◌, ◌≢◌, ℕ, ◌+◌, ◌*◌, ◌≤◌, max, false, true, List, length, Option, Some, Result, Ok, Err}
 use Rattle.mr_outside.specs.Files.{Files}
 use Rattle.mr_record.specs.Version.{version_byte}
 use Rattle.mr_tree.specs.Tree.{records}
@@ -44,6 +44,10 @@ of_sealed (Ok digest) = Ok digest
 of_sealed (Err e) = Err (of_edit e)
 
 -- ---- a map in a file of a shelf in memory
+
+-- each file but the named one is as before
+abbrev pub KeepsOthers : (name : List ℕ) → (before after : Option Files) → Type 0
+KeepsOthers name before after = (q : List ℕ) → q ≢ name → told_bytes after q ≡ told_bytes before q
 
 -- The file of this name stands for the map after the batch. It has no fewer pages than so many, and
 -- no more than these, or than the greatest tree on the way has nodes, and page 0. This is its root

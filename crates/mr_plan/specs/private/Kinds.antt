@@ -9,9 +9,10 @@ use Rattle.mr_query.specs.declared.query.Shape.{Shape}
 use Rattle.mr_query.specs.declared.query.Shape.TheVariants as shapes
 use Rattle.mr_query.specs.declared.query.QueryFault.{QueryFault}
 use Rattle.mr_plan.specs.private.Asking.{digest_of_word}
-use Rattle.mr_plan.specs.Words.{Word, key, file, digest, query, window, number, spelled, words_of}
+use Rattle.mr_plan.specs.Words.{Word, key, file, digest, query, window, number, spelled, words_of, journal_of}
 use Rattle.mr_plan.specs.declared.reader.Reader.{Reader}
 use Rattle.mr_plan.specs.declared.words.Command.{Command}
+use Rattle.mr_plan.specs.declared.words.Command.TheVariants as commands
 
 -- what a word has to be
 pub data Kind : Type 0 where
@@ -189,3 +190,14 @@ pub record IsReadOff (command : Command) (old new : Reading) : Type 0 where
 abbrev pub GivesCommand : Reading → Option Command → Reading → Type 0
 GivesCommand old (Some command) new = IsReadOff command old new
 GivesCommand old None new = (command : Command) → name_of command ≡ first_word old.words → ⊥
+
+-- ---- files that no word names
+
+-- a batch that is applied in place does not stand in the map's journal
+abbrev pub spares : Command → Bool
+spares (commands.ApplyHere map batch) = not (bytes_eq batch.now (journal_of map.now))
+spares command = true
+
+abbrev pub spares_any : Option Command → Bool
+spares_any None = true
+spares_any (Some command) = spares command

@@ -4,8 +4,8 @@ use Rattle.mr_command.proofs.Going.{is_judged, opens_map, opens_unopened}
 use Rattle.mr_command.proofs.Versions.{in_own}
 use Rattle.mr_command.proofs.opening.open_map.Goals as goal
 
-pub returns-in-Ok : goal.returns-in-Ok
-returns-in-Ok g c =
+pub returns-in-Ok-clause-opens : goal.returns-in-Ok-clause-opens
+returns-in-Ok-clause-opens g c =
     let hash = g.H.Hashes.of in
     let e = c.in-Ok.ensures in
     let before = g.S.Shelf.state c.args.shelf.now in
@@ -21,8 +21,8 @@ returns-in-Ok g c =
     )
     e.well_formed.0 e.well_formed.1 c.is_word.ensures
 
-pub returns-in-Err : goal.returns-in-Err
-returns-in-Err g c =
+pub returns-in-Err-clause-opens : goal.returns-in-Err-clause-opens
+returns-in-Err-clause-opens g c =
     let hash = g.H.Hashes.of in
     let e = c.in-Err.ensures in
     let before = g.S.Shelf.state c.args.shelf.now in

@@ -8,9 +8,9 @@ returns-in-Ok g c =
     let hash = g.H.Hashes.of in
     comes_map hash c.args.old.now (λ map. comes (say_upgrade_of hash c.args.new.now map))
     (g.S.Shelf.state c.args.shelf.now) (g.S.Shelf.state c.open_map.new.shelf)
-    (g.S.Shelf.state c.save_map.new.shelf) c.in-Ok.map c.save_map.result c.in-Ok.ensures (λ map. tt)
+    (g.S.Shelf.state c.save_map.new.shelf) c.in-Ok.map c.save_map.result c.in-Ok.ensures.opens (λ map. tt)
     c.save_map.ensures
 
 pub returns-in-Err : goal.returns-in-Err
 returns-in-Err g c =
-    c.in-Err.ensures (λ map. comes (say_upgrade_of g.H.Hashes.of c.args.new.now map)) (λ map. tt)
+    c.in-Err.ensures.opens (λ map. comes (say_upgrade_of g.H.Hashes.of c.args.new.now map)) (λ map. tt)

@@ -1,5 +1,6 @@
 use Rattle.std.proofs.Common.{◌≡◌, refl, ap, sym, subst, ◌∙◌}
-use Rattle.std.specs.Prelude.{All, Option, Some, IfSome}
+use Rattle.std.specs.Prelude.{All, Option, Some, IfSome, OnOk}
+use Rattle.mr_outside.specs.Files.{Files}
 use Rattle.mr_tree.specs.Nodes.{MapModel}
 use Rattle.mr_tree.specs.Tree.{records}
 use Rattle.mr_tree.specs.declared.tree.Tree.{Tree}
@@ -12,7 +13,7 @@ use Rattle.mr_batch.specs.Admissible.{batch_fault}
 use Rattle.mr_batch.specs.Applied.{IsAdmissible}
 use Rattle.mr_batch.specs.Directory.{IsDirectoryOf}
 use Rattle.mr_edit.specs.Replayed.{IsOfVersion}
-use Rattle.mr_here.specs.private.Forming.{MakesMap}
+use Rattle.mr_here.specs.private.Forming.{KeepsOthers, MakesMap}
 use Rattle.mr_here.proofs.InMemory.{admitted, batch_in, numbers_in, well_in}
 use Rattle.mr_here.proofs.editing.apply.Goals as goal
 
@@ -22,8 +23,8 @@ change-requires-clause-layers g c κs within =
     subst (λ (st : MapModel). All (IsOfVersion st.version) c.args.batch.now.list)
     (sym (keeps_stands paged c.directory.new.nodes c.in-Ok.ensures.kept)) c.requires.layers
 
-pub returns-in-Err-admit : goal.returns-in-Err-admit
-returns-in-Err-admit g c t told =
+pub returns-in-Err-admit-clause-made : goal.returns-in-Err-admit-clause-made
+returns-in-Err-admit-clause-made g c t told =
     let hash = g.H.Hashes.of in
     let paged = c.args.paged in
     let later = c.directory.new.nodes in
@@ -36,8 +37,8 @@ returns-in-Err-admit g c t told =
     subst (λ n. batch_fault (records t) n c.args.batch.now ≡ Some c.in-Err-admit.fault) held
     (c.in-Err-admit.ensures.exact (records t) (numbers_in t c.in-Ok.dir well lists))
 
-pub returns-in-Ok-admit : goal.returns-in-Ok-admit
-returns-in-Ok-admit g c t told =
+pub returns-in-Ok-admit-clause-made : goal.returns-in-Ok-admit-clause-made
+returns-in-Ok-admit-clause-made g c t told =
     let hash = g.H.Hashes.of in
     let paged = c.args.paged in
     let later = c.directory.new.nodes in
@@ -52,7 +53,7 @@ returns-in-Ok-admit g c t told =
     let may : IsAdmissible (records t) paged.head.batch c.args.batch.now =
     subst (λ n. IsAdmissible (records t) n c.args.batch.now) held
     ((c.in-Ok-admit.ensures.admissible (records t) (numbers_in t c.in-Ok.dir well lists)).0 refl) in
-    let made = c.change.ensures t (ap (λ (st : MapModel). st.tree) same ∙ told) lists
+    let made = c.change.ensures.made t (ap (λ (st : MapModel). st.tree) same ∙ told) lists
     (subst (λ n. IsAdmissible (records t) n c.args.batch.now) (ap (λ (h : MapHead). h.batch) (sym is.kept.head)) may) in
     admitted hash c.args.new.now paged.head.pages (map_in (stands_for paged).version t paged.head.batch)
     c.args.batch.now after.files c.change.result.0 may
@@ -61,3 +62,9 @@ returns-in-Ok-admit g c t told =
     c.change.result.0) (ap (λ (st : MapModel). st.version) same)
     (subst (λ (h : MapHead). MakesMap hash c.args.new.now h.pages (map_in (stands_for later).version t h.batch)
     c.args.batch.now after.files c.change.result.0) is.kept.head made))
+
+pub returns-in-Ok-admit-clause-others : goal.returns-in-Ok-admit-clause-others
+returns-in-Ok-admit-clause-others g c =
+    subst (λ (o : Option Files). OnOk c.change.result.0
+    (KeepsOthers c.args.new.now o (g.S.Shelf.state c.change.result.1).files)) c.in-Ok.ensures.kept.files
+    c.change.ensures.others

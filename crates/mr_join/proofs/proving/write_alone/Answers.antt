@@ -7,7 +7,7 @@ use Rattle.mr_join.specs.Meets.{meets_way}
 use Rattle.mr_join.specs.Verdict.{letter}
 use Rattle.mr_join.specs.Accepted.{owned}
 use Rattle.mr_join.specs.private.Parts.{alone_bytes}
-use Rattle.mr_join.proofs.Written.{for_each, on_ok_then, on_err_then, alone_line}
+use Rattle.mr_join.proofs.Written.{for_each, on_ok_then, on_err_then, alone_line, part_few}
 use Rattle.mr_join.proofs.proving.write_alone.Goals as goal
 
 pub returns-clause-written : goal.returns-clause-written
@@ -37,3 +37,9 @@ returns-clause-front g c =
     (TakesFront from to (front ++ proof_for (by v.version h) (chosen letter (meets_way ms)) u v.batch))
     (TakesFront from to (alone_bytes h (owned v u)))
     (subst (TakesFront from to) (alone_line h v u ms c.requires c.in_ok-meets.ensures))) c.write_behind.ensures.front
+
+pub returns-clause-fetched : goal.returns-clause-fetched
+returns-clause-fetched g c =
+    part_few g.N.Hash.Hashes.of (g.N.Nodes.stands c.args.nodes.now) c.in_ok-meets.meets []
+    (g.N.Nodes.fetches c.args.nodes.now) (g.N.Nodes.fetches c.write_behind.new.nodes) c.requires c.in_ok-meets.ensures
+    c.write_behind.ensures.fetched

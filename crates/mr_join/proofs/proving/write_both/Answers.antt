@@ -9,7 +9,7 @@ use Rattle.mr_join.specs.Meets.{meets_way, rects_of}
 use Rattle.mr_join.specs.Frame.{magic, frame_bytes}
 use Rattle.mr_join.specs.Verdict.{letter}
 use Rattle.mr_join.specs.Accepted.{owned, frame_for}
-use Rattle.mr_join.proofs.Written.{for_each, on_ok_then, on_err_then, frame_line}
+use Rattle.mr_join.proofs.Written.{for_each, on_ok_then, on_err_then, frame_line, second_few}
 use Rattle.mr_join.proofs.proving.write_both.Goals as goal
 
 pub returns-clause-written : goal.returns-clause-written
@@ -63,3 +63,12 @@ returns-clause-front g c =
     (c.in_ok-list.ensures ∙ ap rects_of c.as_slice.ensures)
     (c.in_ok-meets.ensures ∙ ap meets_way c.deref-2.ensures.value))))
     c.write_behind.ensures.front) c.in_ok-part.ensures.given
+
+pub returns-clause-fetched_second : goal.returns-clause-fetched_second
+returns-clause-fetched_second g c =
+    second_few g.A.Hash.Hashes.of g.B.Hash.Hashes.of (g.A.Nodes.stands c.args.first.now)
+    (g.B.Nodes.stands c.args.second.now) c.args.rect.now c.in_ok-meets.meets c.in_ok-list.list.items
+    c.in_ok-part.part.records (g.B.Nodes.fetches c.args.second.now) (g.B.Nodes.fetches c.write_behind.new.nodes)
+    c.in_ok-part.part.bytes.items c.requires.second (c.in_ok-list.ensures ∙ ap rects_of c.as_slice.ensures)
+    (c.in_ok-meets.ensures ∙ ap meets_way c.deref-2.ensures.value) c.in_ok-part.ensures.given
+    c.write_behind.ensures.fetched

@@ -5,6 +5,7 @@ use Rattle.mr_journal.specs.private.Progress.{IsClearedAt, IsFilledBy, IsArmedBy
 use Rattle.mr_journal.proofs.Running.{leads_then, leads_refused}
 use Rattle.std.proofs.lemmas.Result.{on_ok_weaker}
 use Rattle.mr_journal.proofs.Leaving.{opened_after}
+use Rattle.mr_journal.proofs.Quiet.{causes_then}
 use Rattle.mr_journal.proofs.applying.arm.Goals as goal
 
 pub returns-in_err-prepare_gate-clause-armed : goal.returns-in_err-prepare_gate-clause-armed
@@ -47,3 +48,9 @@ returns-clause-left g c some =
     (λ opened. opened_after c.args.body.now (g.D.Disk.state c.args.disk.now).contents _ _ _ some
     c.in_ok-prepare_gate.ensures.behind c.in_ok-prepare_gate.ensures.gate c.in_ok-fill.ensures.written opened)
     c.open_gate.ensures.written
+
+pub returns-clause-causes : goal.returns-clause-causes
+returns-clause-causes g c =
+    causes_then _ _ _ c.in_ok-prepare_gate.field-0 c.open_gate.result c.in_ok-prepare_gate.ensures.causes
+    (causes_then _ _ _ c.in_ok-fill.field-0 c.open_gate.result c.in_ok-fill.ensures.causes
+    c.open_gate.ensures.causes)

@@ -7,6 +7,7 @@ use Rattle.std.specs.Prelude.{option_map}
 use Rattle.std.proofs.lemmas.Result.{on_ok_weaker}
 use Rattle.mr_journal.specs.private.Progress.{closed_by}
 use Rattle.mr_journal.proofs.Leaving.{some_body, ready_opened, changed_as}
+use Rattle.mr_journal.proofs.Quiet.{causes_then}
 use Rattle.mr_journal.proofs.applying.write_pages.Goals as goal
 
 pub returns-in_err-arm-clause-shut : goal.returns-in_err-arm-clause-shut
@@ -44,3 +45,8 @@ returns-clause-left g c =
     (c.in_ok-arm.ensures.left (some_body c.requires.ready.0 body c.requires.ready.1))
     ∙ changed_as body (g.D.Disk.state c.args.disk.now).contents)
     c.finish.ensures.left
+
+pub returns-clause-causes : goal.returns-clause-causes
+returns-clause-causes g c =
+    causes_then _ _ _ c.in_ok-arm.field-0 c.finish.result c.in_ok-arm.ensures.causes
+    c.finish.ensures.causes

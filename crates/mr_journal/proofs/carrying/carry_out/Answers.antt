@@ -7,6 +7,7 @@ use Rattle.mr_journal.specs.private.Parsed.{places}
 use Rattle.mr_journal.specs.private.Progress.{IsArmedBy, IsCarriedBy}
 use Rattle.mr_journal.proofs.Running.{leads_err}
 use Rattle.mr_journal.proofs.Gating.{armed_torn, carry_leads}
+use Rattle.mr_journal.proofs.Quiet.{causes_then}
 use Rattle.mr_journal.proofs.carrying.carry_out.Goals as goal
 
 pub returns-in_err-put_entries-clause-armed : goal.returns-in_err-put_entries-clause-armed
@@ -25,3 +26,8 @@ returns-clause-armed g c =
     (g.met.D.Disk.counts c.args.disk.now)
     c.put_entries.ensures.moves c.in_ok-put_entries.ensures.written c.sync.ensures.passes.moves c.sync.ensures.contents
     c.sync.ensures.durable
+
+pub returns-clause-causes : goal.returns-clause-causes
+returns-clause-causes g c =
+    causes_then _ _ _ c.in_ok-put_entries.field-0 c.sync.result c.in_ok-put_entries.ensures.causes
+    c.sync.ensures.passes.causes

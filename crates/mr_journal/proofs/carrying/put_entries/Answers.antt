@@ -33,7 +33,8 @@ loop-left-preserved g c = (
   way_step _ _ _ _ _ _ c.args.size c.loop-left.left (entries c.args.size c.args.count c.args.bytes.now)
       c.loop-left.rest.now c.split_at.result.1.now c.loop-left-test.true
       (g.met.D.Disk.earlier c.loop-left.disk) c.loop-left.invariant.0 c.split_at.ensures.back
-      c.in_ok-put_page.ensures.written c.put_page.ensures.moves c.put_page.ensures.causes.faults,
+      c.in_ok-put_page.ensures.written c.put_page.ensures.moves c.put_page.ensures.causes.faults
+      c.in_ok-put_page.ensures.causes.quiet,
   g.met.D.Disk.kept_on c.args.disk.now c.loop-left.disk c.put_page.new.disk c.loop-left.invariant.1
       c.put_page.ensures.kept,
 )

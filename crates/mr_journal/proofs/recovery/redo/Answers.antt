@@ -4,6 +4,8 @@ use Rattle.mr_journal.proofs.Gating.{kept_done, shut_read, opened_read, carried_
 use Rattle.std.specs.Prelude.{option_map}
 use Rattle.mr_journal.specs.private.Progress.{closed_by}
 use Rattle.mr_journal.proofs.Leaving.{recovered_shut, recovered_open}
+use Rattle.mr_journal.proofs.Quiet.{causes_as, causes_then}
+use Rattle.mr_journal.proofs.Running.{answered}
 use Rattle.mr_journal.proofs.recovery.redo.Goals as goal
 
 pub returns-in-None-clause-done : goal.returns-in-None-clause-done
@@ -57,3 +59,10 @@ returns-clause-left g c =
     ∙ recovered_open c.in-Some.body.now (g.D.Disk.state c.args.disk.now).contents
     (opened_read h.journal.items h.map_length _ c.in-Some.body.now c.in_ok-held.ensures.held
     (sym c.as_slice.ensures.value ∙ c.in-Some.ensures.0) c.in-Some.ensures.1)
+
+pub returns-clause-causes : goal.returns-clause-causes
+returns-clause-causes g c =
+    let done = c.in_ok-finish-in-Some.field-0 in
+    causes_as _ _ done _
+    (causes_then _ _ _ c.in_ok-held.held (answered done) c.in_ok-held.ensures.causes
+    c.in_ok-finish-in-Some.ensures.causes)

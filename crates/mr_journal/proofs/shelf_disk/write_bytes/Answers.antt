@@ -2,6 +2,8 @@ use Rattle.std.proofs.Common.{◌≡◌, ◌++◌, ◌∙◌, List, ℕ, sym, su
 use Rattle.std.proofs.lemmas.List.{take-append-drop}
 use Rattle.mr_journal.specs.private.FileChanges.{WritesFront}
 use Rattle.mr_journal.proofs.Shelving.{puts_none, puts_refused, puts_behind, ends_there, put_both}
+use Rattle.mr_outside.specs.Files.{replaced}
+use Rattle.mr_journal.proofs.Quiet.{quiet_then, told_turned}
 use Rattle.mr_journal.proofs.shelf_disk.write_bytes.Goals as goal
 
 pub returns-in_err-length-clause-puts : goal.returns-in_err-length-clause-puts
@@ -33,3 +35,12 @@ returns-clause-puts g c =
     c.split_at.ensures.front_len (sym whole))
     c.size_or_create.ensures.turns c.in_ok-overwrite.ensures.puts.done c.append.result _ c.append.ensures.done
     c.append.ensures.grows
+
+pub returns-clause-quiet : goal.returns-clause-quiet
+returns-clause-quiet g c =
+    let front = c.overwrite.ensures.puts.front in
+    quiet_then _ _ _ _ _ c.append.result
+    (told_turned c.args.name.now (λ held. held) _ _ c.size_or_create.ensures.turns) c.in_ok-length.ensures.quiet
+    (quiet_then _ _ _ _ _ c.append.result
+    (told_turned c.args.name.now (replaced c.args.at front.front) _ _ front.turns) c.in_ok-overwrite.ensures.quiet
+    c.append.ensures.quiet)

@@ -1,6 +1,4 @@
-use Rattle.std.proofs.Common.{◌≤◌, ◌+◌, length, ◌∙◌, rules}
-use Rattle.std.proofs.lemmas.List.{with_items_is}
-use Rattle.std.specs.Vec.{with_items}
+use Rattle.std.proofs.Common.{◌≤◌, ◌+◌, length, rules}
 use Rattle.mr_outside.specs.Files.{replaced}
 use Rattle.mr_outside.proofs.Changes.{there, of_held}
 use Rattle.mr_outside.proofs.NamedFiles.{file-found, file-absent, files_of-changed}
@@ -8,17 +6,15 @@ use Rattle.mr_outside.proofs.mem_shelf.overwrite.Goals as goal
 
 pub replace-requires : goal.replace-requires
 replace-requires c =
-    rw c.as_mut_slice.ensures.value
-    (of_held c.args.name.now _ c.in-Some.held.now.items (λ held. c.args.at + length c.args.bytes.now ≤ length held)
-    (file-found c.args.files.now c.args.name.now c.in-Some.held.now c.in-Some.ensures.value) c.requires)
+    of_held c.args.name.now _ c.in-Some.held.now.cells.items (λ held. c.args.at + length c.args.bytes.now ≤ length held)
+    (file-found c.args.files.now c.args.name.now c.in-Some.held.now c.in-Some.ensures.value) c.requires
 
 pub returns-in-Some-clause-done : goal.returns-in-Some-clause-done
 returns-in-Some-clause-done c =
-    let new = with_items c.in-Some.held.now c.replace.new.held in
+    let new = c.replace.new.self in
     files_of-changed c.args.files.now (c.get_mut.follows.lender new) c.args.name.now c.in-Some.held.now new
     (replaced c.args.at c.args.bytes.now) c.in-Some.ensures.value ((c.get_mut.follows.holds new).3 (search rules))
-    (with_items_is c.in-Some.held.now c.replace.new.held (search rules)
-    ∙ (rw c.as_mut_slice.ensures.value at c.replace.ensures))
+    c.replace.ensures
 
 pub returns-in-Some-clause-there : goal.returns-in-Some-clause-there
 returns-in-Some-clause-there c =

@@ -22,6 +22,7 @@ returns-in_err-size g c =
       told = tells_at h sized _ _ (Err (of_shelf e)) c.in_err-size.ensures.bytes (fails_of e);
       of_some_bytes = (One, some_failed (form_by One) (form_by_is One) h sized (Err (of_shelf e)) (fails_of e));
       agrees = agrees_at h sized _ _ c.in_err-size.ensures.bytes;
+      every = c.in_err-size.ensures.every;
       law = λ v bytes all. agrees (form_by v) (form_by_is v) h sized bytes all;
       causes = causes_failed _ _ _ e c.in_err-size.ensures.causes;
       files = c.in_err-size.ensures.files;
@@ -42,6 +43,7 @@ returns-then-size g c =
             (small_is_odd One c.in_ok-size.size c.if-size.true),
       );
       agrees = agrees_at h sized _ _ c.in_ok-size.ensures.bytes;
+      every = c.in_ok-size.ensures.every;
       law = λ v bytes all. agrees (form_by v) (form_by_is v) h sized bytes all;
       causes = causes_quiet _ _ _ _ c.in_ok-size.ensures.causes.quiet;
       files = c.in_ok-size.ensures.files;
@@ -61,6 +63,7 @@ returns-in_err-version g c =
       told = tells_at h sized _ _ (Err (of_shelf e)) c.in_ok-size.ensures.bytes (fails_of e);
       of_some_bytes = (One, some_failed (form_by One) (form_by_is One) h sized (Err (of_shelf e)) (fails_of e));
       agrees = agrees_at h sized _ _ c.in_ok-size.ensures.bytes;
+      every = c.in_ok-size.ensures.every;
       law = λ v bytes all. agrees (form_by v) (form_by_is v) h sized bytes all;
       causes = causes_later _ _ _ _ (Err (of_shelf e)) c.in_ok-size.ensures.files c.in_ok-size.ensures.causes.quiet
           (causes_failed _ _ _ e c.in_err-version.ensures.causes);
@@ -114,6 +117,7 @@ returns g c =
           c.open_front.ensures.told);
       of_some_bytes = (v, c.open_front.ensures.of_some_bytes);
       agrees = agrees_at h sized _ _ c.in_ok-size.ensures.bytes;
+      every = c.in_ok-size.ensures.every;
       law = λ u bytes all. agrees (form_by u) (form_by_is u) h sized bytes all;
       causes = causes_later name s0 s1 s3 r c.in_ok-size.ensures.files c.in_ok-size.ensures.causes.quiet
           (causes_later name s1 s2 s3 r c.in_ok-version.ensures.files c.in_ok-version.ensures.causes.quiet

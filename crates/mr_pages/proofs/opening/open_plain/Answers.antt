@@ -17,6 +17,7 @@ returns g c =
       of_some_bytes = e.of_some_bytes;
       law = e.law;
       agrees = e.agrees;
+      every = e.every;
       version = λ v bytes t b s. stands_version v h bytes t b s;
       causes = e.causes;
       files = e.files;

@@ -42,6 +42,14 @@ returns-in-List g c =
 pub returns-in-Apply : goal.returns-in-Apply
 returns-in-Apply g c = as_carried g.H.Hashes.of _ _ _ _ c.apply.result.0 c.in-Apply.is c.apply.ensures
 
+pub returns-in-ApplyHere : goal.returns-in-ApplyHere
+returns-in-ApplyHere g c =
+    as_carried g.H.Hashes.of _ _ _ _ c.apply_in_place.result.0 c.in-ApplyHere.is c.apply_in_place.ensures
+
+pub returns-in-Recover : goal.returns-in-Recover
+returns-in-Recover g c =
+    as_carried g.H.Hashes.of _ _ _ _ c.recover_map.result.0 c.in-Recover.is (c.recover_map.ensures g.H.Hashes.of)
+
 pub returns-in-Prove : goal.returns-in-Prove
 returns-in-Prove g c = as_carried g.H.Hashes.of _ _ _ _ c.prove_query.result.0 c.in-Prove.is c.prove_query.ensures
 
@@ -64,6 +72,24 @@ returns-in-CheckCount g c =
 pub returns-in-AuditCount : goal.returns-in-AuditCount
 returns-in-AuditCount g c =
     as_carried g.H.Hashes.of _ _ _ _ c.audit_count.result.0 c.in-AuditCount.is c.audit_count.ensures
+
+pub returns-in-Join : goal.returns-in-Join
+returns-in-Join g c =
+    as_plain g.H.Hashes.of _ _ _ _ c.join-came.result c.in-Join.is
+    (λ said leads. leads) (λ files n few. few)
+    c.join-came.ensures
+
+pub returns-in-CheckJoin : goal.returns-in-CheckJoin
+returns-in-CheckJoin g c =
+    as_plain g.H.Hashes.of _ _ _ _ c.check_join_proof-came.result c.in-CheckJoin.is
+    (λ said leads. leads) (λ files n few. few)
+    c.check_join_proof-came.ensures
+
+pub returns-in-AuditJoin : goal.returns-in-AuditJoin
+returns-in-AuditJoin g c =
+    as_plain g.H.Hashes.of _ _ _ _ c.audit_join_proof-came.result c.in-AuditJoin.is
+    (λ said leads. leads) (λ files n few. few)
+    c.audit_join_proof-came.ensures
 
 pub returns-in-Make : goal.returns-in-Make
 returns-in-Make g c =

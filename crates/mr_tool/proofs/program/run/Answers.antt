@@ -41,8 +41,26 @@ returns-clause-count_worth g c = c.answered.ensures.run.count_worth
 pub returns-clause-count_audited : goal.returns-clause-count_audited
 returns-clause-count_audited g c = c.answered.ensures.run.count_audited
 
+pub returns-clause-join_honest : goal.returns-clause-join_honest
+returns-clause-join_honest g c = c.answered.ensures.run.join_honest
+
+pub returns-clause-join_worth : goal.returns-clause-join_worth
+returns-clause-join_worth g c = c.answered.ensures.run.join_worth
+
+pub returns-clause-join_audited : goal.returns-clause-join_audited
+returns-clause-join_audited g c = c.answered.ensures.run.join_audited
+
+pub returns-clause-join_collides : goal.returns-clause-join_collides
+returns-clause-join_collides g c = c.answered.ensures.run.join_collides
+
 pub returns-clause-alike : goal.returns-clause-alike
 returns-clause-alike g c = c.answered.ensures.run.alike
 
 pub returns-clause-upgrades : goal.returns-clause-upgrades
 returns-clause-upgrades g c = c.answered.ensures.run.upgrades
+
+pub returns-clause-recovers : goal.returns-clause-recovers
+returns-clause-recovers g c = c.answered.ensures.run.recovers
+
+pub returns-clause-applies_here : goal.returns-clause-applies_here
+returns-clause-applies_here g c = c.answered.ensures.run.applies_here

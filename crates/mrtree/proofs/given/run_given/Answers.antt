@@ -25,8 +25,14 @@ returns-in-Ok-clause-given g c =
       count_honest = e.count_honest;
       count_worth = e.count_worth;
       count_audited = e.count_audited;
+      join_honest = e.join_honest;
+      join_worth = e.join_worth;
+      join_audited = e.join_audited;
+      join_collides = e.join_collides;
       alike = e.alike;
       upgrades = e.upgrades;
+      recovers = e.recovers;
+      applies_here = e.applies_here;
     } in
     subst (λ given. IfOk given (λ ws. EndsWith hash (map string_bytes ws.items) before after c.code.result))
     (sym c.in-Ok.is) (

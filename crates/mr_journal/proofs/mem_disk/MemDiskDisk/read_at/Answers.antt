@@ -21,6 +21,7 @@ returns-then-next_fails-clause-passes c =
     c.in_ok-keep.ensures.first.0 c.in_ok-keep.ensures.first.1 c.in_ok-keep.ensures.kept
     (asked_steps (first_image c.args.self.now.map.items c.args.self.now.journal.items) c.args.self.now.calls.items)
     (λ e. rose_next _ _ c.in_ok-keep.ensures.counted) (more_next _ _ c.in_ok-keep.ensures.counted)
+    (λ x e. absurd (cc))
 
 pub returns-clause-contents : goal.returns-clause-contents
 returns-clause-contents c =
@@ -37,6 +38,7 @@ returns-clause-passes c =
     c.in_ok-keep-2.ensures.first.0 c.in_ok-keep-2.ensures.first.1 c.in_ok-keep-2.ensures.kept
     (asked_steps (first_image c.args.self.now.map.items c.args.self.now.journal.items) c.args.self.now.calls.items)
     (λ e. absurd (no_fault _ Fault e)) (omega (arith, c.in_ok-keep-2.ensures.counted))
+    (λ x e. c.in_ok-keep-2.ensures.counted)
 
 pub returns-then-next_fails-clause-stays : goal.returns-then-next_fails-clause-stays
 returns-then-next_fails-clause-stays c =

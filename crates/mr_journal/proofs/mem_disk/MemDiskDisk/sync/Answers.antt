@@ -21,6 +21,7 @@ returns-then-next_fails-clause-passes c =
     c.in_ok-keep.ensures.first.0 c.in_ok-keep.ensures.first.1 c.in_ok-keep.ensures.kept
     (asked_steps (first_image c.args.self.now.map.items c.args.self.now.journal.items) c.args.self.now.calls.items)
     (λ e. rose_next _ _ c.in_ok-keep.ensures.counted) (more_next _ _ c.in_ok-keep.ensures.counted)
+    (λ x e. absurd (cc))
 
 pub returns-clause-durable : goal.returns-clause-durable
 returns-clause-durable c =
@@ -46,3 +47,4 @@ returns-clause-passes c =
     c.in_ok-keep-2.ensures.first.0 c.in_ok-keep-2.ensures.first.1 c.in_ok-keep-2.ensures.kept
     (synced_steps (first_image c.args.self.now.map.items c.args.self.now.journal.items) c.args.self.now.calls.items
     c.args.area) (λ e. absurd (no_fault _ Fault e)) (omega (arith, c.in_ok-keep-2.ensures.counted))
+    (λ x e. c.in_ok-keep-2.ensures.counted)

@@ -40,6 +40,7 @@ returns-then-next_fails-clause-passes c =
     (wrote_steps_at (first_image c.args.self.now.map.items c.args.self.now.journal.items) c.args.self.now.calls.items
     c.args.area c.args.at c.in_ok-bytes.bytes false (length c.args.bytes.now) (ap length c.in_ok-bytes.ensures.items))
     (λ e. rose_next _ _ c.in_ok-keep.ensures.counted) (more_next _ _ c.in_ok-keep.ensures.counted)
+    (λ x e. absurd (cc))
 
 pub returns-clause-passes : goal.returns-clause-passes
 returns-clause-passes c =
@@ -52,6 +53,7 @@ returns-clause-passes c =
     (wrote_steps_at (first_image c.args.self.now.map.items c.args.self.now.journal.items) c.args.self.now.calls.items
     c.args.area c.args.at c.in_ok-bytes.bytes true (length c.args.bytes.now) (ap length c.in_ok-bytes.ensures.items))
     (λ e. absurd (no_fault _ Fault e)) (omega (arith, c.in_ok-keep-2.ensures.counted))
+    (λ x e. c.in_ok-keep-2.ensures.counted)
 
 pub returns-clause-written : goal.returns-clause-written
 returns-clause-written c =

@@ -1,5 +1,6 @@
 use Rattle.std.proofs.Common.{refl, arith}
-use Rattle.mr_journal.proofs.Shelving.{beside_same}
+use Rattle.std.specs.String.{string_bytes}
+use Rattle.mr_journal.proofs.Shelving.{beside_same, shelf_stays}
 use Rattle.mr_journal.proofs.shelf_disk.ShelfDiskDisk.size.Goals as goal
 
 pub returns-clause-kept : goal.returns-clause-kept
@@ -10,3 +11,10 @@ returns-clause-kept g c = record {
   faults = c.length_of.ensures.faults;
   reads = omega (arith, c.length_of.ensures.reads);
 }
+
+pub returns-clause-passes : goal.returns-clause-passes
+returns-clause-passes g c =
+    let self = c.args.self.now in
+    let e = c.length_of.ensures in
+    shelf_stays (string_bytes self.map) (string_bytes self.journal) (g.S.Shelf.state self.shelf)
+    (g.S.Shelf.state c.length_of.new.shelf) c.length_of.result e.fault e.faults e.quiet e.files

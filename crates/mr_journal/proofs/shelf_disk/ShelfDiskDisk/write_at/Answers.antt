@@ -27,7 +27,7 @@ returns-clause-passes g c =
     search rules in
     shelf_wrote (string_bytes self.map) (string_bytes self.journal) (g.S.Shelf.state self.shelf)
     (g.S.Shelf.state c.write_bytes.new.shelf) c.write_bytes.result c.write_bytes.ensures.fault
-    c.write_bytes.ensures.faults
+    c.write_bytes.ensures.faults c.write_bytes.ensures.quiet
     c.args.area c.args.at c.args.bytes.now self.differ
     (under c.args.area (string_bytes self.map) (string_bytes self.journal) c.name_in-name.result.now c.args.at
     c.args.bytes.now _ _ name_in c.write_bytes.ensures.puts.front)
