@@ -17,7 +17,7 @@ use Rattle.mr_count.specs.Chosen.{opens_record}
 use Rattle.mr_join.specs.declared.pair.Pair.{Pair}
 use Rattle.mr_join.specs.Meets.{meets_one, meets_way, rects_of}
 use Rattle.mr_join.specs.Pairs.{pair_of, pairs_with, is_before, pairs_of}
-use Rattle.mr_join.proofs.Packing.{meets_outer, inside_itself, inside_through, in_first, in_second}
+use Rattle.mr_join.proofs.Inside.{meets_outer, inside_itself, inside_through, in_first, in_second}
 
 -- ---- lists that are filtered
 

@@ -1,5 +1,4 @@
-pub mod Packing
-pub mod Lists
+pub mod Inside
 pub mod Framing
 pub mod Worth
 pub mod Written
@@ -8,4 +7,8 @@ pub mod Judged
 pub mod ReadParts
 pub mod Fetching
 pub mod Pairs
+pub mod Trees
+pub mod Sweeps
+pub mod Counts
+pub mod Halves
 pub mod AllPairs

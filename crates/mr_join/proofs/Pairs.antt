@@ -1,21 +1,20 @@
 -- Pairs in rising order: those that are found are all, in whatever order they were found.
-use Rattle.std.proofs.Common.{◌≡◌, ℕ, ◌+◌, ◌<◌, suc, Bool, true, false, cond, ltb, List, [], ◌∷◌, map, replicate, refl, sym, ap, ◌∙◌, inl, inr, arith}
+use Rattle.std.proofs.Common.{◌≡◌, ℕ, ◌<◌, suc, Bool, true, false, cond, ltb, List, [], ◌∷◌, ◌++◌, map, replicate, refl, sym, ap, ◌∙◌, inl, inr, arith}
 use Rattle.std.specs.Prelude.{filter, not, ◌&&◌}
 use Rattle.std.specs.Cmp.{IsStrictWeakOrder, then_total, on_total, nat_cmp_total}
-use Rattle.std.specs.List.{flat_map, count_by, sum_by}
+use Rattle.std.specs.List.{flat_map, count_by}
 use Rattle.std.specs.List.Sorted.{IsPermutation, ties}
 use Rattle.std.proofs.lemmas.Bool.{cases_Bool, cases_eq, false≢true, ltb-true, ltb-false, lt-ltb, le-ltb, eq-eqb}
 use Rattle.std.proofs.lemmas.List.Sorted.{ranks_by, sum_by-IsPermutation}
-use Rattle.std.proofs.lemmas.List.Sums.{sum_by-cons, sum_by-append}
+use Rattle.std.proofs.lemmas.List.Sums.{sum_by-cons}
 use Rattle.mr_geom.specs.Plane.{touches}
 use Rattle.mr_record.specs.Sorting.{sorted_by}
 use Rattle.mr_record.specs.declared.record.Record.{Record}
 use Rattle.mr_record.proofs.Sorting.{same_sorted, sorted_rises, sorted_keeps}
-use Rattle.mr_join.specs.declared.packed.Entry.{Entry}
+use Rattle.mr_join.specs.declared.entry.Entry.{Entry}
 use Rattle.mr_join.specs.declared.pair.Pair.{Pair}
 use Rattle.mr_join.specs.Pairs.{pair_of, pairs_with, is_before, pairs_of}
-use Rattle.mr_join.specs.private.Packed.{paired}
-use Rattle.mr_join.specs.private.Pairing.{entry_of, found_with}
+use Rattle.mr_join.specs.private.Pairing.{entry_of, found_with, all_pairs}
 
 pub pairs_order : IsStrictWeakOrder is_before
 pairs_order =
@@ -105,66 +104,27 @@ same_counts ps qs same =
     (λ z. sorted_keeps is_before pairs_order z ps ∙ tied_ones z ps
     ∙ ap (λ (n : ℕ). replicate n z) (same z) ∙ sym (tied_ones z qs) ∙ sym (sorted_keeps is_before pairs_order z qs))
 
--- ---- the pairs with packed entries are those with their records
+-- ---- the pairs of entries are those of their records
 
--- whether a pair with the entry is found that passes
-abbrev weight : (Pair → Bool) → Record → Entry → ℕ
-weight t r e = cond (touches r.rect e.rect) (cond (t (paired r.number e)) 1 0) 0
-
-count_found : (t : Pair → Bool) (r : Record) (es : List Entry)
-    → count_by t (found_with es r) ≡ sum_by (weight t r) es
-count_found t r [] = refl
-count_found t r (e ∷ es) = by_test (touches r.rect e.rect) refl (count_found t r es)
-  where
-    step : sum_by (weight t r) (e ∷ es) ≡ weight t r e + sum_by (weight t r) es
-    step = sum_by-cons (weight t r) e es
-
-    by_test : (b : Bool) → touches r.rect e.rect ≡ b
-        → count_by t (found_with es r) ≡ sum_by (weight t r) es
-        → count_by t (found_with (e ∷ es) r) ≡ sum_by (weight t r) (e ∷ es)
-    by_test true m rest =
-        let found : found_with (e ∷ es) r ≡ paired r.number e ∷ found_with es r =
-        ap (map (paired r.number)) (passes (λ (x : Entry). touches r.rect x.rect) e es m) in
-        let here : weight t r e ≡ cond (t (paired r.number e)) 1 0 =
-        ap (λ (b : Bool). cond b (cond (t (paired r.number e)) 1 0) 0) m in
-        let more = ap (count_by t) found ∙ sum_by-cons (λ (p : Pair). cond (t p) 1 0) (paired r.number e)
-        (found_with es r) in
-        omega (arith, step, here, more, rest)
-    by_test false m rest =
-        let found : found_with (e ∷ es) r ≡ found_with es r =
-        ap (map (paired r.number)) (fails (λ (x : Entry). touches r.rect x.rect) e es m) in
-        let here : weight t r e ≡ 0 = ap (λ (b : Bool). cond b (cond (t (paired r.number e)) 1 0) 0) m in
-        let same = ap (count_by t) found in
-        omega (arith, step, here, same, rest)
-
-same_found : (qs : List Record) (r : Record) → found_with (map entry_of qs) r ≡ pairs_with qs r
+same_found : (qs : List Record) (r : Record) → found_with (map entry_of qs) (entry_of r) ≡ pairs_with qs r
 same_found [] r = refl
 same_found (q ∷ qs) r = by_test (touches r.rect q.rect) refl (same_found qs r)
   where
-    by_test : (b : Bool) → touches r.rect q.rect ≡ b → found_with (map entry_of qs) r ≡ pairs_with qs r
-        → found_with (map entry_of (q ∷ qs)) r ≡ pairs_with (q ∷ qs) r
+    by_test : (b : Bool) → touches r.rect q.rect ≡ b
+        → found_with (map entry_of qs) (entry_of r) ≡ pairs_with qs r
+        → found_with (map entry_of (q ∷ qs)) (entry_of r) ≡ pairs_with (q ∷ qs) r
     by_test true m rest = rw m (ap (λ (ps : List Pair). pair_of r q ∷ ps) rest)
     by_test false m rest = rw m rest
 
-count_same : (qs : List Record) (es : List Entry) → IsPermutation (map entry_of qs) es → (t : Pair → Bool) (r : Record)
-    → count_by t (found_with es r) ≡ count_by t (pairs_with qs r)
-count_same qs es moved t r =
-    count_found t r es ∙ sum_by-IsPermutation (weight t r) (map entry_of qs) es moved
-    ∙ sym (count_found t r (map entry_of qs)) ∙ ap (count_by t) (same_found qs r)
+same_pairs : (rs qs : List Record) → all_pairs (map entry_of rs) (map entry_of qs) ≡ flat_map (pairs_with qs) rs
+same_pairs [] qs = refl
+same_pairs (r ∷ rs) qs = λ i. same_found qs r i ++ same_pairs rs qs i
 
-count_all : (f g : Record → List Pair) (t : Pair → Bool) → ((r : Record) → count_by t (f r) ≡ count_by t (g r))
-    → (rs : List Record) → count_by t (flat_map f rs) ≡ count_by t (flat_map g rs)
-count_all f g t same [] = refl
-count_all f g t same (r ∷ rs) =
-    let both = sum_by-append (λ (p : Pair). cond (t p) 1 0) (f r) (flat_map f rs) in
-    let others = sum_by-append (λ (p : Pair). cond (t p) 1 0) (g r) (flat_map g rs) in
-    let here = same r in
-    let rest = count_all f g t same rs in
-    omega (arith, both, others, here, rest)
-
-pub all_found : (rs qs : List Record) (es : List Entry) → IsPermutation (map entry_of qs) es
-    → sorted_by is_before (flat_map (found_with es) rs) ≡ pairs_of rs qs
+pub all_found : (rs qs : List Record) (es fs : List Entry) (ps : List Pair) → es ≡ map entry_of rs
+    → fs ≡ map entry_of qs → IsPermutation (all_pairs es fs) ps → sorted_by is_before ps ≡ pairs_of rs qs
 unfolding pairs_of
-all_found rs qs es moved =
-    same_counts (flat_map (found_with es) rs) (flat_map (pairs_with qs) rs)
-    (λ z. count_all (found_with es) (pairs_with qs) (ties is_before z) (count_same qs es moved (ties is_before z)) rs)
+all_found rs qs es fs ps firsts seconds moved =
+    same_counts ps (flat_map (pairs_with qs) rs)
+    (λ z. sum_by-IsPermutation (λ (p : Pair). cond (ties is_before z p) 1 0) (all_pairs es fs) ps moved
+    ∙ (λ i. count_by (ties is_before z) (all_pairs (firsts i) (seconds i)))
+    ∙ ap (count_by (ties is_before z)) (same_pairs rs qs))

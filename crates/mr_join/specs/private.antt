@@ -1,5 +1,5 @@
-pub mod Packed
 pub mod Pairing
+pub mod Sweeping
 pub mod MeetsLaws
 pub mod Frames
 pub mod Answers

@@ -2,17 +2,21 @@
 #![tactic(auto)]
 
 mod auditing;
+mod bounds;
 mod checking;
+mod entry;
 mod fault;
 mod finding;
 mod frame;
 mod honest;
 mod joining;
 mod meets;
-mod packed;
 mod pair;
 mod pairing;
 mod proving;
+mod query;
+mod searching;
+mod sweeping;
 
 pub use auditing::audit_join;
 pub use fault::{FrameRule, JoinErr, JoinFault};

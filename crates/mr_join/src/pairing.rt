@@ -1,13 +1,13 @@
 //! The pairs of records that meet.
 
-ghost use Rattle.std.specs.Prelude.{◌≡◌, ◌++◌, map, IfOk, OnOk};
-ghost use Rattle.std.specs.List.{flat_map};
+ghost use Rattle.std.specs.Prelude.{◌≡◌, map, IfOk, OnOk};
 ghost use Rattle.mr_record.specs.Sorting.{sorted_by};
 ghost use Rattle.mr_join.specs.Pairs.{is_before, pairs_of};
-ghost use Rattle.mr_join.specs.private.Pairing.{entry_of, found_with};
+ghost use Rattle.mr_join.specs.private.Pairing.{entry_of};
 
 use crate::Pair;
-use crate::packed::{Entry, Packed};
+use crate::entry::Entry;
+use crate::sweeping::pairs;
 use mr_record::Record;
 use std::alloc::{AllocError, Global};
 
@@ -25,17 +25,6 @@ fn entries_of(alloc: Global, records: &[Record]) -> Result<Vec<Entry>, AllocErro
     Ok(entries)
 }
 
-// Puts the pairs of the records with those that are packed behind the others.
-fn put_pairs(packed: &Packed, records: &[Record], pairs: &mut Vec<Pair>) -> Result<(), AllocError>
-    ensures { OnOk result (pairs.new.items
-        ≡ pairs.old.items ++ flat_map (found_with packed.now) records.now) }
-{
-    for record in records {
-        packed.put_met(&record.rect, record.number, pairs)?;
-    }
-    Ok(())
-}
-
 // Puts them in rising order.
 fn sort(pairs: &mut Vec<Pair>) -> Result<(), AllocError>
     ensures { OnOk result (pairs.new.items ≡ sorted_by is_before pairs.old.items) }
@@ -44,9 +33,9 @@ fn sort(pairs: &mut Vec<Pair>) -> Result<(), AllocError>
     Ok(())
 }
 
-/// All pairs of a record of the first list and one of the second that meet, in rising order. Each
-/// record of the first is searched for among those of the second; it takes n log n steps on
-/// average, and those for the pairs.
+/// All pairs of a record of the first list and one of the second that meet, in rising order. For n
+/// and m records and k pairs it takes at most in proportion to (n + m + k) log (n + m) steps,
+/// whatever the lists. No clause says so.
 pub(crate) fn pairs_of(
     alloc: Global,
     first: &[Record],
@@ -54,9 +43,9 @@ pub(crate) fn pairs_of(
 ) -> Result<Vec<Pair>, AllocError>
     ensures { IfOk result (λ v. v.items ≡ pairs_of first.now second.now) }
 {
-    let packed = Packed::of(entries_of(alloc, second)?)?;
-    let mut pairs = Vec::new(alloc);
-    put_pairs(&packed, first, &mut pairs)?;
-    sort(&mut pairs)?;
-    Ok(pairs)
+    let first = entries_of(alloc, first)?;
+    let second = entries_of(alloc, second)?;
+    let mut found = pairs(alloc, &first, &second)?;
+    sort(&mut found)?;
+    Ok(found)
 }

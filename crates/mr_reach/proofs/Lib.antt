@@ -1,0 +1,7 @@
+mod Merged
+mod Blocks
+mod Bits
+mod Halving
+mod Walking
+mod Sides
+mod Crossing

@@ -1,0 +1,11 @@
+//! Rectangles, kept so that whether a rectangle meets one of them takes few steps, whatever they
+//! are.
+#![tactic(auto)]
+
+mod corners;
+mod levels;
+mod marks;
+mod merging;
+mod reach;
+
+pub use reach::Reach;
