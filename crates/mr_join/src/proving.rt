@@ -1,6 +1,6 @@
 //! The proof of a join.
 
-ghost use Rattle.std.specs.Prelude.{◌≡◌, ◌+◌, ◌≤◌, ◌<◌, ◌^◌, [], ◌∷◌, ◌++◌, length, IfOk, IfErr, IfSome, OnOk, OnErr, Some, Ok};
+ghost use Rattle.std.specs.Prelude.{◌≡◌, ◌+◌, ◌≤◌, ◌<◌, ◌^◌, [], ◌∷◌, ◌++◌, length, IfOk, IfErr, IfSome, OnOk, OnErr, Some, None, Ok, nat_lt, if◌then◌else◌};
 ghost use Rattle.std.specs.Int.{w32, to_be_bytes};
 ghost use Rattle.mr_outside.specs.Told.{TakesBytes, TakesFront};
 ghost use Rattle.mr_record.specs.Record.{rectangle_bytes};
@@ -134,12 +134,19 @@ fn first_part<N: Nodes>(alloc: Global, nodes: &mut N, rect: &Rect) -> Result<Fir
     })
 }
 
+// The length of a part, where the frame has room for it.
+fn size_of(part: &[u8]) -> Option<u32>
+    ensures { result ≡ (if nat_lt (length part.now) (2 ^ 32) then Some (length part.now) else None) }
+{
+    u32::try_from(part.len()).ok()
+}
+
 // The frame's fields in front of the second part, with the first one.
 fn framed(alloc: Global, rect: &Rect, part: &[u8]) -> Result<Vec<u8>, AllocError>
     ensures { IfOk result (λ v. v.items ≡ magic ++ (1 ∷ (rectangle_bytes rect.now
         ++ (to_be_bytes w32 (length part.now) ++ part.now)))) }
 {
-    let Ok(size) = u32::try_from(part.len()) else {
+    let Some(size) = size_of(part) else {
         return Err(AllocError);
     };
     let mut bytes = Vec::new(alloc);
