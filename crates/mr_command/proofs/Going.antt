@@ -519,6 +519,35 @@ comes_saved name content said before after ending done writes gives saves = reco
   few = few_none before.files said before.reads after.reads saves.unread;
 }
 
+-- memory ran out behind it
+pub comes_kept : (name : List ℕ) (content : Content) (said : Outcome) (before after : Shelved) (done : Unit)
+    → said.written ≡ File name content → SavesFile name content before after (Ok done)
+    → RunsPlan (comes said) before after (Err halts.NoMemory)
+comes_kept name content said before after done writes saves = record {
+  counts = saves.counts;
+  judged = tt;
+  came = (
+    tt,
+    subst (λ w. MayLeave w before.files after.files) (sym writes)
+        (inr (saves.saved.0.0, inr saves.saved.0.1, saves.saved.0.2)),
+  );
+  outside = tt;
+  quiet = tt;
+  few = few_none before.files said before.reads after.reads saves.unread;
+}
+
+-- the ending over it has this status and text, or memory ran out
+pub comes_told : (name : List ℕ) (content : Content) (said told : Outcome) (before after : Shelved) (done : Unit)
+    (result : Result Ending Halt) → said.written ≡ File name content → told.status ≡ said.status
+    → told.printed ≡ said.printed → IsEndingOrHalt told result → SavesFile name content before after (Ok done)
+    → RunsPlan (comes said) before after result
+comes_told name content said told before after done (Ok ending) writes status printed gives saves =
+    comes_saved name content said before after ending done writes
+    (record { status = gives.status ∙ status; printed = gives.printed ∙ printed; settled = gives.settled }) saves
+comes_told name content said told before after done (Err halt) writes status printed gives saves =
+    subst (λ h. RunsPlan (comes said) before after (Err h)) (sym gives)
+    (comes_kept name content said before after done writes saves)
+
 pub comes_unsaved : (name : List ℕ) (content : Content) (said : Outcome) (before after : Shelved) (halt : Halt)
     → said.written ≡ File name content → SavesFile name content before after (Err halt)
     → RunsPlan (comes said) before after (Err halt)
@@ -589,7 +618,8 @@ module _ (v : Version) (hash : List ℕ → List ℕ) (sized : IsSized hash) (na
   }
 
   -- by why the shelf refused
-  pub unsaved_by : (error : ShelfErr) → after.reads ≡ before.reads → SaveCauses {A = Unit} before after (Err error)
+  pub unsaved_by : {A : Type 0} (error : ShelfErr) → after.reads ≡ before.reads
+      → SaveCauses {A = A} before after (Err error)
       → LeavesFile (MayStand (form_by v) hash tree batch) name before.files after.files
       → SavesFile name (map_of v hash tree batch) before after (Err (halt_of error))
   unsaved_by shelf.Missing same causes left = unsaved halts.Shelf causes.faults same (causes.missing refl) left

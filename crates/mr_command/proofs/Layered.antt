@@ -1,6 +1,6 @@
 -- The layers of records in another order, and of those that a version may hold.
 use Rattle.std.proofs.Common.{Bool, true, false, List, [], ◌∷◌}
-use Rattle.std.specs.Prelude.{ℕ, All, IfOk, Result, Ok, Err, if◌then◌else◌}
+use Rattle.std.specs.Prelude.{All, IfOk, Result, Ok, Err, if◌then◌else◌}
 use Rattle.std.specs.List.Sorted.{IsPermutation}
 use Rattle.std.proofs.lemmas.List.Sorted.{All-permutation}
 use Rattle.std.specs.List.{AllByRecursion}
@@ -40,7 +40,7 @@ pub tree_layers : (v : Version) (rs : List Record) (t : Tree) → All (HasLayer 
     → HasLayers v t
 tree_layers v rs t all same = All-permutation (HasLayer v) rs (records t) same all
 
-pub packed_layers : {E : Type 0} (v : Version) (rs : List Record) (result : Result (Tree × List ℕ) E)
+pub packed_layers : {A E : Type 0} (v : Version) (rs : List Record) (result : Result (Tree × A) E)
     → All (HasLayer v) rs → IfOk result (λ p. IsPermutation rs (records p.0)) → IfOk result (λ p. HasLayers v p.0)
 packed_layers v rs (Ok p) all same = tree_layers v rs p.0 all same
 packed_layers v rs (Err e) all same = tt

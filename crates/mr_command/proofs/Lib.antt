@@ -3,6 +3,7 @@ pub mod Plans
 pub mod Endings
 pub mod Counting
 pub mod Layered
+pub mod Leaves
 pub mod Plain
 pub mod Versions
 pub mod Going

@@ -1,6 +1,6 @@
 //! The command `apply`.
 
-ghost use Rattle.std.specs.Prelude.{◌≡◌, ◌≢◌, List, ℕ, length, All, IfSome, Ok};
+ghost use Rattle.std.specs.Prelude.{◌≡◌, ◌≢◌, List, ℕ, All, IfSome, Ok};
 ghost use Rattle.mr_batch.specs.BatchText.{batch_of_text};
 ghost use Rattle.mr_edit.specs.Replayed.{IsOfVersion};
 ghost use Rattle.mr_record.specs.private.Bytes.{AreBytes};
@@ -10,23 +10,24 @@ ghost use Rattle.mr_command.specs.private.Applying.{of_copy, of_edit, SaysSealed
 ghost use Rattle.mr_command.specs.Ending.{IsEndingOrHalt, IsCarriedOut};
 ghost use Rattle.mr_command.specs.private.Steps.{SaysRefusal};
 ghost use Rattle.mr_command.specs.private.Inputs.{ReadsValue};
-ghost use Rattle.mr_plan.specs.Lines.{bad_batch_line as line_of, digest_line as line_on};
+ghost use Rattle.mr_plan.specs.Lines.{bad_batch_line as line_of};
 ghost use Rattle.mr_plan.specs.Plan.{comes};
 ghost use Rattle.mr_plan.specs.Untold.{MaySayApply};
 ghost use Rattle.mr_plan.specs.declared.words.Command.TheVariants as commands;
-ghost use Rattle.mr_plan.specs.Say.{ends, prints, say_batch, say_change, say_changed};
+ghost use Rattle.mr_plan.specs.Say.{ends, say_batch, say_change, say_changed};
 
 use crate::audit_command::needed_beside;
 use crate::ending::{Ending, Halt, Step};
 use crate::fetching::unfetched;
 use crate::input::bad_text;
 use crate::opening::{is_word, open_paged, unopened};
+use crate::saving::say_root;
 use mr_batch::{Batch, BatchFault, Directory, admit, read_batch_of};
 use mr_draft::copy_map;
 use mr_edit::EditErr;
 use mr_outside::Shelf;
 use mr_pages::MapErr;
-use mr_plan::{Status, bad_batch_line, digest_line};
+use mr_plan::{Status, bad_batch_line};
 use mr_store::{Paged, directory};
 use mr_tree::{Hash32, Nodes};
 use std::alloc::Global;
@@ -62,15 +63,6 @@ fn uncopied(alloc: Global, name: &str, error: &EditErr) -> Result<Ending, Halt>
         EditErr::Fault => Err(Halt::Shelf),
         EditErr::NoMemory => Err(Halt::NoMemory),
     }
-}
-
-// The ending over a root digest.
-fn say_root(alloc: Global, digest: &[u8; 32]) -> Result<Ending, Halt>
-    ensures size { length digest.now ≡ 32 }
-    ensures gives { IsEndingOrHalt (prints (line_on digest.now)) result }
-{
-    let line = digest_line(alloc, digest)?;
-    Ok(Ending::line(alloc, Status::Done, line))
 }
 
 // The ending over a map that was written, by its root digest, or over one that was not.

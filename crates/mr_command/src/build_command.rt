@@ -8,7 +8,7 @@ ghost use Rattle.mr_plan.specs.Say.{say_build, say_build_of};
 
 use crate::ending::{Ending, Halt};
 use crate::input::records_from;
-use crate::packing::packed;
+use crate::packing::packed_leaves;
 use crate::saving::save_map;
 use mr_outside::{Gate, Shelf};
 use mr_record::{Record, Version};
@@ -30,7 +30,7 @@ fn build_records<H: Hash32, S: Shelf, G: Gate, R: Threads + Sync>(
     ensures { RunsPlan (comes (say_build_of version H.of map.now (Ok records.items)))
         (S.state shelf.old) (S.state shelf.new) result }
 {
-    let made = packed::<H, G, R>(rt, alloc, version, records, gate)?;
+    let made = packed_leaves::<H, G, R>(rt, alloc, version, records, gate)?;
     save_map::<H, S>(alloc, version, map, &made.0, 0, &made.1, shelf)
 }
 

@@ -6,8 +6,8 @@ ghost use Rattle.mr_batch.specs.Changes.{IsLayered};
 ghost use Rattle.mr_command.specs.Ending.{IsCarriedOut, IsEndingOrHalt};
 ghost use Rattle.mr_command.specs.private.Inputs.{ReadsValue};
 ghost use Rattle.mr_command.specs.private.Here.{SaysApplied, UpdatesByText, UpdatesThere};
-ghost use Rattle.mr_plan.specs.Lines.{digest_line as line_on, needs_version_2_line as line_of_need};
-ghost use Rattle.mr_plan.specs.Say.{ends, prints};
+ghost use Rattle.mr_plan.specs.Lines.{needs_version_2_line as line_of_need};
+ghost use Rattle.mr_plan.specs.Say.{ends};
 ghost use Rattle.mr_plan.specs.Saying.{journal_of};
 ghost use Rattle.mr_plan.specs.declared.words.Command.TheVariants as commands;
 
@@ -16,11 +16,12 @@ use crate::ending::{Ending, Halt, Step};
 use crate::input::{bad_text, missing, needed};
 use crate::opening::unopened;
 use crate::recover_command::{halted, journal_name};
+use crate::saving::say_root;
 use mr_batch::{Batch, read_batch_of};
 use mr_here::{HereErr, apply_files, version_of_files};
 use mr_outside::{Shelf, ShelfErr};
 use mr_pages::MapErr;
-use mr_plan::{Status, digest_line, needs_version_2_line};
+use mr_plan::{Status, needs_version_2_line};
 use mr_record::Version;
 use mr_tree::Hash32;
 use std::alloc::Global;
@@ -31,14 +32,6 @@ fn no_layers(alloc: Global) -> Result<Ending, Halt>
 {
     let line = needs_version_2_line(alloc)?;
     Ok(Ending::line(alloc, Status::NeedsVersion2, line))
-}
-
-// The ending over the root digest of the map after a batch.
-fn say_root(alloc: Global, digest: &[u8; 32]) -> Result<Ending, Halt>
-    ensures { IsEndingOrHalt (prints (line_on digest.now)) result }
-{
-    let line = digest_line(alloc, digest)?;
-    Ok(Ending::line(alloc, Status::Done, line))
 }
 
 // What the command comes to, by the root digest of the map after a batch, or by why it was not

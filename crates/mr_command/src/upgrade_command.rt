@@ -8,7 +8,7 @@ use crate::opening::open_map;
 use crate::saving::save_map;
 use mr_outside::Shelf;
 use mr_record::Version;
-use mr_tree::{Hash32, root2_of};
+use mr_tree::Hash32;
 use std::alloc::Global;
 
 /// The map in a file of either version, written to another one in version 2, and its root there.
@@ -24,18 +24,7 @@ pub fn upgrade<H: Hash32, S: Shelf>(
         result }
 {
     match open_map::<H, S>(alloc, old, shelf) {
-        Ok(map) => {
-            let digest = root2_of::<H>(&map.tree, map.batch);
-            save_map::<H, S>(
-                alloc,
-                Version::Two,
-                new,
-                &map.tree,
-                map.batch,
-                &digest,
-                shelf,
-            )
-        }
+        Ok(map) => { save_map::<H, S>(alloc, Version::Two, new, &map.tree, map.batch, &[], shelf) }
         Err(came) => came,
     }
 }

@@ -16,10 +16,9 @@ ghost use Rattle.mr_draft.specs.Sheets.{HasAllPages, IsFiled, OnlyWrites};
 use crate::draft::Draft;
 use mr_edit::EditErr;
 use mr_outside::Shelf;
-use mr_pages::{MapHead, SECOND_SIZE, level_of_root, put_head};
-use mr_record::Version;
+use mr_pages::{MapHead, SECOND_SIZE, head_root, level_of_root, put_head};
 use mr_store::CachedFile;
-use mr_tree::{Child, Hashes, Top, root_digest};
+use mr_tree::{Child, Hashes};
 
 // Waits until the file stands as it was written.
 fn sync<S: Shelf>(file: &mut CachedFile<S>) -> Result<(), EditErr>
@@ -85,20 +84,6 @@ fn is_word(_n: u64)
     ensures { _n < 2 ^ 64 }
 {}
 
-// The root digest of the map of this version whose page 0 says this.
-fn digest_of<H: Hashes>(version: Version, head: &MapHead) -> [u8; 32]
-    ensures { result ≡ H.of (root_preimage version head.now.batch head.now.count
-        (root_entry head.now.root)) }
-{
-    let top = Top {
-        version,
-        batch: head.batch,
-        count: head.count,
-        root: head.root,
-    };
-    root_digest::<H>(version, top.batch, top.count, &top.root_entry())
-}
-
 // Writes page 0, which says this of the map, and answers the root digest.
 fn seal_file<S: Shelf, H: Hashes>(
     file: &mut CachedFile<S>,
@@ -123,7 +108,7 @@ fn seal_file<S: Shelf, H: Hashes>(
     let (page, _) = room.split_at_mut(layout.size);
     put_head(layout, head, page);
     write_first(file, page)?;
-    Ok(digest_of::<H>(layout.version, head))
+    Ok(head_root::<H>(layout.version, head))
 }
 
 // What the types tell of their values.

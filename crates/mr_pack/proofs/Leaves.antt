@@ -16,7 +16,7 @@ use Rattle.mr_tree.specs.declared.tree.Tree.{Tree}
 use Rattle.mr_tree.specs.declared.tree.Tree.TheVariants as tree
 use Rattle.mr_tree.proofs.Folds.{fold-Empty, fold-Leaf, fold-Inner}
 use Rattle.mr_tree.proofs.Induction.{tree_induction, here-Leaf, every_child}
-use Rattle.mr_pack.specs.private.Leaves.{leaves_step, leaves, leaf_entry, leaf_entries}
+use Rattle.mr_pack.specs.Leaves.{leaves_step, leaves, leaf_entry, leaf_entries}
 
 pub leaves-Empty : leaves tree.Empty ≡ []
 leaves-Empty = fold-Empty (List (List Record)) leaves_step

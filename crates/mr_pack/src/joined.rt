@@ -12,7 +12,7 @@ ghost use Rattle.mr_tree.specs.Digest.{by, entry, root};
 ghost use Rattle.mr_tree.specs.private.Slim.{IsSlim};
 ghost use Rattle.mr_tree.specs.WellFormed.{WellFormed, HasOneLevel};
 ghost use Rattle.mr_tree.specs.declared.tree.Tree.TheFolds.{every-Tree};
-ghost use Rattle.mr_pack.specs.private.Leaves.{leaves as leaves_in, leaf_entry as entry_of_leaf, leaf_entries};
+ghost use Rattle.mr_pack.specs.Leaves.{leaves as leaves_in, leaf_entry as entry_of_leaf, leaf_entries};
 
 use mr_fork_join::{Work, in_halves};
 use mr_outside::Gate;
@@ -141,6 +141,21 @@ fn entry_over<H: Hashes>(tree: &Tree, level: u8, entries: &[Entry]) -> Entry
     }
 }
 
+// What is said of the leaves of a tree in version 1, left to right.
+pub(crate) fn first_leaves<H: Hash32, G: Gate, R: Threads + Sync>(
+    rt: &R,
+    alloc: Global,
+    tree: &Tree,
+    gate: &G,
+) -> Result<Vec<Entry>, AllocError>
+    requires { WellFormed tree.now }
+    ensures { IfOk result (λ v. v.items ≡ leaf_entries (by One H.of) tree.now) }
+{
+    let mut list = Vec::new(alloc);
+    gather_leaves(tree, &mut list)?;
+    hashed::<H, G, R>(rt, alloc, &list, gate)
+}
+
 // The root digest of the map with this tree at batch 0.
 pub(crate) fn first_root<H: Hash32, G: Gate, R: Threads + Sync>(
     rt: &R,
@@ -151,9 +166,7 @@ pub(crate) fn first_root<H: Hash32, G: Gate, R: Threads + Sync>(
     requires { WellFormed tree.now }
     ensures { IfOk result (λ digest. digest ≡ root (by One H.of) tree.now 0) }
 {
-    let mut list = Vec::new(alloc);
-    gather_leaves(tree, &mut list)?;
-    let entries = hashed::<H, G, R>(rt, alloc, &list, gate)?;
+    let entries = first_leaves::<H, G, R>(rt, alloc, tree, gate)?;
     let entry = entry_over::<H>(tree, level_of(tree), &entries);
     Ok(root_digest::<H>(Version::One, 0, count_of(tree), &entry))
 }

@@ -10,4 +10,6 @@ mod node;
 mod placed;
 mod twice;
 
-pub use load::{PackErr, pack, pack_distinct, pack_joined, pack_joined_distinct};
+pub use load::{
+    PackErr, pack, pack_distinct, pack_joined, pack_joined_distinct, pack_leaves_distinct,
+};

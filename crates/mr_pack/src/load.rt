@@ -9,18 +9,19 @@ ghost use Rattle.mr_tree.specs.Digest.{by, root as root_in};
 ghost use Rattle.mr_tree.specs.Tree.{records};
 ghost use Rattle.mr_tree.specs.WellFormed.{WellFormed};
 ghost use Rattle.mr_pack.specs.HalfFull.{IsHalfFullBelow};
+ghost use Rattle.mr_pack.specs.Leaves.{leaf_entries};
 ghost use Rattle.mr_pack.specs.Pack.{root_above, pack};
 ghost use Rattle.mr_pack.specs.Twice.{IsPackCause};
 ghost use Rattle.mr_pack.specs.declared.load.PackErr.TheVariants as errors;
 ghost use Rattle.mr_pack.specs.declared.node.Node.{Node as node};
 
-use crate::joined::first_root;
+use crate::joined::{first_leaves, first_root};
 use crate::level::{above, leaves};
 use crate::node::Node;
 use crate::twice::least_twice;
 use mr_outside::Gate;
 use mr_record::{Record, are_records};
-use mr_tree::{Hash32, Tree};
+use mr_tree::{Entry, Hash32, Tree};
 use std::alloc::{AllocError, Global};
 use std::thread::Threads;
 
@@ -100,6 +101,28 @@ pub fn pack_distinct(alloc: Global, list: Vec<Record>) -> Result<Tree, AllocErro
 {
     are_records(&list);
     packed(alloc, &list)
+}
+
+/// As `pack_distinct`, and gives what is said of the tree's leaves in version 1, left to right. They
+/// are hashed in joined halves, as in `pack_joined`; no node above them is.
+pub fn pack_leaves_distinct<H: Hash32, G: Gate, R: Threads + Sync>(
+    rt: &R,
+    alloc: Global,
+    list: Vec<Record>,
+    gate: &G,
+) -> Result<(Tree, Vec<Entry>), AllocError>
+    requires few { length list.items ≤ 2 ^ 20 }
+    requires layers { All (HasLayer Two) list.items }
+    requires apart { AllPairs (λ (a b : types.Record). a.number ≢ b.number) list.items }
+    ensures exact { IfOk result (λ p. p.0 ≡ pack list.items) }
+    ensures leaves { IfOk result (λ p. p.1.items ≡ leaf_entries (by One H.of) (pack list.items)) }
+    ensures well_formed { IfOk result (λ p. WellFormed p.0) }
+    ensures half_full { IfOk result (λ p. IsHalfFullBelow p.0) }
+    ensures same_records { IfOk result (λ p. IsPermutation list.items (records p.0)) }
+{
+    let tree = pack_distinct(alloc, list)?;
+    let entries = first_leaves::<H, G, R>(rt, alloc, &tree, gate)?;
+    Ok((tree, entries))
 }
 
 /// As `pack_joined`, where it is known that the numbers differ; it does not look.

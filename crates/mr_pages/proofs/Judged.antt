@@ -1,7 +1,7 @@
 -- A node that a view shows, and what is judged of it.
-use Rattle.std.proofs.Common.{◌≡◌, ◌+◌, ◌≤◌, List, [], ◌∷◌, map, refl, sym, ap, arith}
+use Rattle.std.proofs.Common.{◌≡◌, ◌+◌, ◌≤◌, List, [], ◌∷◌, map, refl, sym, ap, ◌∙◌, arith}
 use Rattle.mr_tree.specs.declared.entry.Entry.{Entry}
-use Rattle.std.specs.Prelude.{Option, Some, None, fold}
+use Rattle.std.specs.Prelude.{Option, Some, None, IsSome, fold}
 use Rattle.mr_geom.specs.Rectangle.{Rectangle, union, join}
 use Rattle.mr_record.specs.declared.record.Record.{Record}
 use Rattle.mr_tree.specs.Digest.{Scheme, entry_step}
@@ -46,3 +46,12 @@ rect_there hash (Leaf (r ∷ rs)) some e = joined_there r.rect (map (λ (x : Rec
 rect_there hash (Inner []) some e = omega (arith, some)
 rect_there hash (Inner (c ∷ cs)) some e =
     joined_there c.rect (map (λ (x : Entry). x.rect) (map (λ (l : Link). l.entry) (map child_link cs))) e
+
+-- so has what is said of it
+pub rect_some : (hash : Scheme) (n : view.Node) (said : Entry) → 1 ≤ view.size n →
+    said ≡ node_entry hash (page_node n) → IsSome said.rect
+rect_some hash n said some is = at said.rect refl
+  where
+    at : (r : Option Rectangle) → said.rect ≡ r → IsSome r
+    at None none = absurd (rect_there hash n some (sym (ap (λ (e : Entry). e.rect) is) ∙ none))
+    at (Some r) there = refl

@@ -34,4 +34,6 @@ mod Written
 mod Fronts
 pub mod Imaged
 mod InPieces
+pub mod LeafEntries
+mod Rooted
 pub mod Fits

@@ -81,6 +81,25 @@ causes_no_memory {A = A} before now same = record {
     no_fault : ◌≡◌ {A = ShelfErr} shelf.NoMemory shelf.Fault → ⊥
     no_fault q = cc
 
+-- the same causes, whatever is answered on Ok
+pub causes_kept : {A B : Type 0} (before after : Shelved) (e : ShelfErr) → SaveCauses {A = A} before after (Err e) →
+    SaveCauses {A = B} before after (Err e)
+causes_kept {B = B} before after e c = record {
+  missing = λ q. c.missing (ap Err (err_same {A = B} e shelf.Missing q));
+  fault = λ q. c.fault (ap Err (err_same {A = B} e shelf.Fault q));
+  faults = c.faults;
+  quiet = tt;
+}
+
+pub causes_done : {A B : Type 0} (before after : Shelved) (a : A) (b : B) → SaveCauses before after (Ok a) →
+    SaveCauses before after (Ok b)
+causes_done before after a b c = record {
+  missing = λ q. cc;
+  fault = λ q. cc;
+  faults = c.faults;
+  quiet = c.quiet;
+}
+
 -- it is handed on
 pub failed : {A : Type 0} (r : Result A ShelfErr) (e : ShelfErr) (before after : Shelved) → IsErrAnd r (λ f. f ≡ e) →
     SaveCauses {A = A} before after (Err e) → SaveCauses before after r

@@ -11,3 +11,4 @@ pub mod Opening
 pub mod Source
 pub mod private
 pub mod Making
+pub mod Leaves

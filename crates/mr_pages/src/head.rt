@@ -1,6 +1,11 @@
 //! What page 0 says.
 
-use mr_tree::Child;
+ghost use Rattle.std.specs.Prelude.{◌≡◌};
+ghost use Rattle.mr_tree.specs.Digest.{root_preimage};
+ghost use Rattle.mr_tree.specs.Nodes.{root_entry};
+
+use mr_record::Version;
+use mr_tree::{Child, Hashes, Top, root_digest};
 
 /// What page 0 says.
 #[derive(Clone, Copy)]
@@ -15,4 +20,18 @@ pub struct MapHead {
     pub root: Option<Child>,
     /// The first free page, 0 for none.
     pub free: u32,
+}
+
+/// The root digest of the map of this version whose page 0 says this.
+pub fn head_root<H: Hashes>(version: Version, head: &MapHead) -> [u8; 32]
+    ensures { result ≡ H.of (root_preimage version head.now.batch head.now.count
+        (root_entry head.now.root)) }
+{
+    let top = Top {
+        version,
+        batch: head.batch,
+        count: head.count,
+        root: head.root,
+    };
+    root_digest::<H>(version, top.batch, top.count, &top.root_entry())
 }

@@ -25,7 +25,7 @@ mod visiting;
 pub use checking::{Checked, check};
 pub use error::MapErr;
 pub use file_pages::page_count;
-pub use head::MapHead;
+pub use head::{MapHead, head_root};
 pub use judging::{has_fill, has_rect, has_sums, is_fit};
 pub use layout::{FIRST, Layout, PAGE_LIMIT, PAGE_SIZE, SECOND, SECOND_SIZE};
 pub use node::Node;
@@ -39,6 +39,6 @@ pub use page::{
 pub use putting::child_on;
 pub use reading::{page_into, read_filled, read_front};
 pub use rule::{MapFault, MapRule};
-pub use saving::{save_plain, save2_plain};
+pub use saving::{save_plain, save_rooted, save2_plain};
 pub use source::Source;
 pub use visited::Visited;

@@ -2,11 +2,13 @@
 
 ghost use Rattle.std.specs.Prelude.{◌≡◌, ◌+◌, ◌≤◌, ◌++◌, ℕ, List, [], ◌∷◌, length, replicate, IfOk, OnOk, MatchResult};
 ghost use Rattle.mr_outside.specs.State.{Shelved};
+ghost use Rattle.mr_tree.specs.Digest.{by};
 ghost use Rattle.mr_tree.specs.Limits.{count_limit};
 ghost use Rattle.mr_tree.specs.Tree.{records};
 ghost use Rattle.mr_tree.specs.View.{AreTold, size};
 ghost use Rattle.mr_tree.specs.WellFormed.{WellFormed, HasLayers};
 ghost use Rattle.mr_tree.specs.declared.tree.Tree.TheVariants.{Inner};
+ghost use Rattle.mr_pages.specs.Leaves.{leaf_entries, KnowsFirst};
 ghost use Rattle.mr_pages.specs.Making.{HasMade, GivesUpFile, RowMade, HasMadePages};
 ghost use Rattle.mr_pages.specs.Page.{page_limit};
 ghost use Rattle.mr_pages.specs.PageBytes.{form_of, node_page, IsLayout};
@@ -17,10 +19,10 @@ ghost use Rattle.mr_pages.specs.Walking.{page_node};
 
 use crate::layout::Layout;
 use crate::page::put_node;
-use crate::putting::{child_on, page_behind, put_tree, show_children};
+use crate::putting::{LeavesLeft, child_on, page_behind, put_tree, show_children};
 use mr_outside::{Shelf, ShelfErr};
 use mr_record::Version;
-use mr_tree::{Child, Hashes, NodeView, Tree};
+use mr_tree::{Child, Entry, Hashes, NodeView, Tree};
 use std::alloc::{AllocError, Global};
 
 /// So many bytes, all of them 0.
@@ -30,22 +32,27 @@ pub fn zeros(alloc: Global, size: usize) -> Result<Vec<u8>, AllocError>
     vec![in alloc; 0u8; size]
 }
 
-// The pages of a map, the first one left out as zeros, and what page 0 is to say of the root.
+// The pages of a map, the first one left out as zeros, and what page 0 is to say of the root. The
+// entries of the leaves may be known.
 fn image<H: Hashes>(
     alloc: Global,
     layout: Layout,
     tree: &Tree,
+    leaves: &[Entry],
 ) -> Result<(Vec<u8>, Option<Child>), AllocError>
     requires layout { IsLayout layout }
     requires well { WellFormed tree.now }
     requires layers { HasLayers layout.version tree.now }
+    requires known { KnowsFirst (leaf_entries (by layout.version H.of) tree.now) leaves.now }
     ensures { IfOk result (λ r. IsImage (form_of layout) H.of tree.now r.0.items r.1) }
 {
     let mut pages = zeros(alloc, layout.size)?;
     match tree {
         Tree::Empty => Ok((pages, None)),
         _ => {
-            let root = put_tree::<H>(alloc, layout, tree, 1, &mut NodeView::new(), &mut pages)?;
+            let mut left = LeavesLeft { entries: leaves };
+            let mut view = NodeView::new();
+            let root = put_tree::<H>(alloc, layout, tree, 1, &mut left, &mut view, &mut pages)?;
             Ok((pages, Some(root)))
         }
     }
@@ -102,7 +109,8 @@ fn add_tree<H: Hashes, S: Shelf>(
         (GivesUpFile layout.size name.now before (S.state shelf.new)) }
 {
     pages.clear();
-    let child = put_tree::<H>(alloc, layout, tree, page, view, pages)?;
+    let mut none = LeavesLeft { entries: &[] };
+    let child = put_tree::<H>(alloc, layout, tree, page, &mut none, view, pages)?;
     shelf.append(name, pages)?;
     Ok(child)
 }
@@ -171,23 +179,26 @@ fn make_inner<H: Hashes, S: Shelf>(
     Ok((Some(child_on::<H>(layout, &view, 1)), pages))
 }
 
-// Makes the file of a map, all of whose pages are held at once.
+// Makes the file of a map, all of whose pages are held at once. The entries of its leaves may be
+// known.
 fn make_at_once<H: Hashes, S: Shelf>(
     alloc: Global,
     layout: Layout,
     shelf: &mut S,
     name: &str,
     tree: &Tree,
+    leaves: &[Entry],
 ) -> Result<(Option<Child>, u32), ShelfErr>
     requires layout { IsLayout layout }
     requires well { WellFormed tree.now }
     requires layers { HasLayers layout.version tree.now }
+    requires known { KnowsFirst (leaf_entries (by layout.version H.of) tree.now) leaves.now }
     ensures { MatchResult result
         (λ r. HasMadePages (form_of layout) H.of tree.now name.now (S.state shelf.old)
         (S.state shelf.new) r.0 r.1)
         (GivesUpFile layout.size name.now (S.state shelf.old) (S.state shelf.new)) }
 {
-    let (pages, root) = image::<H>(alloc, layout, tree)?;
+    let (pages, root) = image::<H>(alloc, layout, tree, leaves)?;
     begin(shelf, name, &pages)?;
     Ok((root, (pages.len() / layout.size) as u32))
 }
@@ -212,30 +223,33 @@ fn make_in_pieces<H: Hashes, S: Shelf>(
         Tree::Inner(children) => {
             make_inner::<H, S>(alloc, layout, shelf, name, children.as_slice())
         }
-        _ => make_at_once::<H, S>(alloc, layout, shelf, name, tree),
+        _ => make_at_once::<H, S>(alloc, layout, shelf, name, tree, &[]),
     }
 }
 
 /// Makes the file of a map, with zeros in place of page 0. Answers what page 0 is to say of the
 /// root, and how many pages there are. In version 1 all pages are added at once, with the root's in
-/// front; in version 2, whose pages are twice as large, those below one child after the other.
+/// front, and a leaf whose entry is known is not hashed; in version 2, whose pages are twice as
+/// large, those below one child after the other.
 pub fn make_nodes<H: Hashes, S: Shelf>(
     alloc: Global,
     layout: Layout,
     shelf: &mut S,
     name: &str,
     tree: &Tree,
+    leaves: &[Entry],
 ) -> Result<(Option<Child>, u32), ShelfErr>
     requires layout { IsLayout layout }
     requires well { WellFormed tree.now }
     requires layers { HasLayers layout.version tree.now }
+    requires known { KnowsFirst (leaf_entries (by layout.version H.of) tree.now) leaves.now }
     ensures { MatchResult result
         (λ r. HasMadePages (form_of layout) H.of tree.now name.now (S.state shelf.old)
         (S.state shelf.new) r.0 r.1)
         (GivesUpFile layout.size name.now (S.state shelf.old) (S.state shelf.new)) }
 {
     match layout.version {
-        Version::One => make_at_once::<H, S>(alloc, layout, shelf, name, tree),
+        Version::One => make_at_once::<H, S>(alloc, layout, shelf, name, tree, leaves),
         Version::Two => make_in_pieces::<H, S>(alloc, layout, shelf, name, tree),
     }
 }

@@ -1,6 +1,6 @@
 //! The pages of a tree's nodes, one behind the other.
 
-ghost use Rattle.std.specs.Prelude.{◌≡◌, ℕ, ◌+◌, ◌*◌, ◌≤◌, ◌++◌, length, take, drop, replicate, All, IfOk, OnOk};
+ghost use Rattle.std.specs.Prelude.{◌≡◌, ℕ, ◌+◌, ◌*◌, ◌≤◌, [], ◌∷◌, ◌++◌, length, take, drop, replicate, All, IsSome, IfOk, OnOk};
 ghost use Rattle.mr_tree.specs.Digest.{by};
 ghost use Rattle.mr_tree.specs.Limits.{count_limit};
 ghost use Rattle.mr_tree.specs.Tree.{records};
@@ -12,14 +12,33 @@ ghost use Rattle.mr_pages.specs.PageBytes.{node_page, form_of, IsLayout};
 ghost use Rattle.mr_pages.specs.Stands.{pages_of};
 ghost use Rattle.mr_pages.specs.Walking.{child_link, page_node};
 ghost use Rattle.mr_pages.specs.Saved.{numbered};
-ghost use Rattle.mr_pages.specs.private.Putting.{AreSiblings, CanBePut, IsPut};
+ghost use Rattle.mr_pages.specs.Leaves.{leaf_entries, KnowsFirst};
+ghost use Rattle.mr_pages.specs.private.Putting.{AreSiblings, CanBePut, IsPut, left};
 
 use crate::judging::entry_on;
 use crate::layout::Layout;
 use crate::page::put_node;
 use mr_record::Version;
-use mr_tree::{Child, Hashes, NodeView, Tree};
+use mr_tree::{Child, Entry, Hashes, NodeView, Tree};
 use std::alloc::{AllocError, Global};
+
+// What is said of a node with this entry, where it stands on this page.
+fn child_with(entry: &Entry, page: u32) -> Child
+    requires { IsSome entry.now.rect }
+    ensures { child_link result ≡ record { page = page; entry = entry.now } }
+{
+    match entry.rect {
+        Some(rect) => Child {
+            id: page,
+            level: entry.level,
+            rect,
+            mask: entry.mask,
+            count: entry.count,
+            digest: entry.digest,
+        },
+        None => unreachable!(),
+    }
+}
 
 /// What is said of the node that a view shows, where it stands on this page.
 pub fn child_on<H: Hashes>(layout: Layout, view: &NodeView, page: u32) -> Child
@@ -31,17 +50,38 @@ pub fn child_on<H: Hashes>(layout: Layout, view: &NodeView, page: u32) -> Child
     } }
 {
     let entry = entry_on::<H>(layout.version, view);
-    let digest = entry.digest;
-    match entry.rect {
-        Some(rect) => Child {
-            id: page,
-            level: entry.level,
-            rect,
-            mask: entry.mask,
-            count: entry.count,
-            digest,
-        },
-        None => unreachable!(),
+    child_with(&entry, page)
+}
+
+// The entries of leaves that are still to come, left to right; none where they are not known.
+#[derive(Clone, Copy)]
+pub(crate) struct LeavesLeft<'a> {
+    pub(crate) entries: &'a [Entry],
+}
+
+// What is said of the leaf that a view shows. Where its entry is known, it is not hashed.
+fn leaf_on<H: Hashes>(
+    layout: Layout,
+    view: &NodeView,
+    page: u32,
+    leaves: &mut LeavesLeft<'_>,
+) -> Child
+    requires some { 1 ≤ size view.now }
+    requires counts { All HasCount (children_in view.now) }
+    requires known { KnowsFirst (node_entry (by layout.version H.of) (page_node view.now) ∷ [])
+        (left leaves.old) }
+    ensures said { child_link result ≡ record {
+      page = page;
+      entry = node_entry (by layout.version H.of) (page_node view.now);
+    } }
+    ensures left { left leaves.new ≡ drop 1 (left leaves.old) }
+{
+    match leaves.entries.split_first() {
+        Some((entry, rest)) => {
+            leaves.entries = rest;
+            child_with(entry, page)
+        }
+        None => child_on::<H>(layout, view, page),
     }
 }
 
@@ -89,12 +129,14 @@ fn put_page(layout: Layout, view: &NodeView, at: usize, pages: &mut [u8])
 }
 
 /// Adds the pages of the tree's nodes, from this one on, and answers what is to be said of the
-/// tree. The view is only worked with.
+/// tree. The entries of its leaves are taken from those that are left, if they are known. The view
+/// is only worked with.
 pub fn put_tree<H: Hashes>(
     alloc: Global,
     layout: Layout,
     tree: &Tree,
     page: u32,
+    leaves: &mut LeavesLeft<'_>,
     view: &mut NodeView,
     pages: &mut Vec<u8>,
 ) -> Result<Child, AllocError>
@@ -103,8 +145,11 @@ pub fn put_tree<H: Hashes>(
     requires layers { HasLayers layout.version tree.now }
     requires few { length (records tree.now) ≤ count_limit }
     requires room { page + length (pages_of (numbered tree.now page)) ≤ page_limit }
-    ensures { IfOk result (λ child.
+    requires known { KnowsFirst (leaf_entries (by layout.version H.of) tree.now) (left leaves.old) }
+    ensures put { IfOk result (λ child.
         IsPut (form_of layout) H.of tree.now page pages.old.items pages.new.items child) }
+    ensures left { OnOk result (left leaves.new
+        ≡ drop (length (leaf_entries (by layout.version H.of) tree.now)) (left leaves.old)) }
 {
     let at = pages.len();
     add_page(layout, pages)?;
@@ -113,13 +158,13 @@ pub fn put_tree<H: Hashes>(
         Tree::Leaf(records) => {
             view.set_leaf(records.as_slice());
             put_page(layout, view, at, pages.as_mut_slice());
-            Ok(child_on::<H>(layout, view, page))
+            Ok(leaf_on::<H>(layout, view, page, leaves))
         }
         Tree::Inner(children) => {
             let mut links = Vec::new(alloc);
             for child in children.as_slice() {
                 let next = page_behind(layout, page, at, pages);
-                let link = put_tree::<H>(alloc, layout, child, next, view, pages)?;
+                let link = put_tree::<H>(alloc, layout, child, next, leaves, view, pages)?;
                 links.push(link)?;
             }
             show_children(layout.version, view, &links);

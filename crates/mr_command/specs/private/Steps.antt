@@ -194,6 +194,11 @@ Saved name content before after (Ok done) =
 Saved name content before after (Err halt) = StopsCommand before after halt
     × MayLeave (File name content) before.files after.files
 
+-- what was answered, whatever value it is
+abbrev pub done_of : {A : Type 0} → Result A Halt → Result Unit Halt
+done_of (Ok value) = Ok tt
+done_of (Err halt) = Err halt
+
 -- a file was written
 pub record SavesFile (name : List ℕ) (content : Content) (before after : Shelved)
     (result : Result Unit Halt) : Type 0 where

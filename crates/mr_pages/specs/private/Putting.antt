@@ -8,10 +8,12 @@ use Rattle.mr_tree.specs.Digest.{by}
 use Rattle.mr_tree.specs.WellFormed.{HasOneLevel}
 use Rattle.mr_tree.specs.View.{MayTell}
 use Rattle.mr_tree.specs.declared.child.Child.{Child}
+use Rattle.mr_tree.specs.declared.entry.Entry.{Entry}
 use Rattle.mr_tree.specs.declared.tree.Tree.{Tree}
 use Rattle.mr_tree.specs.declared.tree.Tree.TheVariants as tree
 use Rattle.mr_tree.specs.declared.tree.Tree.TheOpen.{Tree-F, Empty, Leaf, Inner}
 use Rattle.mr_tree.specs.declared.tree.Tree.TheFolds.{every-Tree}
+use Rattle.mr_pages.specs.declared.putting.LeavesLeft.{LeavesLeft}
 use Rattle.mr_pages.specs.Page.{Form}
 use Rattle.mr_pages.specs.Stands.{Row, pages_of, all_pages, link_of, links_of}
 use Rattle.mr_pages.specs.Walking.{child_link}
@@ -27,6 +29,10 @@ pub record AreSiblings (v : Version) (links : List Child) : Type 0 where
   pub high : above ≤ level_limit
   pub below : All (λ (c : Child). c.level + 1 ≡ above) links
   pub told : All (λ (c : Child). MayTell v c.mask c.count) links
+
+-- the entries that are left
+abbrev pub left : LeavesLeft → List Entry
+left l = l.entries.now
 
 -- as many entries as a page holds, and one at least
 abbrev pub HasEntries : Tree-F Tree → Type 0

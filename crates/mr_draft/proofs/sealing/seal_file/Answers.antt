@@ -24,6 +24,6 @@ returns-clause-sealed g c =
     let h = c.args.head.now in
     seals g.H.Hashes.of (draft_state f h.free h.root h.count h.batch) c.requires.sized c.put_head.new.page
     c.is_word.ensures (c.put_head.ensures ∙ ap (form_of f.layout).head_page (head_pages h f.pages c.requires.count))
-    (c.put_head.auto.page ∙ c.split_at_mut-page.ensures.front_len) c.requires.pages c.digest_of.result
+    (c.put_head.auto.page ∙ c.split_at_mut-page.ensures.front_len) c.requires.pages c.head_root.result
     (state_of c.write_first.new.file)
-    c.in_ok-write_first.ensures.whole c.in_ok-write_first.ensures.quiet c.digest_of.ensures
+    c.in_ok-write_first.ensures.whole c.in_ok-write_first.ensures.quiet c.head_root.ensures

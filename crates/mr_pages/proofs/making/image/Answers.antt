@@ -16,4 +16,4 @@ returns-in-Empty g c =
 pub returns-in_ok-root-in_default : goal.returns-in_ok-root-in_default
 returns-in_ok-root-in_default g c =
     image_some (form_of c.args.layout) g.H.Hashes.of c.args.tree.now c.in_ok-pages.pages.items
-    c.put_tree.new.pages.items _ c.in_default.not-Empty c.in_ok-pages.ensures c.in_ok-root-in_default.ensures
+    c.put_tree.new.pages.items _ c.in_default.not-Empty c.in_ok-pages.ensures c.in_ok-root-in_default.ensures.put

@@ -1,22 +1,13 @@
-use Rattle.std.proofs.Common.{sym, ap, ◌∙◌}
+use Rattle.std.proofs.Common.{◌∙◌}
 use Rattle.mr_tree.specs.Digest.{by}
-use Rattle.mr_tree.specs.declared.entry.Entry.{Entry}
-use Rattle.mr_pages.proofs.Judged.{rect_there}
+use Rattle.mr_pages.proofs.Judged.{rect_some}
 use Rattle.mr_pages.proofs.putting.child_on.Goals as goal
 
-pub unreachable-requires : goal.unreachable-requires
-unreachable-requires g c =
-    rect_there (by c.args.layout.version g.H.Hashes.of) c.args.view.now c.requires.some
-    (sym (ap (λ (e : Entry). e.rect) c.entry_on-entry.ensures) ∙ c.in-None.is)
+pub child_with-requires : goal.child_with-requires
+child_with-requires g c =
+    rect_some (by c.args.layout.version g.H.Hashes.of) c.args.view.now c.entry_on-entry.result c.requires.some
+    c.entry_on-entry.ensures
 
 pub returns : goal.returns
-returns g c = λ i. record {
-  page = c.args.page;
-  entry = ((λ k. record {
-    level = c.entry_on-entry.result.level;
-    rect = sym c.in-Some.is k;
-    mask = c.entry_on-entry.result.mask;
-    count = c.entry_on-entry.result.count;
-    digest = c.entry_on-entry.result.digest;
-  }) ∙ c.entry_on-entry.ensures) i;
-}
+returns g c =
+    c.child_with.ensures ∙ (λ i. record { page = c.args.page; entry = c.entry_on-entry.ensures i })
