@@ -3,6 +3,7 @@
 
 usage: mrtree_check.py [--most BYTES] [check] ROOT QUERY PROOF
        mrtree_check.py [--most BYTES] check-count ROOT QUERY PROOF
+       mrtree_check.py [--most BYTES] check-join ROOT ROOT2 PROOF
        mrtree_check.py [--most BYTES] check-all ROOT SCRIPT BUNDLE
 
 Lines and exit statuses are those of the program's commands of these names, with three differences: a file may be a pipe
@@ -10,10 +11,10 @@ too, the name `-` is the standard input, and of a proof or bundle no more is rea
 ends with status 7. It is tested against the program, and not proved.
 
 As a module: `check(root, query, proof)` answers the records, the batch and the count of the map, or raises `Refused`;
-`check_count(root, query, proof)` answers how many records lie inside a window, by a count proof. Coordinates and
-rectangles are in map units, distances are squared map units, places are numbers of bytes. A mask is a number with a bit
-for each layer, bit l, worth 2^l, for layer l. Proofs are of version 1, which has no layers, or 2; count proofs are of
-version 2.
+`check_count(root, query, proof)` answers how many records lie inside a window, by a count proof; and
+`check_join(root, root2, proof)` which records of two maps meet, by a join proof. Coordinates and rectangles are in map
+units, distances are squared map units, places are numbers of bytes. A mask is a number with a bit for each layer, bit
+l, worth 2^l, for layer l. Proofs are of version 1, which has no layers, or 2; count and join proofs are of version 2.
 """
 from __future__ import annotations
 
@@ -32,15 +33,19 @@ import os
 import re
 import stat
 import struct
-from typing import Callable, Iterable, Iterator, List, NamedTuple, Optional, Tuple, Union
+from array import array
+from bisect import bisect_left, bisect_right
+from typing import Callable, Iterable, Iterator, List, NamedTuple, Optional, Tuple, TypeVar, Union
 
-__version__ = "1.2.0"
-__all__ = ["Answer", "Count", "Query", "Record", "Refused", "Verdict", "check", "check_all", "check_count"]
-__all__ += ["distance", "meet"]
+__version__ = "1.3.0"
+__all__ = ["Answer", "Count", "Join", "Query", "Record", "Refused", "State", "Verdict", "check", "check_all"]
+__all__ += ["check_count", "check_join", "distance", "meet"]
 
 Rect = Tuple[int, int, int, int]  # x0, y0, x1, y1 in map units, with x0 <= x1 and y0 <= y1; the sides belong to it
 Bytes = Union[bytes, bytearray, memoryview]
 Pieces = Iterable[bytes]  # a byte string in pieces of any size
+Pair = Tuple[int, int]  # the numbers of two records that meet, one of each of two maps
+T = TypeVar("T")
 Ways = Callable[[Rect, int], str]  # what a part with this rectangle and mask is to be in a proof, one of these three:
 SKIP, WHOLE, OPEN = "skip", "whole", "open"  # pruned with nothing that is asked for; with all that; opened
 Watch = Callable[[str, int, Rect, List["Record"]], None]  # tag, level, rectangle, and the records of an opened leaf;
@@ -101,6 +106,24 @@ class Count(NamedTuple):
     count: int
 
 
+class State(NamedTuple):
+    """What an accepted join proof says of a map: its batch and its count of records."""
+
+    batch: int
+    count: int
+
+
+class Join(NamedTuple):
+    """What an accepted join proof shows: all pairs of numbers of records that meet, in rising order; and of both maps.
+
+    Nothing is said of the first map (None) where the second one has no records.
+    """
+
+    pairs: List[Pair]
+    first: Optional[State]
+    second: State
+
+
 class Query(NamedTuple):
     """A window (then k is 0); or the k nearest records to a point, a rectangle without extent. A mask, if it names one.
 
@@ -113,14 +136,18 @@ class Query(NamedTuple):
 
 
 class Refused(Exception):
-    """A proof is refused: its first broken rule, the place of that fault in bytes, of WrongRoot the digest found."""
+    """A proof is refused: its first broken rule, the place of that fault in bytes, of WrongRoot the digest found.
 
-    def __init__(self, rule: str, place: int, found: bytes = b"") -> None:
-        super().__init__(rule, place, found)
-        self.rule, self.place, self.found = rule, place, found
+    Of a join proof `part` says in what the fault is: `frame`, or `first` or `second`, in which places count from there.
+    """
+
+    def __init__(self, rule: str, place: int, found: bytes = b"", part: str = "") -> None:
+        super().__init__(rule, place, found, part)
+        self.rule, self.place, self.found, self.part = rule, place, found, part
 
     def __str__(self) -> str:
-        return "refused %s at %d%s" % (self.rule, self.place, " found " + self.found.hex() if self.found else "")
+        found = " found " + self.found.hex() if self.found else ""
+        return "refused %s%s at %d%s" % (self.part and self.part + " ", self.rule, self.place, found)
 
 
 class Ended(Exception):
@@ -264,6 +291,7 @@ class Kind(NamedTuple):
 
 
 COUNTS = Kind(b"C", (2,))
+JOINS = Kind(b"J", (2,))
 
 
 def kind_of(query: Query) -> Kind:
@@ -547,6 +575,26 @@ def check_count(root: str, query: str, proof: Union[Bytes, Pieces], watch: Optio
     return judge_count(read_root(root), read_window(query), only_bytes(proof, "a proof"), watch)
 
 
+def check_join(root: str, root2: str, proof: Union[Bytes, Pieces]) -> Join:
+    """Which records of two maps, by their root digests, meet, as a join proof shows it.
+
+    Raises as `check`; of `Refused` the part says in what the fault is.
+
+    >>> part = "4d52564f024a" "0000000000000000" "0000000000000001" "00" "4c01" "%016x" "%032x" "00" "00"
+    >>> frame = bytes.fromhex("4d524a4e01" "00000000000000000000000100000001" "00000033")
+    >>> first, second = bytes.fromhex(part % (7, 0)), bytes.fromhex(part % (9, 2**32 + 1))
+    >>> root = "aa17a0a3d81136d8e8993b421c14507454da6354d55f9b1abbc4104af9ebab34"
+    >>> root2 = "de9972e981495e9f2a740138ca5caaf8f0fd1bb232bc96f7c6635ff3b7079f5b"
+    >>> check_join(root, root2, frame + first + second)
+    Join(pairs=[(7, 9)], first=State(batch=0, count=1), second=State(batch=0, count=1))
+    >>> check_join(root, root2, frame + first)
+    Traceback (most recent call last):
+    mrtree_check.Refused: refused second Short at 0
+    """
+    refuse_other_words(root, root2)
+    return judge_join(read_root(root), read_root(root2), only_bytes(proof, "a proof"))
+
+
 # ---- words and scripts
 
 
@@ -656,15 +704,24 @@ class Verdict(NamedTuple):
 MISSING = Verdict(None, None)
 
 
-def judge_part(root: bytes, query: Query, part: Slice) -> Verdict:
-    """The verdict of a part of a bundle. It takes all bytes of the part, those behind a fault too."""
+def judge_whole(part: Slice, judged: Callable[[Slice], T]) -> Union[T, Refused, None]:
+    """What is judged of a part, or its fault; None where it is not whole. It takes all bytes of the part."""
+    found: Union[T, Refused]
     try:
-        verdict = Verdict(judge(root, query, part), None)
+        found = judged(part)
     except Refused as fault:
-        verdict = Verdict(None, fault)
+        found = fault
     for _ in part:
         pass
-    return MISSING if part.left else verdict
+    return None if part.left else found
+
+
+def judge_part(root: bytes, query: Query, part: Slice) -> Verdict:
+    """The verdict of a part of a bundle."""
+    found = judge_whole(part, lambda pieces: judge(root, query, pieces))
+    if found is None:
+        return MISSING
+    return Verdict(None, found) if isinstance(found, Refused) else Verdict(found, None)
 
 
 def judge_bundle(root: bytes, queries: List[Query], pieces: Pieces) -> Tuple[List[Verdict], Optional[int]]:
@@ -699,6 +756,196 @@ def check_all(root: str, queries: List[str], bundle: Union[Bytes, Pieces]) -> Li
     refuse_other_words(root, *words)
     pieces = only_bytes(bundle, "a bundle")
     return judge_bundle(read_root(root), [read_query(word) for word in words], pieces)[0]
+
+
+# ---- which rectangles meet
+
+
+class Corners:
+    """Points, kept so that to count those that lie low and to the left takes few steps, whatever they are.
+
+    They stand from left to right. Level k has their heights in blocks of 2^k, each block in rising order.
+    """
+
+    def __init__(self, points: Iterable[Tuple[int, int]]) -> None:
+        ordered = sorted(points)
+        self.xs = array("i", [x for x, _ in ordered])
+        self.levels = [array("i", [y for _, y in ordered])]
+        while 2 ** len(self.levels) <= len(ordered):
+            size, below, level = 2 ** len(self.levels), self.levels[-1], array("i")
+            for at in range(0, len(below), size):
+                level.extend(sorted(below[at : at + size]))
+            self.levels.append(level)
+
+    def count(self, x: int, y: int) -> int:
+        """How many lie at most so far to the right and so high."""
+        left, start, total = bisect_right(self.xs, x), 0, 0
+        for power in reversed(range(len(self.levels))):
+            end = start + 2**power
+            if left & 2**power:
+                total += bisect_right(self.levels[power], y, start, end) - start
+                start = end
+        return total
+
+
+class Meets:
+    """Rectangles, kept so that whether one of them meets a rectangle is told in few steps, whatever they are.
+
+    Along one axis a rectangle meets as many as begin at its end or before, less those that end before it begins. So
+    along both axes four counts of corners tell how many it meets.
+    """
+
+    def __init__(self, rects: List[Rect]) -> None:
+        self.lower_left, self.upper_left = (Corners((rect[0], rect[at]) for rect in rects) for at in (1, 3))
+        self.lower_right, self.upper_right = (Corners((rect[2], rect[at]) for rect in rects) for at in (1, 3))
+
+    def one(self, rect: Rect) -> bool:
+        """Whether one of them meets this one.
+
+        >>> meets = Meets([(0, 0, 2, 2), (5, 0, 5, 9)])
+        >>> [meets.one(rect) for rect in ((2, 2, 3, 3), (3, 0, 4, 9), (3, 9, 7, 12), (0, 3, 4, 8))]
+        [True, False, True, False]
+        """
+        x0, y0, x1, y1 = rect
+        begun = self.lower_left.count(x1, y1) + self.upper_right.count(x0 - 1, y0 - 1)
+        ended = self.upper_left.count(x1, y0 - 1) + self.lower_right.count(x0 - 1, y1)
+        return ended < begun
+
+
+def pairs_of(ones: List[Record], others: List[Record]) -> List[Pair]:
+    """The numbers of each two records that meet, one of each list, in rising order.
+
+    >>> records = [Record(number, (number, 0, number + 1, 0), b"") for number in (3, 1, 5)]
+    >>> pairs_of(records, records[:2])
+    [(1, 1), (3, 3)]
+    >>> others = [Record(8, (4, -1, 4, 1), b""), Record(7, (0, 0, 9, 0), b""), Record(9, (3, 1, 3, 1), b"")]
+    >>> pairs_of(records[:1], others), pairs_of(others, [])
+    ([(3, 7), (3, 8)], [])
+    """
+    pairs = begun_within(ones, others, 0)
+    return sorted(pairs + [(one, other) for other, one in begun_within(others, ones, 1)])
+
+
+def begun_within(spans: List[Record], starts: List[Record], after: int) -> List[Pair]:
+    """The numbers of each two that meet, of which the second begins, from left to right, within the first.
+
+    That is at the first one's left side or behind it, or `after` behind it. The seconds are halved from left to right;
+    a first that reaches over all of a half meets those that it meets along y. That takes about n log n steps, whatever
+    the records, and the pairs.
+    """
+    pairs: List[Pair] = []
+    ranges = [(by_y(spans), by_y(starts), sorted({start.rect[0] for start in starts}))]
+    while ranges:
+        spans, starts, lefts = ranges.pop()
+        some = [span for span in spans if lefts and span.rect[0] + after <= lefts[-1] and lefts[0] <= span.rect[2]]
+        over_all = [span for span in some if span.rect[0] + after <= lefts[0] and lefts[-1] <= span.rect[2]]
+        pairs += met_along_y(over_all, starts)
+        if len(over_all) < len(some):
+            half = len(lefts) // 2
+            rest = [span for span in some if span.rect[0] + after > lefts[0] or lefts[-1] > span.rect[2]]
+            ranges.append((rest, [start for start in starts if start.rect[0] < lefts[half]], lefts[:half]))
+            ranges.append((rest, [start for start in starts if start.rect[0] >= lefts[half]], lefts[half:]))
+    return pairs
+
+
+def by_y(records: List[Record]) -> List[Record]:
+    """The records in rising order of their lower sides."""
+    return sorted(records, key=lambda record: record.rect[1])
+
+
+def met_along_y(ones: List[Record], others: List[Record]) -> List[Pair]:
+    """The numbers of each two that meet along y, of lists in rising order of their lower sides."""
+    pairs: List[Pair] = []
+    lows = [other.rect[1] for other in others]
+    for one in ones:
+        met = others[bisect_left(lows, one.rect[1]) : bisect_right(lows, one.rect[3])]
+        pairs += [(one.number, other.number) for other in met]
+    lows = [one.rect[1] for one in ones]
+    for other in others if ones else []:
+        met = ones[bisect_right(lows, other.rect[1]) : bisect_right(lows, other.rect[3])]
+        pairs += [(one.number, other.number) for one in met]
+    return pairs
+
+
+# ---- joins
+
+
+class Frame(NamedTuple):
+    """What the frame of a join proof says: the second map's rectangle, if it has one, and the first part's length."""
+
+    rect: Optional[Rect]
+    size: int
+
+
+def read_frame(fields: Fields) -> Frame:
+    """The fields in front of the first part. Raises Refused (BadMagic, BadFlag, BadRect, Short)."""
+    if fields.take(4) != b"MRJN":
+        raise Refused("BadMagic", fields.last)
+    flag = fields.number(1)
+    if flag > 1:
+        raise Refused("BadFlag", fields.last)
+    return Frame(fields.rect(), fields.number(4)) if flag else Frame(None, 0)
+
+
+def in_part(name: str, fault: Refused) -> Refused:
+    """This fault, of a part of a join proof."""
+    return Refused(fault.rule, fault.place, fault.found, name)
+
+
+def show(root: bytes, meets: Callable[[Rect], bool], proof: Pieces) -> Shown:
+    """What a part shows of the map with this root digest: open is what meets. Raises Refused at its first fault."""
+    ways: Ways = lambda rect, mask: OPEN if meets(rect) else SKIP
+    shown = read_proof(root, JOINS, lambda _: ways, proof, None)
+    refuse_other_tally(shown)
+    return shown
+
+
+def show_first(root: bytes, rect: Rect, part: Slice) -> Shown:
+    """What the first part shows, for the frame's rectangle. Raises Refused, with the part's name.
+
+    That the part is not there as a whole is a fault of the frame, and comes before those of the part.
+    """
+    place = part.bundle.place
+    shown = judge_whole(part, lambda pieces: show(root, lambda other: meet(rect, other), pieces))
+    if shown is None:
+        raise Refused("Short", place, part="frame")
+    if isinstance(shown, Refused):
+        raise in_part("first", shown)
+    return shown
+
+
+def show_second(root: bytes, records: List[Record], part: Slice) -> Shown:
+    """What the second part shows, for the rectangles of these records. Raises Refused, with the part's name."""
+    try:
+        return show(root, Meets([record.rect for record in records]).one, part)
+    except Refused as fault:
+        raise in_part("second", fault) from None
+
+
+def judge_join(root: bytes, root2: bytes, proof: Pieces) -> Join:
+    """The pairs that a join proof proves. Raises Refused with its first fault; no piece behind it is taken.
+
+    Behind a fault of the first part its bytes are taken, since it has to be there as a whole.
+    """
+    fields = Fields(proof)
+    try:
+        rect, size = read_frame(fields)
+    except Refused as fault:
+        raise in_part("frame", fault) from None
+    first = None if rect is None else show_first(root, rect, Slice(fields, size))
+    records = [] if first is None else first.reading.records
+    second = show_second(root2, records, Slice(fields, sys.maxsize))
+    if rect is None and second.head.count:
+        raise Refused("WrongFlag", fields.place, part="frame")
+    if rect is not None and (second.part is None or second.part.rect != rect):
+        raise Refused("WrongRect", fields.place, part="frame")
+    state = None if first is None else state_of(first)
+    return Join(pairs_of(records, second.reading.records), state, state_of(second))
+
+
+def state_of(shown: Shown) -> State:
+    """What a part says of its map."""
+    return State(shown.head.batch, shown.head.count)
 
 
 # ---- the commands
@@ -752,6 +999,14 @@ def check_count_lines(root: bytes, query: Query, name: str, most: Optional[int])
         return 2, [str(fault)]
 
 
+def check_join_lines(root: bytes, root2: bytes, name: str, most: Optional[int]) -> Tuple[int, List[str]]:
+    """Status and lines of `check-join` of the proof in a file. Raises Ended."""
+    try:
+        return 0, ["pair %d %d" % pair for pair in judge_join(root, root2, read_pieces(name, most)).pairs]
+    except Refused as fault:
+        return 2, [str(fault)]
+
+
 def check_all_lines(root: bytes, script: str, name: str, most: Optional[int]) -> Tuple[int, List[str]]:
     """Status and lines of `check-all` of a script and the bundle in a file. Raises Ended."""
     queries = read_script(b"".join(read_pieces(script)))
@@ -771,13 +1026,23 @@ def check_all_lines(root: bytes, script: str, name: str, most: Optional[int]) ->
     return (0 if accepted == len(verdicts) and broken is None else 2), lines
 
 
+COMMANDS = {  # what reads the second word behind each, and what gives status and lines
+    "check": (read_query, check_lines),
+    "check-count": (read_window, check_count_lines),
+    "check-join": (read_root, check_join_lines),
+    "check-all": (str, check_all_lines),
+}
+
+
 class Words(NamedTuple):
-    """The words of a command line: the command, the root digest, the query if it has one, the files, the limit."""
+    """The words of a command line: the command, the root digest, what else it is of, the proof's file, the limit.
+
+    The third is a query, of `check-join` the second root digest, and of `check-all` the script's file.
+    """
 
     command: str
     root: bytes
-    query: Optional[Query]
-    script: str
+    asked: Union[Query, bytes, str]
     name: str
     most: Optional[int]
 
@@ -788,14 +1053,14 @@ def read_words(words: List[str]) -> Words:
     if words[:1] == ["--most"]:
         most, words = read_most("".join(words[1:2])), words[2:]
     command, *rest = words if len(words) == 4 else ["check", *words]
-    reads = {"check": read_query, "check-count": read_window, "check-all": lambda _: None}
-    if command not in reads or len(rest) != 3 or "" in rest:
-        raise ValueError("usage: %s [check | check-count] ROOT QUERY PROOF, or: check-all ROOT SCRIPT BUNDLE" % COMMAND)
+    if command not in COMMANDS or len(rest) != 3 or "" in rest:
+        others = "check-join ROOT ROOT2 PROOF, or: check-all ROOT SCRIPT BUNDLE"
+        raise ValueError("usage: %s [check | check-count] ROOT QUERY PROOF, or: %s" % (COMMAND, others))
     root = read_root(rest[0])
-    query = reads[command](rest[1])
-    if command == "check-all" and rest[1] == rest[2]:
+    asked = COMMANDS[command][0](rest[1])
+    if command == "check-all" and asked == rest[2]:
         raise ValueError("the script and the bundle have one name")
-    return Words(command, root, query, rest[1], rest[2], most)
+    return Words(command, root, asked, rest[2], most)
 
 
 def read_most(word: str) -> int:
@@ -813,15 +1078,11 @@ def run(words: List[str]) -> Tuple[int, str]:
     (1, 'bad words\\n')
     """
     try:
-        command, root, query, script, name, most = read_words(words)
+        command, root, asked, name, most = read_words(words)
     except ValueError:
         return 1, "bad words\n"
     try:
-        if query is None:
-            status, lines = check_all_lines(root, script, name, most)
-        else:
-            lines_of = check_lines if command == "check" else check_count_lines
-            status, lines = lines_of(root, query, name, most)
+        status, lines = COMMANDS[command][1](root, asked, name, most)
         return status, "".join(line + "\n" for line in lines)
     except Ended as ended:
         return ended.status, ended.line + "\n"

@@ -8,6 +8,7 @@
  *
  * usage: node mrtree_check.js [check] ROOT QUERY PROOF
  *        node mrtree_check.js check-count ROOT QUERY PROOF
+ *        node mrtree_check.js check-join ROOT ROOT2 PROOF
  *        node mrtree_check.js check-all ROOT SCRIPT BUNDLE
  *
  * with the lines and exit statuses of the program's commands of these names; a file may be a pipe
@@ -15,8 +16,8 @@
  *
  * A rectangle is an array [x0, y0, x1, y1] of map units, with x0 <= x1 and y0 <= y1; a point is a
  * rectangle without extent. A mask is a BigInt with a bit for each layer, bit l, worth 2^l, for
- * layer l. Proofs are of version 1, which has no layers, or 2; count proofs are of version 2.
- * Places are numbers of bytes. Bytes are a Uint8Array.
+ * layer l. Proofs are of version 1, which has no layers, or 2; count and join proofs are of version
+ * 2. Places are numbers of bytes. Bytes are a Uint8Array.
  */
 
 const MOST_BYTES = 2 ** 30; // no field of a proof ends behind this place
@@ -28,8 +29,8 @@ const ALL_LAYERS = 2n ** 64n - 1n; // their mask
 const MOST_LINES = 65536; // of a script
 const LONGEST_QUERY = 71; // letters of a query word
 const PIECE = 65536; // bytes that are judged at once
-const [LETTER_C, LETTER_E, LETTER_K, LETTER_L, LETTER_N, LETTER_P, LETTER_R, LETTER_W] = [
-    ..."CEKLNPRW",
+const [LETTER_C, LETTER_E, LETTER_J, LETTER_K, LETTER_L, LETTER_N, LETTER_P, LETTER_R, LETTER_W] = [
+    ..."CEJKLNPRW",
 ].map((letter) => letter.charCodeAt(0));
 /** The ways of a part: pruned with nothing that is asked for; with all that; opened. */
 const [SKIP, WHOLE, OPEN] = ["skip", "whole", "open"];
@@ -320,22 +321,21 @@ class Opened {
  * Judges a proof as it comes. `push` takes the next bytes and `end` gives the verdict:
  *
  *     { accepted: true, records, batch, count, version }    count: of the map's records
- *     { accepted: true, inside, batch, count, version }    of a count: how many lie inside
  *     { accepted: false, rule, place, found }    found: the root digest, of WrongRoot alone
  *
  * `watch`, where it is given, is called with each item that has come as a whole, children before
  * their parent: { tag, level, rect, bytes, version }, with the item's bytes for an opened leaf (see
  * recordsOf). The tag is P, L or N as in the proof, and W of a pruned node whose way is whole.
  *
- * With `isCount` it judges a count proof, and the query is for a window.
- *
  * No bytes make it throw. Its fields are taken one after another: `size` bytes are the next one,
  * and the method `then` judges it.
  */
 class Judge {
-    constructor(root, query, watch = null, isCount = false) {
-        Object.assign(this, { root, query, watch, isCount, radius: null, fault: null, item: null });
+    constructor(root, query, watch = null) {
+        Object.assign(this, { root, query, watch, radius: null, fault: null, item: null });
         Object.assign(this, { place: 0, last: 0, held: 0, record: 0, inside: 0 });
+        this.letter = query.k === 0 ? LETTER_W : LETTER_K;
+        this.versions = query.mask === null ? [1, 2] : [2]; // that the proof may have
         this.field = new Uint8Array(200);
         this.view = new DataView(this.field.buffer);
         this.open = []; // the root first
@@ -389,8 +389,7 @@ class Judge {
             return { accepted: false, ...this.fault };
         }
         const { batch, count, version } = this;
-        const shown = this.isCount ? { inside: this.inside } : { records: this.answer() };
-        return { accepted: true, ...shown, batch, count, version };
+        return { accepted: true, ...this.shown(), batch, count, version };
     }
 
     /** Keeps a fault, if it is the first. */
@@ -423,16 +422,14 @@ class Judge {
         return this.radius === null || distance(this.query.rect, rect) <= this.radius;
     }
 
-    /**
-     * The way of a part. It is skip where the region misses it, or it has no layer that is asked
-     * for. Of a count it is whole where all of it is inside. Else it is open.
-     */
+    /** The way of a part: open, but where the region misses it, or no layer of it is asked for. */
     way(rect, mask) {
-        if ((mask & this.layers) === 0n || !this.meets(rect)) {
-            return SKIP;
-        }
-        const isInside = within(rect, this.query.rect) && (mask & ~this.layers) === 0n;
-        return this.isCount && isInside ? WHOLE : OPEN;
+        return (mask & this.layers) === 0n || !this.meets(rect) ? SKIP : OPEN;
+    }
+
+    /** What an accepted proof shows besides what it says of its map. */
+    shown() {
+        return { records: this.answer() };
     }
 
     // The fields of the head.
@@ -446,8 +443,7 @@ class Judge {
 
     takeVersion() {
         this.version = this.field[0];
-        const isFirst = this.version === 1 && this.query.mask === null && !this.isCount;
-        if (this.version !== 2 && !isFirst) {
+        if (!this.versions.includes(this.version)) {
             return this.refuse("BadVersion", this.last);
         }
         this.kept.version = this.version;
@@ -455,8 +451,7 @@ class Judge {
     }
 
     takeKind() {
-        const letter = this.query.k === 0 ? LETTER_W : LETTER_K;
-        if (this.field[0] !== (this.isCount ? LETTER_C : letter)) {
+        if (this.field[0] !== this.letter) {
             return this.refuse("WrongKind", this.last);
         }
         this.expect(8, this.takeBatch);
@@ -629,18 +624,23 @@ class Judge {
         this.endRecord();
     }
 
-    /** Keeps a record that has come as a whole, where it is in reach; of a count it is counted. */
+    /** Keeps a record that has come as a whole, where its way is open. */
     endRecord() {
         const leaf = this.parent();
         const isCounted = this.version === 2;
         const mask = isCounted ? 1n << BigInt(this.layer) : ALL_LAYERS;
         const way = this.way(this.rect, mask);
         this.inside += way === WHOLE ? 1 : 0;
-        if (way === OPEN && !this.isCount) {
-            this.kept.add(leaf.preimage.subarray(this.record, leaf.used));
+        if (way === OPEN) {
+            this.keep(leaf.preimage.subarray(this.record, leaf.used));
         }
         leaf.see(this.rect, mask, isCounted ? 1 : 0);
         this.expectPart();
+    }
+
+    /** Keeps the bytes of a record. */
+    keep(record) {
+        this.kept.add(record);
     }
 
     /** Ends the node that was opened last. */
@@ -720,6 +720,52 @@ class Judge {
     }
 }
 
+/**
+ * Judges a count proof as it comes, of a query for a window: as Judge, and of an accepted one the
+ * verdict has `inside` in the place of `records`, how many records lie inside.
+ */
+class CountJudge extends Judge {
+    constructor(root, query, watch = null) {
+        super(root, query, watch);
+        Object.assign(this, { letter: LETTER_C, versions: [2] });
+    }
+
+    /** The way of a part: whole, too, where all of it is inside, on layers that are asked for. */
+    way(rect, mask) {
+        const isInside = within(rect, this.query.rect) && (mask & ~this.layers) === 0n;
+        const way = super.way(rect, mask);
+        return way === OPEN && isInside ? WHOLE : way;
+    }
+
+    /** No record is kept. */
+    keep() {}
+
+    shown() {
+        return { inside: this.inside };
+    }
+}
+
+/**
+ * Judges a part of a join proof as it comes: as Judge, for what meets one of some rectangles, as
+ * `meets` tells it of a rectangle. Of an accepted one the verdict has the records that meet, in the
+ * order of the proof, and in `rect` the rectangle of the map, null where that has no records.
+ */
+class PartJudge extends Judge {
+    constructor(root, meets) {
+        super(root, { rect: null, k: 0, mask: null });
+        Object.assign(this, { letter: LETTER_J, versions: [2], isMet: meets });
+    }
+
+    /** The way of a part, whatever its layers. */
+    way(rect) {
+        return this.isMet(rect) ? OPEN : SKIP;
+    }
+
+    shown() {
+        return { records: this.kept.records(), rect: this.item?.rect ?? null };
+    }
+}
+
 /** Bytes in pieces that are judged at once. */
 function* piecesOf(bytes) {
     for (let at = 0; at < bytes.length; at += PIECE) {
@@ -742,9 +788,9 @@ async function judge(root, query, pieces, watch = null) {
     return judged(new Judge(root, query, watch), pieces);
 }
 
-/** The verdict on a count proof, of a query for a window: as of `Judge`. */
+/** The verdict on a count proof, of a query for a window: as of `CountJudge`. */
 async function judgeCount(root, query, pieces, watch = null) {
-    return judged(new Judge(root, query, watch, true), pieces);
+    return judged(new CountJudge(root, query, watch), pieces);
 }
 
 /** The verdict of a judge on these pieces. */
@@ -772,8 +818,8 @@ async function check(root, query, proof, watch = null) {
 }
 
 /**
- * The verdict on a count proof, which says how many records lie inside a window: as of `Judge`.
- * Throws as `check`, and a RangeError too where the query is no window.
+ * The verdict on a count proof, which says how many records lie inside a window: as of
+ * `CountJudge`. Throws as `check`, and a RangeError too where the query is no window.
  */
 async function checkCount(root, query, proof, watch = null) {
     const [held, asked] = [readRoot(root), readWindow(query)];
@@ -783,6 +829,18 @@ async function checkCount(root, query, proof, watch = null) {
     return judgeCount(held, asked, inPieces(proof), watch);
 }
 
+/**
+ * The verdict on a join proof, which says which records of two maps meet: as of `judgeJoin`.
+ * Throws as `check`.
+ */
+async function checkJoin(root, root2, proof) {
+    const [first, second] = [readRoot(root), readRoot(root2)];
+    if (first === null || second === null) {
+        throw new RangeError("bad words");
+    }
+    return judgeJoin(first, second, inPieces(proof));
+}
+
 /** A proof as pieces of bytes. */
 function inPieces(proof) {
     const bytes = proof instanceof ArrayBuffer ? new Uint8Array(proof) : proof;
@@ -790,8 +848,9 @@ function inPieces(proof) {
 }
 
 /** The line that tells of a proof that is refused, without its line feed. */
-function refusalOf({ rule, place, found }) {
-    return `refused ${rule} at ${place}${found === "" ? "" : ` found ${found}`}`;
+function refusalOf({ part, rule, place, found }) {
+    const name = part === undefined ? "" : `${part} `;
+    return `refused ${name}${rule} at ${place}${found === "" ? "" : ` found ${found}`}`;
 }
 
 // ---- bundles
@@ -819,6 +878,11 @@ class Source {
         return taken;
     }
 
+    /** Asks for no more: what the bytes come from is given up. */
+    async close() {
+        await this.pieces.return?.();
+    }
+
     /** The next `size` bytes in pieces; fewer at the end. */
     async *part(size) {
         const end = this.place + size;
@@ -832,28 +896,29 @@ class Source {
     }
 }
 
-/** The length of a bundle's next part, which 4 bytes say; null where they are not there. */
-async function readLength(source) {
+/** A view of the next `size` bytes, a few; null where they are not there. */
+async function take(source, size) {
     const bytes = [];
-    for await (const piece of source.part(4)) {
+    for await (const piece of source.part(size)) {
         bytes.push(...piece);
     }
-    return bytes.length < 4 ? null : bytes.reduce((length, byte) => 256 * length + byte, 0);
+    return bytes.length < size ? null : new DataView(Uint8Array.from(bytes).buffer);
 }
 
-/** The verdict on the next part of a bundle; null where the part is not whole. */
-async function judgePart(root, query, source) {
-    const length = await readLength(source);
-    if (length === null) {
-        return null;
-    }
+/** The verdict of a judge on the next `length` bytes, all of which it takes; null if not there. */
+async function judgeWhole(judge_, source, length) {
     const end = source.place + length;
-    const judge_ = new Judge(root, query);
     for await (const piece of source.part(length)) {
         judge_.push(piece);
         await judge_.settle();
     }
     return source.place < end ? null : judge_.end();
+}
+
+/** The verdict on the next part of a bundle; null where the part is not whole. */
+async function judgePart(root, query, source) {
+    const length = await take(source, 4);
+    return length && judgeWhole(new Judge(root, query), source, length.getUint32(0));
 }
 
 /**
@@ -870,7 +935,241 @@ async function judgeBundle(root, queries, pieces, see) {
         see(verdict);
     }
     const end = source.place;
-    return broken ?? ((await source.some(1)).length > 0 ? end : null);
+    const isLonger = broken === null && (await source.some(1)).length > 0;
+    await source.close();
+    return isLonger ? end : broken;
+}
+
+// ---- which rectangles meet
+
+/** How many values between two places, which are in rising order there, are at most a bound. */
+function countUpTo(values, bound, from, to) {
+    let [low, high] = [from, to];
+    while (low < high) {
+        const middle = (low + high) >>> 1;
+        if (values[middle] <= bound) {
+            low = middle + 1;
+        } else {
+            high = middle;
+        }
+    }
+    return low - from;
+}
+
+/**
+ * Points, each an array [x, y], kept so that to count those that lie low and to the left takes few
+ * steps, whatever they are. They stand from left to right. Level k has their heights in blocks of
+ * 2^k, each block in rising order.
+ */
+class Corners {
+    constructor(points) {
+        points.sort(([a], [b]) => a - b);
+        this.xs = Int32Array.from(points, ([x]) => x);
+        this.levels = [Int32Array.from(points, ([, y]) => y)];
+        for (let size = 2; size <= points.length; size *= 2) {
+            const level = this.levels[this.levels.length - 1].slice();
+            for (let at = 0; at < level.length; at += size) {
+                level.subarray(at, at + size).sort();
+            }
+            this.levels.push(level);
+        }
+    }
+
+    /** How many lie at most so far to the right and so high. */
+    count(x, y) {
+        const left = countUpTo(this.xs, x, 0, this.xs.length);
+        let [start, total] = [0, 0];
+        for (let power = this.levels.length - 1; power >= 0; power--) {
+            const size = 2 ** power;
+            if ((left & size) !== 0) {
+                total += countUpTo(this.levels[power], y, start, start + size);
+                start += size;
+            }
+        }
+        return total;
+    }
+}
+
+/**
+ * Rectangles, kept so that whether one of them meets a rectangle is told in few steps, whatever
+ * they are. Along one axis a rectangle meets as many as begin at its end or before, less those that
+ * end before it begins. So along both axes four counts of corners tell how many it meets.
+ */
+class Meets {
+    constructor(rects) {
+        const corners = (x, y) => new Corners(rects.map((rect) => [rect[x], rect[y]]));
+        [this.lowerLeft, this.upperLeft] = [corners(0, 1), corners(0, 3)];
+        [this.lowerRight, this.upperRight] = [corners(2, 1), corners(2, 3)];
+    }
+
+    /** Whether one of them meets this one. */
+    one([x0, y0, x1, y1]) {
+        const begun = this.lowerLeft.count(x1, y1) + this.upperRight.count(x0 - 1, y0 - 1);
+        const ended = this.upperLeft.count(x1, y0 - 1) + this.lowerRight.count(x0 - 1, y1);
+        return ended < begun;
+    }
+}
+
+/** The numbers [a, b] of each two records that meet, one of each list, in rising order. */
+function pairsOf(ones, others) {
+    const pairs = begunWithin(ones, others, 0);
+    for (const [other, one] of begunWithin(others, ones, 1)) {
+        pairs.push([one, other]);
+    }
+    return pairs.sort(([a, b], [c, d]) => compare(a, c) || compare(b, d));
+}
+
+/**
+ * The numbers of each two that meet, of which the second begins, from left to right, within the
+ * first: at its left side or behind it, or `after` behind it. The seconds are halved from left to
+ * right; a first that reaches over all of a half meets those that it meets along y. That takes
+ * about n log n steps, whatever the records, and the pairs.
+ */
+function begunWithin(allSpans, allStarts, after) {
+    const pairs = [];
+    const allLefts = [...new Set(allStarts.map(({ rect }) => rect[0]))].sort((a, b) => a - b);
+    const ranges = allLefts.length === 0 ? [] : [[byY(allSpans), byY(allStarts), allLefts]];
+    while (ranges.length > 0) {
+        const [spans, starts, lefts] = ranges.pop();
+        const [least, most, half] = [lefts[0], lefts[lefts.length - 1], lefts.length >> 1];
+        const some = spans.filter(({ rect }) => rect[0] + after <= most && least <= rect[2]);
+        const isOverAll = ({ rect }) => rect[0] + after <= least && most <= rect[2];
+        const rest = some.filter((span) => !isOverAll(span));
+        pushMetAlongY(some.filter(isOverAll), starts, pairs);
+        if (rest.length > 0) {
+            const isFront = ({ rect }) => rect[0] < lefts[half];
+            const back = starts.filter((start) => !isFront(start));
+            ranges.push([rest, starts.filter(isFront), lefts.slice(0, half)]);
+            ranges.push([rest, back, lefts.slice(half)]);
+        }
+    }
+    return pairs;
+}
+
+/** The records in rising order of their lower sides. */
+function byY(records) {
+    return records.slice().sort((a, b) => a.rect[1] - b.rect[1]);
+}
+
+/** Adds the numbers of each two that meet along y, of lists in rising order of lower sides. */
+function pushMetAlongY(ones, others, pairs) {
+    const lows = others.map(({ rect }) => rect[1]);
+    for (const { number, rect } of ones) {
+        let at = countUpTo(lows, rect[1] - 1, 0, lows.length);
+        for (; at < lows.length && lows[at] <= rect[3]; at++) {
+            pairs.push([number, others[at].number]);
+        }
+    }
+    const ownLows = ones.map(({ rect }) => rect[1]);
+    for (const { number, rect } of ones.length === 0 ? [] : others) {
+        let at = countUpTo(ownLows, rect[1], 0, ownLows.length);
+        for (; at < ownLows.length && ownLows[at] <= rect[3]; at++) {
+            pairs.push([ones[at].number, number]);
+        }
+    }
+}
+
+// ---- joins
+
+/** A join proof is refused: the fault of its `part`, which is `frame`, `first` or `second`. */
+class PartRefused extends Error {
+    constructor(part, { rule, place, found = "" }) {
+        super(rule);
+        this.verdict = { accepted: false, part, rule, place, found };
+    }
+}
+
+/** The next field of a frame. Throws where it is not there. */
+async function takeField(source, size) {
+    const place = source.place;
+    const field = await take(source, size);
+    if (field === null) {
+        throw new PartRefused("frame", { rule: "Short", place });
+    }
+    return field;
+}
+
+/**
+ * The fields in front of the first part: the rectangle of the second map, null where it has none,
+ * and the part's length. Throws at the first fault.
+ */
+async function readFrame(source) {
+    if ((await takeField(source, 4)).getUint32(0) !== 0x4d524a4e) {
+        throw new PartRefused("frame", { rule: "BadMagic", place: 0 });
+    }
+    const flag = (await takeField(source, 1)).getUint8(0);
+    if (flag > 1) {
+        throw new PartRefused("frame", { rule: "BadFlag", place: 4 });
+    }
+    if (flag === 0) {
+        return { rect: null, length: 0 };
+    }
+    const rect = rectAt(await takeField(source, 16), 0);
+    if (!isInOrder(rect)) {
+        throw new PartRefused("frame", { rule: "BadRect", place: 5 });
+    }
+    return { rect, length: (await takeField(source, 4)).getUint32(0) };
+}
+
+/** The verdict on a part that is accepted. Throws where it is refused. */
+function acceptedPart(part, verdict) {
+    if (!verdict.accepted) {
+        throw new PartRefused(part, verdict);
+    }
+    return verdict;
+}
+
+/** The verdict on the first part, for the frame's rectangle. Throws where it is not accepted. */
+async function judgeFirst(root, { rect, length }, source) {
+    const place = source.place;
+    const judge_ = new PartJudge(root, (other) => meet(rect, other));
+    const verdict = await judgeWhole(judge_, source, length);
+    if (verdict === null) {
+        throw new PartRefused("frame", { rule: "Short", place });
+    }
+    return acceptedPart("first", verdict);
+}
+
+/** The verdict on a join proof that is accepted. Throws where it is refused. */
+async function acceptedJoin(root, root2, source) {
+    const frame = await readFrame(source);
+    const first = frame.rect === null ? null : await judgeFirst(root, frame, source);
+    const records = first === null ? [] : first.records;
+    const meets = new Meets(records.map(({ rect }) => rect));
+    const judge_ = new PartJudge(root2, (rect) => meets.one(rect));
+    const second = acceptedPart("second", await judged(judge_, source.part(Infinity)));
+    if (frame.rect === null && second.count > 0) {
+        throw new PartRefused("frame", { rule: "WrongFlag", place: source.place });
+    }
+    if (frame.rect !== null && String(second.rect) !== String(frame.rect)) {
+        throw new PartRefused("frame", { rule: "WrongRect", place: source.place });
+    }
+    const stateOf = (verdict) => verdict && { batch: verdict.batch, count: verdict.count };
+    const pairs = pairsOf(records, second.records);
+    return { accepted: true, pairs, first: stateOf(first), second: stateOf(second) };
+}
+
+/**
+ * The verdict on a join proof, by the root digests of two maps:
+ *
+ *     { accepted: true, pairs, first, second }    pairs: the numbers [a, b] of records that meet
+ *     { accepted: false, part, rule, place, found }    part: `frame`, `first` or `second`
+ *
+ * `first` and `second` have the batch and the count of each map; the first is null where the second
+ * map has no records, since nothing is said of it then. Places in a part count from its beginning.
+ */
+async function judgeJoin(root, root2, pieces) {
+    const source = new Source(pieces);
+    try {
+        return await acceptedJoin(root, root2, source);
+    } catch (error) {
+        if (error instanceof PartRefused) {
+            return error.verdict;
+        }
+        throw error;
+    } finally {
+        await source.close();
+    }
 }
 
 // ---- the commands, in Node
@@ -915,6 +1214,15 @@ async function checkCountLines(root, query, pieces) {
     return verdict.accepted ? [0, [`count ${verdict.inside}`]] : [2, [refusalOf(verdict)]];
 }
 
+/** Status and lines of `check-join` of the proof in these pieces. */
+async function checkJoinLines(root, root2, pieces) {
+    const verdict = await judgeJoin(root, root2, pieces);
+    if (!verdict.accepted) {
+        return [2, [refusalOf(verdict)]];
+    }
+    return [0, verdict.pairs.map(([a, b]) => `pair ${a} ${b}`)];
+}
+
 /** Status and lines of `check-all` of a script's bytes and the bundle in these pieces. */
 async function checkAllLines(root, script, pieces) {
     const { queries, fault } = readScript(script);
@@ -943,24 +1251,27 @@ async function checkAllLines(root, script, pieces) {
     return [accepted === queries.length && broken === null ? 0 : 2, lines.flat()];
 }
 
-/** What reads the query of each command that has one. */
-const ASKS = new Map([["check", readQuery], ["check-count", readWindow]]);
+/** Of each command of one proof what reads the second word behind it, and what gives its lines. */
+const COMMANDS = new Map([
+    ["check", [readQuery, checkLines]],
+    ["check-count", [readWindow, checkCountLines]],
+    ["check-join", [readRoot, checkJoinLines]],
+]);
 
 /** Exit status and lines of the words behind the script's name; `read` gives a file in pieces. */
 async function run(words, read = readPieces) {
     const [command, rootWord, asked, name] = words.length === 4 ? words : ["check", ...words];
     const isAll = command === "check-all";
     const root = readRoot(rootWord ?? "");
-    const readAsked = ASKS.get(command);
-    const query = readAsked === undefined ? null : readAsked(asked ?? "");
-    const isRight = isAll ? asked !== "" && asked !== name : query !== null;
+    const [readAsked, linesOfProof] = COMMANDS.get(command) ?? [() => null];
+    const value = readAsked(asked ?? "");
+    const isRight = isAll ? asked !== "" && asked !== name : value !== null;
     if (![3, 4].includes(words.length) || root === null || !isRight || name === "") {
         return [1, ["bad words"]];
     }
     try {
         if (!isAll) {
-            const linesOfProof = command === "check" ? checkLines : checkCountLines;
-            return await linesOfProof(root, query, read(name));
+            return await linesOfProof(root, value, read(name));
         }
         const pieces = [];
         for await (const piece of read(asked)) {
@@ -999,9 +1310,10 @@ async function main() {
 
 if (typeof module === "object") {
     const words = { readRoot, readQuery, readWindow, readScript };
-    const verdicts = { Judge, judge, judgeCount, check, checkCount, judgeBundle, refusalOf };
+    const judges = { Judge, CountJudge, judge, judgeCount, judgeJoin, judgeBundle };
+    const verdicts = { check, checkCount, checkJoin, refusalOf };
     const shown = { recordsOf, lineOf, linesOf, hexOf };
-    module.exports = { ...words, ...verdicts, ...shown, distance, meet, run };
+    module.exports = { ...words, ...judges, ...verdicts, ...shown, distance, meet, run };
     if (require.main === module) {
         main();
     }

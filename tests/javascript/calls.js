@@ -20,6 +20,15 @@ const ROOT_POINTS = "c7a73721c314b72b6b01110486ea947d1a52c4af606454bfe0a7ebea24a
 const COUNTED = "window:200,200,800,600";
 const COUNT_FILE = path.join(EXAMPLES, "vectors", "level-2-count.proof");
 const COUNT = new Uint8Array(fs.readFileSync(COUNT_FILE));
+// The join of a map of the record 7, a point, and one of the record 9, a square, in version 2.
+const ROOT_SEVEN = "aa17a0a3d81136d8e8993b421c14507454da6354d55f9b1abbc4104af9ebab34";
+const ROOT_NINE = "de9972e981495e9f2a740138ca5caaf8f0fd1bb232bc96f7c6635ff3b7079f5b";
+const ROOT_NONE = "10896f7117fa69b8930dc9bb47d24a8103b853237ece5e99e2d9c5f41da74593";
+const PART_FRONT = `4d52564f024a${"0".repeat(30)}01004c01${"0".repeat(15)}`;
+const SQUARE = `${"0".repeat(16)}${"00000001".repeat(2)}`;
+const PARTS = [`${PART_FRONT}7${"0".repeat(36)}`, `${PART_FRONT}9${SQUARE}0000`];
+const JOIN = bytesOf(`4d524a4e01${SQUARE}00000033${PARTS.join("")}`);
+const JOIN_NONE = bytesOf(`4d524a4e004d52564f024a${"0".repeat(32)}`);
 const ROUNDS = 3000; // strings of random bytes
 const ROOTS = ["", PLACES.slice(1), PLACES.toUpperCase(), `${PLACES}\n`, `${PLACES}0`, null, 7];
 const QUERIES = [
@@ -32,6 +41,11 @@ const QUERIES = [
     ...["window:0,0,0,0/000000000000002A", "window:0,0,0,0/0000000000000020/", "/0000000000000020"],
     ...["window:0,0,0,0/0000000000000020\n", "window:0,0,0/0000000000000020", "nearest:0,0,1//"],
 ];
+
+/** The bytes of hexadecimal digits. */
+function bytesOf(hex) {
+    return Uint8Array.from(hex.match(/../g), (digits) => parseInt(digits, 16));
+}
 
 /** What a call is ended by: the name of an error, or the numbers of the records. */
 async function ended(...words) {
@@ -68,7 +82,7 @@ async function othersHold(bench) {
 
 /** Proofs of both versions, for queries that name a mask and that name none. */
 async function versionsHold(bench) {
-    const layered = Uint8Array.from(LAYERED.match(/../g), (digits) => parseInt(digits, 16));
+    const layered = bytesOf(LAYERED);
     const rows = [
         [ROOT_LAYERED, "window:0,0,0,0", layered, "7"],
         [ROOT_LAYERED, "window:0,0,0,0/0000000000000020", layered, "7"],
@@ -127,7 +141,7 @@ async function countsHold(bench) {
     }
     const answer = await ended(ROOT_POINTS, COUNTED, COUNT);
     bench.equal(answer, "WrongKind", "a count proof for an answer");
-    const layered = Uint8Array.from(LAYERED.match(/../g), (digits) => parseInt(digits, 16));
+    const layered = bytesOf(LAYERED);
     const other = await counted(ROOT_LAYERED, "window:0,0,0,0", layered);
     bench.equal(other, "WrongKind", "a proof of an answer for a count");
     const seen = [];
@@ -137,6 +151,50 @@ async function countsHold(bench) {
     bench.equal(`${count} ${batch} ${version}`, "2000 0 2", "what a count proof says of its map");
     const tags = ["W", "P", "L", "N"].map((tag) => seen.filter((one) => one === tag).length);
     bench.equal(tags.join(" "), "18 85 22 3", "the items that are seen of a count");
+}
+
+/** What a call for a join is ended by: the name of an error, the pairs, or part and rule. */
+async function joined(...words) {
+    try {
+        const { accepted, pairs, part, rule } = await client.checkJoin(...words);
+        return accepted ? pairs.map((pair) => pair.join("-")).join(" ") : `${part} ${rule}`;
+    } catch (error) {
+        return error.name;
+    }
+}
+
+/** Join proofs, as bytes and in pieces; what is none; and what is said of both maps. */
+async function joinsHold(bench) {
+    const pieces = [JOIN.subarray(0, 30), new Uint8Array(0), JOIN.subarray(30)];
+    const ways = { bytes: JOIN, buffer: JOIN.buffer, pieces, cut: cut(JOIN, 1) };
+    for (const [name, proof] of Object.entries(ways)) {
+        bench.equal(await joined(ROOT_SEVEN, ROOT_NINE, proof), "7-9", `a join as ${name}`);
+    }
+    const rows = [
+        [ROOT_SEVEN, ROOT_NONE, JOIN_NONE, ""],
+        [PLACES, ROOT_NONE, JOIN_NONE, ""],
+        [ROOT_NINE, ROOT_SEVEN, JOIN, "first WrongRoot"],
+        [ROOT_SEVEN, ROOT_SEVEN, JOIN, "second WrongRoot"],
+        [ROOT_SEVEN, ROOT_NINE, JOIN.subarray(0, 75), "frame Short"],
+        [ROOT_SEVEN, ROOT_NINE, JOIN.subarray(0, 126), "second Short"],
+        [ROOT_SEVEN, ROOT_NINE, new Uint8Array(0), "frame Short"],
+        [PLACES, PLACES, PROOF, "frame BadMagic"],
+        ...[undefined, null, 7, {}, ["ab"], [null]].map((proof) => [
+            ROOT_SEVEN, ROOT_NINE, proof, "TypeError",
+        ]),
+        ...ROOTS.map((root) => [root, ROOT_NINE, JOIN, "RangeError"]),
+        ...ROOTS.map((root) => [ROOT_SEVEN, root, JOIN, "RangeError"]),
+    ];
+    for (const [root, root2, proof, meant] of rows) {
+        bench.equal(await joined(root, root2, proof), meant, `the join of ${root} and ${root2}`);
+    }
+    const { first, second } = await client.checkJoin(ROOT_SEVEN, ROOT_NINE, JOIN);
+    const states = [first, second].map(({ batch, count }) => `${batch} ${count}`);
+    bench.equal(String(states), "0 1,0 1", "what a join proof says of both maps");
+    const { first: none } = await client.checkJoin(ROOT_SEVEN, ROOT_NONE, JOIN_NONE);
+    bench.equal(none, null, "what is said of the first map where the second has no records");
+    const answer = await ended(ROOT_SEVEN, "window:0,0,1,1", bytesOf(PARTS[0]));
+    bench.equal(answer, "WrongKind", "a part of a join for an answer");
 }
 
 /** Words as on a command line: what is a query may be a file's name too. */
@@ -152,6 +210,11 @@ async function wordsHold(bench) {
         [["check-count", PLACES, WINDOW, "p"], 2],
         [["check-count", PLACES, "nearest:0,0,1", "p"], 1],
         [["check-count", PLACES, WINDOW, ""], 1],
+        [["check-join", PLACES, PLACES, "p"], 2],
+        [["check-join", PLACES, PLACES, ""], 1],
+        [["check-join", PLACES, WINDOW, "p"], 1],
+        [["check-join", PLACES.slice(1), PLACES, "p"], 1],
+        [["join", PLACES, PLACES, "p"], 1],
         [["count", PLACES, WINDOW, "p"], 1],
         [["toString", PLACES, WINDOW, "p"], 1],
         [["check", PLACES, WINDOW], 1],
@@ -219,6 +282,7 @@ async function main() {
     await othersHold(bench);
     await versionsHold(bench);
     await countsHold(bench);
+    await joinsHold(bench);
     await wordsHold(bench);
     await filesHold(bench);
     await judgesHold(bench);

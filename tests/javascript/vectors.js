@@ -1,8 +1,8 @@
 "use strict";
 /**
  * The client in clients/web on the lines of examples/vectors that a client alone can run: those of
- * `check`, `check-count` and `check-all`. Each is run on a file, in pieces of a byte and in pieces
- * of a gigabyte; some as a process of its own, by a file and by a pipe.
+ * `check`, `check-count`, `check-join` and `check-all`. Each is run on a file, in pieces of a byte
+ * and in pieces of a gigabyte; some as a process of its own, by a file and by a pipe.
  *
  * usage: node vectors.js short|long          In long, the proofs of a gigabyte too.
  */
@@ -14,7 +14,7 @@ const path = require("path");
 const { EXAMPLES, WEB, Bench, cut } = require("./bench.js");
 const client = require(path.join(WEB, "mrtree_check.js"));
 
-const KNOWN = ["check", "check-count", "check-all"];
+const KNOWN = ["check", "check-count", "check-join", "check-all"];
 const MOST_IN_BYTES = 10 ** 5; // of a file that is judged byte by byte
 
 // ---- how a line is read

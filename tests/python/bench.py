@@ -37,7 +37,7 @@ class Bench:
 
     def __init__(self, program: str, is_long: bool) -> None:
         self.program_path, self.is_long = os.path.abspath(program), is_long
-        self.rows = self.failed = self.skipped = self.honest = self.bent = self.bundles = self.counts = 0
+        self.rows = self.failed = self.skipped = self.honest = self.bent = self.bundles = self.counts = self.joins = 0
 
     def holds(self, is_so: bool, what: str) -> None:
         """Counts one thing that is to be so, and prints it where it is not."""
@@ -95,6 +95,16 @@ class Bench:
         one, other = self.program(words), self.client(words)
         self.holds(one == other, "%s: %s: the program %s, the client %s" % (what, " ".join(words), one, other))
         return one
+
+    def agree_to_end(self, words: List[str], what: str) -> Ended:
+        """As `agree`; and again by the root digest to which a proof leads, where that is not the one in the words."""
+        first, words = self.agree(words, what), list(words)
+        parts = first[1].decode().split()
+        for _ in range(2):
+            if "WrongRoot" in parts:
+                words[2 if parts[1] == "second" else 1] = parts[-1]
+                parts = self.agree(words, what + ", against its own root")[1].decode().split()
+        return first
 
     def agree_on(self, root: str, query: str, proof: bytes, what: str, command: str = "check") -> Ended:
         """Both say the same of a proof in the file p."""

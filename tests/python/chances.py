@@ -2,7 +2,7 @@
 import itertools
 import os
 import random
-from typing import List, Tuple
+from typing import List, NamedTuple, Tuple
 
 import joins
 import proofs
@@ -11,14 +11,24 @@ from bench import Bench, Ended, read, write
 from proofs import plain
 
 
+class Kind(NamedTuple):
+    """What records of a map are at random: how far from the origin, 0 for any of four; how wide and high at most."""
+
+    span: int
+    extents: Tuple[int, ...]
+
+
+MIXED = Kind(0, (0, 0, 0, 3, 100))
+
+
 class Map:
     """A map of a version that was made at random and built by the program, changed by a batch or not."""
 
     def __init__(
-        self, bench: Bench, chance: random.Random, size: int, is_changed: bool, version: int = 1, span: int = 0
+        self, bench: Bench, chance: random.Random, size: int, is_changed: bool, version: int = 1, kind: Kind = MIXED
     ) -> None:
-        self.span = span or chance.choice((10, 1000, 10**6, 2**31 - 101))
-        self.chance, self.batch, self.version = chance, 0, version
+        self.span = kind.span or chance.choice((10, 1000, 10**6, 2**31 - 101))
+        self.chance, self.batch, self.version, self.extents = chance, 0, version, kind.extents
         self.layers = chance.choice(((0,), (0, 5, 63), range(64)))
         self.records = [self.record(number) for number in chance.sample(range(1, 4 * size + 9), size)]
         write("r", "".join(plain.line_of(record, version) + "\n" for record in self.records).encode())
@@ -31,7 +41,7 @@ class Map:
         """A record at random: a point or a rectangle, most without a payload; in version 2 on a layer of the map's."""
         chance, span = self.chance, self.span
         x, y = chance.randint(-span, span), chance.randint(-span, span)
-        size = chance.choice((0, 0, 0, 3, 100))
+        size = chance.choice(self.extents)
         payload = bytes(chance.randrange(256) for _ in range(chance.choice((0, 0, 0, 1, 8, 200))))
         rect = (x, y, x + chance.randint(0, size), y + chance.randint(0, size))
         return plain.Record(number, rect, payload, chance.choice(self.layers) if self.version == 2 else 0)
@@ -184,45 +194,82 @@ def counts_beside_scan(bench: Bench) -> None:
     bench.holds(len(seen) > 20 and seen[0] < bench.counts // 2, "few windows have records: %s" % seen)
 
 
-JOINED = ((0, 5), (5, 0), (1, 1), (17, 40), (300, 20), (20, 300), (400, 400))  # records of two maps
+JOINED = ((0, 5), (5, 0), (0, 0), (1, 1), (17, 40), (300, 20), (20, 300), (400, 400))  # records of two maps
+JOINS = ((0,), (1,), (0, 0, 0, 3, 100))  # extents of points; of what shares many sides; and of both, and larger ones
 
 
-def joined(bench: Bench, one: Map, other: Map) -> bytes:
-    """The program's proof of the join of the maps in the files k and m, once it gave the pairs of a double loop."""
-    pairs = joins.pair_lines(joins.pairs_of(one.records, other.records))
+class Joined(NamedTuple):
+    """Two maps, in the files k and m, the program's proof of their join, and how many pairs it gives."""
+
+    one: Map
+    other: Map
+    proof: bytes
+    pairs: int
+
+    def words(self, name: str) -> List[str]:
+        """The words that check the proof in a file."""
+        return ["check-join", self.one.root, self.other.root, name]
+
+
+def joined(bench: Bench, chance: random.Random, sizes: Tuple[int, int], is_changed: bool) -> Joined:
+    """A join of two maps at random, the first changed or not, once all took its proof and gave the pairs of a loop."""
+    span, extents = chance.choice((10, 30, 100, 300)), chance.choice(JOINS)
+    one = Map(bench, chance, sizes[0], is_changed, 2, Kind(span, extents))
+    os.replace("m", "k")
+    other = Map(bench, chance, sizes[1], False, 2, Kind(span, chance.choice(JOINS)))
+    meant = joins.pairs_of(one.records, other.records)
+    lines = joins.pair_lines(meant)
     ended = bench.program(["join", "k", "m", "p"])
-    proof = read("p")
-    bench.holds(ended == (0, b"proof %d\n" % len(proof)), "a join: %s" % (ended,))
-    said = bench.program(["check-join", one.root, other.root, "p"])
-    bench.holds(said == (0, pairs), "the pairs of a join: %s" % (said,))
+    made = Joined(one, other, read("p"), len(meant))
+    bench.holds(ended == (0, b"proof %d\n" % len(made.proof)), "a join: %s" % (ended,))
+    said = bench.agree(made.words("p"), "an honest join")
+    bench.holds(said == (0, lines), "the pairs of a join: %s" % (said,))
+    bench.holds(steps.pairs(one.root, other.root, made.proof) == meant, "the pairs of a join, by the steps")
     said = bench.program(["audit-join", "k", "m", "p"])
-    bench.holds(said == (0, b"sound\n" + pairs), "the audit of a join: %s" % (said,))
+    bench.holds(said == (0, b"sound\n" + lines), "the audit of a join: %s" % (said,))
     if all(map_.tree or not map_.records for map_ in (one, other)):
         honest = joins.honest_join(one.tree, one.batch, other.tree, other.batch)
-        bench.holds(proof == honest, "the bytes of the proof of a join")
-    return proof
+        bench.holds(made.proof == honest, "the bytes of the proof of a join")
+    bench.joins += 1
+    return made
+
+
+def bent_join_agrees(bench: Bench, made: Joined, string: bytes) -> None:
+    """All say of a string that is offered as a join's proof what the formats say; so they do against its own roots."""
+    write("q", string)
+    roots = bytes.fromhex(made.one.root), bytes.fromhex(made.other.root)
+    bench.bent += string != made.proof
+    meant, said = joins.said(*roots, string), bench.agree_to_end(made.words("q"), "a bent join")
+    bench.holds(said == meant, "a bent join: %s, and %s is meant" % (said, meant))
+    given = steps.pairs(made.one.root, made.other.root, string)
+    is_so = said[0] == 2 if given is None else said == (0, joins.pair_lines(given))
+    bench.holds(is_so, "a bent join: by the steps %s, and it is said %s" % (given, said))
+    if said[0] == 2:
+        audited = bench.program(["audit-join", "k", "m", "q"])
+        bench.holds(audited == said, "the audit of a bent join: %s, and %s" % (audited, said))
+
+
+def joins_agree(bench: Bench, chance: random.Random, bent: int) -> None:
+    """Joins of maps at random, of each size one of a map that was changed, and so many other strings beside each."""
+    given: List[Joined] = []
+    for sizes in JOINED:
+        for is_changed in (False, True):
+            given.append(joined(bench, chance, sizes, is_changed))
+            for _ in range(bent):
+                string = joins.bent(given[-1].proof, chance.choice(given).proof, chance)
+                bent_join_agrees(bench, given[-1], string)
+    bench.holds(sum(made.pairs for made in given) > 100, "few pairs: %s" % [made.pairs for made in given])
 
 
 def joins_beside_loop(bench: Bench) -> None:
-    """Joins of maps at random: the pairs of a double loop, and of bent proofs what the formats say."""
-    chance, given, seen = random.Random(19), [], 0
-    for size, other_size in JOINED:
-        for is_changed in (False, True):
-            span = chance.choice((10, 100, 300, 1000))
-            one = Map(bench, chance, size, is_changed, 2, span)
-            os.replace("m", "k")
-            other = Map(bench, chance, other_size, False, 2, span)
-            given.append(joined(bench, one, other))
-            seen += len(joins.pairs_of(one.records, other.records))
-            for _ in range(100 if bench.is_long else 10):
-                write("q", joins.bent(given[-1], chance.choice(given), chance))
-                meant = joins.said(bytes.fromhex(one.root), bytes.fromhex(other.root), read("q"))
-                said = bench.program(["check-join", one.root, other.root, "q"])
-                bench.holds(said == meant, "a bent join: %s, and %s is meant" % (said, meant))
-                if said[0] == 2:
-                    audited = bench.program(["audit-join", "k", "m", "q"])
-                    bench.holds(audited == said, "the audit of a bent join: %s, and %s" % (audited, said))
-    bench.holds(seen > 1000, "few pairs: %d" % seen)
+    """Joins of maps at random: the pairs of a double loop, and of bent proofs what the formats say, fault by fault."""
+    chance = random.Random(19)
+    joins_agree(bench, chance, 100 if bench.is_long else 10)
+    made = joined(bench, chance, (17, 2), False)
+    cuts = (made.proof[:length] for length in range(len(made.proof)))
+    for string in [made.proof + b"\0", *joins.bent_fields(made.proof), *cuts][:: 1 if bench.is_long else 7]:
+        bent_join_agrees(bench, made, string)
+    print("tests/clients: %d joins" % bench.joins)
 
 
 def said_of_bundle(bench: Bench, root: str, words: List[str], bundle: bytes) -> Ended:

@@ -27,7 +27,9 @@ MOST_IN_SHORT = 2**17  # bytes of a proof that the short run takes from a story
 RULES = """TooMany NoEnd Head Form Number Coordinate Order Payload Repeat Query Layer OutOfOrder Present Full Absent
     Size Unsealed Header Outside Twice Page Digest Rect Sum Fill Number Count Free Long Short BadMagic BadVersion WrongKind
     BadCount BadFlag BadRadius BadLevel BadTag BadEntries BadRect BadLength Hidden Needless Trailing WrongRoot
-    WrongRadius WrongTally BadLayer""".split()
+    WrongRadius WrongTally BadLayer WrongFlag WrongRect""".split()
+CHECKS = ("check", "check-count", "check-join", "check-all")  # the commands that the client has too
+AUDITS = ("check", "audit", "check-count", "audit-count")  # by which a story has one proof of one map judged
 
 
 # ---- how the scripts are written
@@ -91,7 +93,7 @@ def vectors_hold(bench: Bench, name: str) -> None:
                 bench.holds(read(one) == vectors.bytes_of(spelled, "."), "%s: the file %s" % (where, one))
         for one, spelled in vector.after:
             write(one, vectors.bytes_of(spelled, "."))
-        if vector.words[0] in ("check", "check-count", "check-all"):
+        if vector.words[0] in CHECKS:
             client_says(bench, vector, where)
     if passed:
         bench.skip("%d lines of %s: this program has no bundles" % (passed, name))
@@ -128,7 +130,7 @@ def rows_hold(bench: Bench) -> None:
             os.remove(name)
         for name, bytes_ in group.files().items():
             write(name, bytes_)
-        judges = group.kind() == "row" and group.first("run").words.split(" ")[0] in ("check", "check-count")
+        judges = group.kind() == "row" and group.first("run").words.split(" ")[0] in CHECKS[:3]
         if judges and not group.has("fails"):
             checks += row_holds(bench, group)
         elif group.kind() == "story":
@@ -143,18 +145,16 @@ def row_holds(bench: Bench, row: tables.Group) -> int:
     hashes = (foretold.exclusive_or, foretold.sha_256)
     said = [foretold.under(hash_, lambda: bench.client(words)[1]) for hash_ in hashes]
     bench.holds(text in said, "the row '%s': the client says %s" % (row.name(), said))
-    found = bench.agree(words, "the row '%s'" % row.name())[1]
-    if b" found " in found:
-        bench.agree([words[0], found.split()[-1].decode(), *words[2:]], "the row '%s', its own root" % row.name())
+    bench.agree_to_end(words, "the row '%s'" % row.name())
     return 1
 
 
 def story_holds(bench: Bench, story: tables.Group) -> int:
     """The steps of a story, done by the program under SHA-256; both clients agree on each proof that it judges."""
-    root, checks = "0" * 64, 0
+    root, checks, roots = "0" * 64, 0, {}
     for at, step in enumerate(story.items):
         words = step.words.replace("..", tables.ZEROS).split(" ") if step.key in ("run", "do") else [""]
-        if words[0] in ("check", "audit", "check-count", "audit-count"):
+        if words[0] in AUDITS:
             command, (query, proof) = words[0].replace("audit", "check"), words[2:]
             if os.path.exists(proof) and (bench.is_long or os.path.getsize(proof) < MOST_IN_SHORT):
                 said = bench.agree([command, root, query, proof], "the story '%s'" % story.name())
@@ -162,13 +162,23 @@ def story_holds(bench: Bench, story: tables.Group) -> int:
                 if words[1] == root and step.key == "run":
                     bench.holds(said[1] == story.text(story.items[at + 2]), "the story '%s': %s" % (story.name(), said))
             checks += 2
-        elif words[0] in ("root", "root2", "build", "build2", "upgrade", "apply", "list", "prove", "count", "make"):
+        elif words[0] == "audit-join" and os.path.exists(words[3]):
+            both = [roots.get(name, "0" * 64) for name in words[1:3]]
+            for two in (both, both[::-1]):
+                bench.agree_to_end(["check-join", *two, words[3]], "the story '%s'" % story.name())
+            checks += 2
+        elif words[0] in MAKES:
             status, said = bench.program(words)
-            if words[0] in ("build", "build2", "upgrade", "apply") and status == 0:
-                root = said.decode().strip()
+            if words[0] in PLACES and status == 0:
+                root = roots[words[PLACES[words[0]]]] = said.decode().strip()
         elif step.key == "change":
             change(*step.words.split(" ", 1))
     return checks
+
+
+# Which word names the map whose root a command prints; and all commands of which a later step takes a file.
+PLACES = {"build": 1, "build2": 1, "upgrade": 2, "apply": 3}
+MAKES = (*PLACES, "root", "root2", "list", "prove", "count", "join", "make")
 
 
 def change(name: str, words: str) -> None:

@@ -1,7 +1,7 @@
 """Joins of two plain maps: honest proofs, and what is said of others. By docs/FORMATS.md, on the client's reading."""
 import random
 import struct
-from typing import Any, Callable, List, NamedTuple, Optional, Tuple
+from typing import Any, Callable, Iterator, List, NamedTuple, Optional, Tuple
 
 import proofs
 from bench import mrtree_check
@@ -64,6 +64,19 @@ def map_pairs(one: Any, other: Any) -> List[Pair]:
 def pair_lines(pairs: List[Pair]) -> bytes:
     """A line for each pair."""
     return "".join("pair %d %d\n" % pair for pair in pairs).encode()
+
+
+def bent_fields(proof: bytes) -> Iterator[bytes]:
+    """An honest proof with each field of its frame and of its parts bent in each way."""
+    frame = read_frame(proof)
+    places = [(0, 4), (4, 1)] + ([(at, 4) for at in (5, 9, 13, 17, 21)] if frame.rect is not None else [])
+    for place, size in places:
+        for way in range(proofs.WAYS):
+            yield proofs.bent_field(proof, place, size, way)
+    for first in proofs.bent_fields(frame.first) if frame.first else []:
+        yield frame_bytes(frame._replace(first=first))
+    for second in proofs.bent_fields(frame.second):
+        yield frame_bytes(frame._replace(second=second))
 
 
 def bent(proof: bytes, other: bytes, chance: random.Random) -> bytes:

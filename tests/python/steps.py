@@ -16,6 +16,10 @@ class Steps:
     def __init__(self, query: plain.Query, string: bytes, is_count: bool = False) -> None:
         self.query, self.string, self.at, self.kept = query, string, 0, []
         self.version, self.radius, self.is_count, self.inside = 1, None, is_count, 0
+        self.round: Optional[Tuple[int, ...]] = None
+        self.is_first, self.letter = query.mask is None and not is_count, b"W" if query.is_window() else b"K"
+        if is_count:
+            self.letter = b"C"
 
     def take(self, size: int) -> bytes:
         """The next field."""
@@ -94,8 +98,8 @@ class Steps:
         """Steps 1 to 3: the batch and the count."""
         self.demand(self.take(4) == b"MRVO")
         self.version = self.number(1)
-        self.demand(self.version == 2 or (self.version == 1 and self.query.mask is None and not self.is_count))
-        self.demand(self.take(1) == (b"C" if self.is_count else b"W" if self.query.is_window() else b"K"))
+        self.demand(self.version == 2 or (self.version == 1 and self.is_first))
+        self.demand(self.take(1) == self.letter)
         batch, count = self.take(8), self.take(8)
         self.demand(int.from_bytes(count, "big") <= 2**20)
         flag = 0 if self.query.is_window() else self.number(1)
@@ -112,7 +116,8 @@ class Steps:
         if total:
             level = self.number(1)
             self.demand(level <= 7)
-            digest, rect, mask, tally = self.item(level)
+            digest, self.round, mask, tally = self.item(level)
+            rect = self.round
             named = struct.pack(">4i", *rect) + (struct.pack(">Q", mask) if self.version == 2 else b"")
             preimage = b"R" + version + batch + count + bytes([level]) + named + digest
         self.demand(self.at == len(self.string))
@@ -126,6 +131,40 @@ class Steps:
         if self.query.is_window():
             return sorted(self.kept, key=lambda record: record.number)
         return sorted(self.kept, key=lambda record: (plain.distance(centre, record.rect), record.number))[:k]
+
+
+EVERYWHERE = plain.Query((-(2**31), -(2**31), 2**31 - 1, 2**31 - 1))
+
+
+class PartSteps(Steps):
+    """A check of one part of a join's proof, for some rectangles."""
+
+    def __init__(self, rects: List[Tuple[int, ...]], string: bytes) -> None:
+        super().__init__(EVERYWHERE, string)
+        self.rects, self.is_first, self.letter = rects, False, b"J"
+
+    def reaches(self, rect: Tuple[int, ...], mask: int) -> bool:
+        """Whether a part is open."""
+        return any(plain.overlap(rect, one) for one in self.rects)
+
+
+class JoinSteps(Steps):
+    """A check of a join's proof."""
+
+    def __init__(self, string: bytes) -> None:
+        super().__init__(EVERYWHERE, string)
+
+    def pairs(self, root: str, root2: str) -> List[Tuple[int, int]]:
+        """The pairs, by the steps of joins."""
+        self.demand(self.take(4) == b"MRJN")
+        flag = self.number(1)
+        self.demand(flag <= 1)
+        rect = self.rect() if flag else None
+        ones = PartSteps([rect], self.take(self.number(4))).check(root) if flag else []
+        second = PartSteps([one.rect for one in ones], self.string[self.at :])
+        others = second.check(root2)
+        self.demand(second.round == rect)
+        return sorted((a.number, b.number) for a in ones for b in others if plain.overlap(a.rect, b.rect))
 
 
 def answer(root: str, query: plain.Query, string: bytes) -> Optional[List[Tuple]]:
@@ -142,5 +181,13 @@ def count(root: str, query: plain.Query, string: bytes) -> Optional[int]:
         one = Steps(query, string, True)
         one.check(root)
         return one.inside
+    except No:
+        return None
+
+
+def pairs(root: str, root2: str, string: bytes) -> Optional[List[Tuple[int, int]]]:
+    """The pairs that a string proves, None where it is refused."""
+    try:
+        return JoinSteps(string).pairs(root, root2)
     except No:
         return None

@@ -38,6 +38,7 @@ def ways_hold(bench: Bench) -> None:
     pictures_hold(bench)
     outputs_hold(bench)
     counts_hold(bench)
+    joins_hold(bench)
     stops_hold(bench)
     terminals_hold(bench)
     modules_hold(bench)
@@ -400,6 +401,51 @@ def says_drawn(bench: Bench, words: List[str], status: int, said: bytes) -> None
     bench.holds(ended == (status, said) and not os.path.exists(words[-1]), "draw.py %s: %s" % (words, ended))
 
 
+# ---- joins
+
+
+# The join of a map of the one record 7, a point, and one of the record 9, a square, in version 2; and a map of none.
+ROOT_SEVEN = "aa17a0a3d81136d8e8993b421c14507454da6354d55f9b1abbc4104af9ebab34"
+ROOT_NINE = "de9972e981495e9f2a740138ca5caaf8f0fd1bb232bc96f7c6635ff3b7079f5b"
+ROOT_NONE = "10896f7117fa69b8930dc9bb47d24a8103b853237ece5e99e2d9c5f41da74593"
+HEAD = "4d52564f024a" + "00" * 15 + "01" + "00" + "4c01"
+SEVEN, NINE = HEAD + "%016x" % 7 + "00" * 18, HEAD + "%016x" % 9 + "00" * 8 + "00000001" * 2 + "0000"
+JOIN = bytes.fromhex("4d524a4e01" + "00" * 8 + "00000001" * 2 + "00000033" + SEVEN + NINE)
+JOIN_NONE = bytes.fromhex("4d524a4e00" + "4d52564f024a" + "00" * 16)
+
+
+def joins_hold(bench: Bench) -> None:
+    """The module answers pairs, and both maps' batches and counts; what is refused tells the part."""
+    check, state = mrtree_check.check_join, mrtree_check.State(0, 1)
+    write("j", JOIN)
+    for given in (JOIN, [JOIN[:9], JOIN[9:]], memoryview(JOIN), open("j", "rb")):
+        join = check(ROOT_SEVEN, ROOT_NINE, given)
+        bench.holds(join == mrtree_check.Join([(7, 9)], state, state), "the join is %s" % (join,))
+    join = check(ROOT_SEVEN, ROOT_NONE, JOIN_NONE)
+    bench.holds(join == mrtree_check.Join([], None, mrtree_check.State(0, 0)), "the empty join is %s" % (join,))
+    for words, kind, part in (
+        ((ROOT_SEVEN[1:], ROOT_NINE, JOIN), ValueError, ""),
+        ((ROOT_SEVEN, "window:0,0,1,1", JOIN), ValueError, ""),
+        ((ROOT_SEVEN, ROOT_NINE, "j"), TypeError, ""),
+        ((ROOT_SEVEN, None, JOIN), TypeError, ""),
+        ((ROOT_SEVEN, ROOT_NINE, [JOIN[:9], "j"]), TypeError, ""),
+        ((ROOT_NINE, ROOT_SEVEN, JOIN), mrtree_check.Refused, "first"),
+        ((ROOT_SEVEN, ROOT_SEVEN, JOIN), mrtree_check.Refused, "second"),
+        ((ROOT_SEVEN, ROOT_NINE, JOIN[:40]), mrtree_check.Refused, "frame"),
+        ((ROOT, ROOT, read(PROOF)), mrtree_check.Refused, "frame"),
+    ):
+        try:
+            told = check(*words)
+        except (ValueError, TypeError, mrtree_check.Refused) as error:
+            told = error
+        is_so = isinstance(told, kind) and getattr(told, "part", "") == part
+        bench.holds(is_so, "the module on a join of %s answers %s" % (words[:2], told))
+    longer = ["--most", "126", "check-join", ROOT_SEVEN, ROOT_NINE, "j"]
+    bench.holds(bench.client(longer) == (7, b"longer than 126 bytes\n"), "a join of more than --most")
+    longer[1] = "127"
+    bench.holds(bench.client(longer) == (0, b"pair 7 9\n"), "a join of as many bytes as --most")
+
+
 # ---- terminals, modules, packages
 
 
@@ -415,6 +461,8 @@ BAD_WORDS: List[Tuple[List[str], str]] = [
     (["check-count", ROOT, "nearest:0,0,1", "p"], "a count is of the records inside a window"),
     (["check-count", ROOT, "window:1,2,3", "p"], "the query is neither window:x0,y0,x1,y1 nor nearest:x,y,k"),
     (["count", ROOT, WINDOW, "p"], "usage: mrtree_check.py"),
+    (["check-join", ROOT, WINDOW, "p"], "the root digest is not 64 lower-case hexadecimal digits"),
+    (["join", ROOT, ROOT, "p"], "usage: mrtree_check.py"),
 ]
 
 

@@ -67,8 +67,9 @@ def random_proofs(bench: Three) -> None:
         chances.counts_agree(bench, one, honest // share // 4, bent // share // 4)
         counts = size, version, bench.rows, bench.failed
         print("tests/web: %d records in version %d: %d rows, %d failed" % counts, flush=True)
-    counts = bench.honest, bench.counts, bench.bent, bench.bundles
-    print("tests/web: %d honest proofs, %d counts, %d other strings, %d bundles" % counts)
+    chances.joins_agree(bench, chance, 60 if bench.is_long else 4)
+    counts = bench.honest, bench.counts, bench.joins, bench.bent, bench.bundles
+    print("tests/web: %d honest proofs, %d counts, %d joins, %d other strings, %d bundles" % counts)
     bench.holds(bench.honest + bench.bent >= (20000 if bench.is_long else 2000), "too few strings")
 
 
