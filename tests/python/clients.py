@@ -12,6 +12,7 @@ from typing import Callable, List, Optional, Tuple
 from bench import TOP, Bench, read, write
 import chances
 import foretold
+import formats
 import inputs
 import mrtree_check
 import pages
@@ -37,7 +38,7 @@ AUDITS = ("check", "audit", "check-count", "audit-count")  # by which a story ha
 
 def style(bench: Bench) -> None:
     """Examples hold, functions are short, typed and told, and nothing is imported but the standard library."""
-    for module in (vectors, inputs):
+    for module in (vectors, inputs, formats):
         bench.holds(doctest.testmod(module).failed == 0, "the examples of " + module.__name__)
     for name in MODULES:
         module = importlib.import_module(name)
@@ -200,6 +201,7 @@ def main(how: str, program: str) -> int:
         ("how the scripts are written", style),
         ("the rules that vectors show", each_rule_is_shown),
         ("vectors", lambda bench: vectors_hold(bench, "vectors.tsv")),
+        ("the bytes in FORMATS", formats.formats_hold),
         ("the tables of the program's tests", rows_hold),
         ("the same tables, foretold", foretold.tables_hold),
         ("proofs at random", chances.random_proofs),
