@@ -870,6 +870,9 @@ def met_along_y(ones: List[Record], others: List[Record]) -> List[Pair]:
 # ---- joins
 
 
+REST = 2**64  # more bytes than there are
+
+
 class Frame(NamedTuple):
     """What the frame of a join proof says: the second map's rectangle, if it has one, and the first part's length."""
 
@@ -934,7 +937,7 @@ def judge_join(root: bytes, root2: bytes, proof: Pieces) -> Join:
         raise in_part("frame", fault) from None
     first = None if rect is None else show_first(root, rect, Slice(fields, size))
     records = [] if first is None else first.reading.records
-    second = show_second(root2, records, Slice(fields, sys.maxsize))
+    second = show_second(root2, records, Slice(fields, REST))
     if rect is None and second.head.count:
         raise Refused("WrongFlag", fields.place, part="frame")
     if rect is not None and (second.part is None or second.part.rect != rect):

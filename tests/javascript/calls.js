@@ -188,6 +188,19 @@ async function joinsHold(bench) {
     for (const [root, root2, proof, meant] of rows) {
         bench.equal(await joined(root, root2, proof), meant, `the join of ${root} and ${root2}`);
     }
+    let [asked, isClosed] = [0, false];
+    const zeros = (function* () {
+        try {
+            for (;;) {
+                asked += 1;
+                yield new Uint8Array(10);
+            }
+        } finally {
+            isClosed = true;
+        }
+    })();
+    const told = await joined(ROOT_SEVEN, ROOT_NINE, zeros);
+    bench.equal(`${told} ${asked} ${isClosed}`, "frame BadMagic 1 true", "zeros without an end");
     const { first, second } = await client.checkJoin(ROOT_SEVEN, ROOT_NINE, JOIN);
     const states = [first, second].map(({ batch, count }) => `${batch} ${count}`);
     bench.equal(String(states), "0 1,0 1", "what a join proof says of both maps");

@@ -1,6 +1,7 @@
 """What readers and publishers do with the scripts but for texts and batches: answers, queries, outputs, stops, GDAL."""
 import contextlib
 import importlib.util
+import itertools
 import json
 import os
 import pty
@@ -440,6 +441,9 @@ def joins_hold(bench: Bench) -> None:
             told = error
         is_so = isinstance(told, kind) and getattr(told, "part", "") == part
         bench.holds(is_so, "the module on a join of %s answers %s" % (words[:2], told))
+    zeros = itertools.repeat(bytes(10))
+    with contextlib.suppress(mrtree_check.Refused):
+        bench.holds(check(ROOT_SEVEN, ROOT_NINE, zeros) is None, "zeros without an end are accepted")
     longer = ["--most", "126", "check-join", ROOT_SEVEN, ROOT_NINE, "j"]
     bench.holds(bench.client(longer) == (7, b"longer than 126 bytes\n"), "a join of more than --most")
     longer[1] = "127"
@@ -516,6 +520,11 @@ def modules_hold(bench: Bench) -> None:
     verdicts = mrtree_check.check_all(ROOT, [WINDOW, WINDOW], len(proof).to_bytes(4, "big") + proof)
     is_so = verdicts[0].answer == answer and verdicts[1] == mrtree_check.MISSING
     bench.holds(is_so, "the module on a bundle answers %s" % (verdicts,))
+    spec = importlib.util.spec_from_file_location("package", os.path.join(CLIENTS, "__init__.py"))
+    given = sys.modules["package"] = importlib.util.module_from_spec(spec)
+    spec.loader.exec_module(given)
+    is_so = all(getattr(given, name, None) is not None for name in mrtree_check.__all__)
+    bench.holds(is_so and set(given.__all__) == {*mrtree_check.__all__, "__version__"}, "what the package gives out")
 
 
 def installs(bench: Bench) -> None:
