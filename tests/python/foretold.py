@@ -596,8 +596,12 @@ def is_foretold(group: tables.Group, behind: int) -> Optional[str]:
 
 
 def tables_hold(bench: Bench) -> None:
-    """Each row and story is as it is foretold, and no false row is."""
-    groups = list(tables.groups(os.path.join(TOP, "crates", "mr_rows", "data")))
+    """Each row and story is as it is foretold, and no false row is; and the program goes through all these tables."""
+    rows = os.path.join(TOP, "crates", "mr_rows")
+    groups = list(tables.groups(os.path.join(rows, "data")))
+    with open(os.path.join(rows, "args")) as names:
+        listed = names.read().split()
+    bench.holds(sorted(listed) == sorted(os.listdir(os.path.join(rows, "data"))), "the tables that are gone through")
     named: Dict[str, List[tables.Group]] = {}
     for group in groups:
         if failing_call(group):

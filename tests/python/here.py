@@ -19,6 +19,7 @@ from jobs import clear, text_of
 from proofs import plain
 
 MAP, BATCH, JOURNAL = "m", "b", journals.name_of("m")
+APPLY, RECOVER = ["apply-here", MAP, BATCH], ["recover", MAP]
 MOST = 20  # runs that are begun for each that is to be stopped
 
 
@@ -148,13 +149,13 @@ def writes(child: "subprocess.Popen[bytes]", before: Optional[int]) -> None:
         pass
 
 
-def pace_of(bench: Bench, one: Update) -> Pace:
+def pace_of(bench: Bench, one: Update, words: List[str]) -> Pace:
     """The shortest of three."""
     took = []
     for _ in range(3):
         one.lay_out()
-        before, began = written(), time.monotonic()
-        child = begun(bench)
+        before, child = written(), begun(bench, words)
+        began = time.monotonic()
         writes(child, before)
         wrote = time.monotonic()
         child.wait()
@@ -162,36 +163,48 @@ def pace_of(bench: Bench, one: Update) -> Pace:
     return Pace(min(one_.all_ for one_ in took), min(one_.writing for one_ in took))
 
 
-def begun(bench: Bench) -> "subprocess.Popen[bytes]":
-    """An update that has begun."""
-    call = [bench.program_path, "apply-here", MAP, BATCH]
-    return subprocess.Popen(call, stdout=subprocess.DEVNULL, stderr=subprocess.STDOUT)
+def begun(bench: Bench, words: List[str]) -> "subprocess.Popen[bytes]":
+    """An update or a recovery that has begun."""
+    return subprocess.Popen([bench.program_path, *words], stdout=subprocess.DEVNULL, stderr=subprocess.STDOUT)
+
+
+def opened(one: Update, version: int, words: List[str]) -> Update:
+    """What a command finds: an update the map before it, and a recovery what a stop behind the gate left of one."""
+    return one if words == APPLY else begun_once(one, version)
 
 
 def killed(bench: Bench, seed: int) -> None:
-    """Updates that are ended at random moments: two hundred in the long run."""
+    """Updates that are ended at random moments, two hundred in the long run, and a quarter as many recoveries."""
     chance, tally = random.Random(seed), Tally("ended at random moments")
     size, often = (30000, 100) if bench.is_long else (3000, 4)
     for version in (1, 2):
         one = update(bench, seed % 2**63 * 2 + version, size, size // 30, version)
-        pace, stops, runs = pace_of(bench, one), 0, 0
-        while stops < often and runs < MOST * often:
-            one.lay_out()
-            before, child = written(), begun(bench)
-            # three of four while the files are written
-            if runs % 4:
-                writes(child, before)
-                time.sleep(pace.writing * chance.uniform(0, 0.9))
-            else:
-                time.sleep(pace.all_ * chance.uniform(0, 1))
-            child.send_signal(signal.SIGKILL)
-            is_stopped = child.wait() == -signal.SIGKILL
-            stops, runs = stops + is_stopped, runs + 1
-            if is_stopped:
-                tally.add(state_of(one, left()))
-            recovers(bench, one, "an update that is ended, of version %d" % version)
-        bench.holds(stops == often, "of %d updates %d were ended" % (runs, stops))
+        cut(bench, one, opened(one, version, APPLY), APPLY, often, chance, tally)
+        cut(bench, one, opened(one, version, RECOVER), RECOVER, often // 4, chance, tally)
     tally.show()
+
+
+def cut(
+    bench: Bench, one: Update, found: Update, words: List[str], often: int, chance: random.Random, tally: Tally
+) -> None:
+    """Ends a command at random moments, so often, over what it finds of an update."""
+    pace, stops, runs = pace_of(bench, found, words), 0, 0
+    while stops < often and runs < MOST * often:
+        found.lay_out()
+        before, child = written(), begun(bench, words)
+        # of updates three of four while the files are written; a recovery writes its journal last
+        if runs % 4 and words == APPLY:
+            writes(child, before)
+            time.sleep(pace.writing * chance.uniform(0, 0.9))
+        else:
+            time.sleep(pace.all_ * chance.choice((0.2, 1)) * chance.uniform(0, 1))
+        child.send_signal(signal.SIGKILL)
+        is_stopped = child.wait() == -signal.SIGKILL
+        stops, runs = stops + is_stopped, runs + 1
+        if is_stopped:
+            tally.add("%s %s" % (words[0], state_of(one, left())))
+        recovers(bench, one, "a run of %s that is ended" % words[0])
+    bench.holds(stops == often, "of %d runs of %s %d were ended" % (runs, words[0], stops))
 
 
 def copied(bench: Bench, seed: int) -> None:
@@ -202,10 +215,10 @@ def copied(bench: Bench, seed: int) -> None:
     try:
         for version in (1, 2):
             one = update(bench, seed % 2**63 * 2 + version, size, size // 30, version)
-            pace = pace_of(bench, one)
+            pace = pace_of(bench, one, APPLY)
             for number in range(often):
                 one.lay_out()
-                before, child, taken = written(), begun(bench), []
+                before, child, taken = written(), begun(bench, APPLY), []
                 while child.poll() is None and len(taken) < 8:
                     if len(taken) == 1:
                         writes(child, before)
@@ -235,15 +248,15 @@ def failing(bench: Bench, seed: int) -> None:
         tally = Tally("a call fails, or the run ends there")
         for number, version in enumerate((1, 2, 1, 2)):
             one = update(bench, seed % 2**62 * 4 + number, 400 if bench.is_long else 60, 10, version)
-            for words in (["apply-here", MAP, BATCH], ["recover", MAP]):
-                opened = one if words[0] == "apply-here" else begun_once(one, version)
-                opened.lay_out()
+            for words in (APPLY, RECOVER):
+                found = opened(one, version, words)
+                found.lay_out()
                 job = calls.Job(words, {MAP: b"", BATCH: b"", JOURNAL: b""}, "", b"", b"", 0)
                 counts = tracer.counts(job)
                 for call in sorted(set(counts) - calls.UNSEEN):
                     for place in calls.places(counts[call], 60 if bench.is_long else 3):
                         for how in ("signal=KILL", *["error=" + fault for fault in calls.FAULTS.get(call, ("EIO",))]):
-                            opened.lay_out()
+                            found.lay_out()
                             ended = tracer.run(job, "%s:%s:when=%d" % (call, how, place))
                             what = "%s, call %d of %s, %s" % (words[0], place, call, how)
                             is_so = how == "signal=KILL" or ended == (7, b"shelf fault\n") or ended[1:] == (b"",)
@@ -271,10 +284,10 @@ def refused(bench: Bench, seed: int) -> None:
         tally = Tally("an allocation is refused")
         for version in (1, 2):
             one = update(bench, seed % 2**63 * 2 + version, 200 if bench.is_long else 40, 10, version)
-            for words in (["apply-here", MAP, BATCH], ["recover", MAP]):
-                opened = one if words[0] == "apply-here" else begun_once(one, version)
+            for words in (APPLY, RECOVER):
+                found = opened(one, version, words)
                 for number in range(1, memory.MOST):
-                    opened.lay_out()
+                    found.lay_out()
                     (status, said_), came = memory.run(bench, words, path, number, False)
                     if not came:
                         break

@@ -10,7 +10,7 @@ import subprocess
 import sys
 import tempfile
 import time
-from typing import Callable, Dict, List, Optional, Tuple
+from typing import Any, Callable, Dict, List, Optional, Tuple
 
 from bench import Bench, Ended, read, write
 import bends
@@ -18,6 +18,7 @@ import broken
 import calls
 import foretold
 import here
+import joins
 import memory
 import proofs
 import said
@@ -160,36 +161,51 @@ def maps(chance: random.Random) -> Case:
     return over(bytes_, chance, given, held, "", version)
 
 
-def over_both(bytes_: bytes, chance: random.Random, rule: str) -> Case:
-    """A command that reads this map file, be it of one version or the other."""
-    if chance.random() < 0.5:
-        return Case(["list", "m"], {"m": bytes_}, "", rule)
-    old = {"n": bends.some_bytes(chance, 9000)} if chance.random() < 0.3 else {}
-    return Case(["upgrade", "m", "n"], {"m": bytes_, **old}, "n", rule)
+# The commands that read a map file m; and those that do not change it where it breaks a rule.
+OVER = (
+    *("list m", "upgrade m n", "prove m QUERY p", "audit m QUERY p", "apply m b n", "serve m s u"),
+    *("count m QUERY p", "audit-count m QUERY p", "join m k p", "join k m p", "audit-join m k p", "audit-join k m p"),
+)
+OVER_BROKEN = (*OVER, "apply-here m b")
 
 
 def over(
     bytes_: bytes, chance: random.Random, given: List[plain.Record], held: int, rule: str = "", version: int = 1
 ) -> Case:
     """A command that reads this map file, which was made of these records at this batch in this version."""
-    query = proofs.word_of(bends.query(chance, version if chance.random() < 0.7 else 2))
-    way = chance.randrange(8)
-    if way < 2:
-        return over_both(bytes_, chance, rule)
-    if way == 2:
-        return Case(["prove", "m", query, "p"], {"m": bytes_}, "p", rule)
-    if way == 3:
-        text = bends.batch_text(chance, given, held, version)
-        return Case(["apply", "m", "b", "n"], {"m": bytes_, "b": text}, "n", rule)
-    if way == 4:
-        string = proof_of(chance, given, held, version)[2]
-        return Case(["audit", "m", query, "p"], {"m": bytes_, "p": string}, "", rule)
-    if way == 5:
-        return Case(["count", "m", counted(chance, given, bool(rule)), "p"], {"m": bytes_}, "p", rule)
-    if way == 6:
-        _, word, string = count_of(chance, given, held, bool(rule))
-        return Case(["audit-count", "m", word, "p"], {"m": bytes_, "p": string}, "", rule)
-    return Case(["serve", "m", "s", "u"], {"m": bytes_, "s": bends.script_text(chance, version)}, "u", rule)
+    words = chance.choice(OVER_BROKEN if rule else OVER).split(" ")
+    made, others = foretold.made_of(words), bends.records(chance, 40, 2)
+    word, string = offered(chance, words, given, held, version, others, bool(rule))
+    inputs: Dict[str, Callable[[], bytes]] = {
+        "m": lambda: bytes_,
+        "k": lambda: honest_map(chance, others, 2),
+        "b": lambda: bends.batch_text(chance, given, held, version),
+        "s": lambda: bends.script_text(chance, version),
+        "p": lambda: string,
+    }
+    files = {name: inputs[name]() for name in words[1:] if name in inputs and name != made}
+    if made and chance.random() < 0.3:
+        files[made] = bends.some_bytes(chance, 9000)
+    return Case([word if one == "QUERY" else one for one in words], files, made, rule)
+
+
+def offered(
+    chance: random.Random,
+    words: List[str],
+    given: List[plain.Record],
+    held: int,
+    version: int,
+    others: List[plain.Record],
+    is_right: bool,
+) -> Tuple[str, bytes]:
+    """The word of a query for a command, and a string that it is offered as a proof on a map of these records."""
+    if "count" in words[0]:
+        return count_of(chance, given, held, is_right)[1:]
+    if words[0] == "audit-join":
+        maps = [(plain.pack(given), held), (plain.pack(others), 0)]
+        return "", join_of(chance, *(maps if words[1] == "m" else maps[::-1]))
+    word = proofs.word_of(bends.query(chance, version if chance.random() < 0.7 else 2))
+    return word, proof_of(chance, given, held, version)[2] if words[0] == "audit" else b""
 
 
 def proof_of(
@@ -273,6 +289,37 @@ def counts(chance: random.Random) -> Case:
     return Case(["count", "m", word, "p"], maybe(chance, files, "m"), "p")
 
 
+def join_of(chance: random.Random, one: Tuple[Any, int], other: Tuple[Any, int]) -> bytes:
+    """A string that is offered as the proof of the join of two maps, each by its tree and batch, honest or not."""
+    proof, way = joins.honest_join(*one, *other), chance.random()
+    if way < 0.5:
+        return joins.bent(proof, joins.honest_join(*other, *one), chance)
+    if way < 0.6:
+        return bends.some_bytes(chance, 400)
+    if way < 0.7:
+        return bends.bent_bytes(proof, chance)
+    return proofs.honest(*one, bends.query(chance, 2), 2) if way < 0.75 else proof
+
+
+def join_proofs(chance: random.Random) -> Case:
+    """Proofs of joins, for `check-join`, for `audit-join` beside their maps; and `join` of maps of either version."""
+    given = [bends.records(chance, chance.choice((40, 200)), 2) for _ in "mk"]
+    trees = [(plain.pack(one), 0) for one in given]
+    string, way = join_of(chance, *trees), chance.random()
+    if way < 0.5:
+        roots = [plain.root(*tree, 2) for tree in trees]
+        roots = roots[::-1] if chance.random() < 0.1 else roots
+        return Case(["check-join", *roots, "p"], maybe(chance, {"p": string}, "p"))
+    files = {"p": string}
+    for name, one in zip("mk", given):
+        version = 2 if chance.random() < 0.95 else 1
+        one = one if version == 2 else [record._replace(layer=0) for record in one]
+        files[name] = honest_map(chance, one, version)
+    if way < 0.8:
+        return Case(["audit-join", "m", "k", "p"], maybe(chance, files, chance.choice("mkp")))
+    return Case(["join", "m", "k", "p"], maybe(chance, files, chance.choice("mk")), "p")
+
+
 def scripts(chance: random.Random) -> Case:
     """Scripts, for `serve` and for `check-all`."""
     version = chance.choice((1, 2))
@@ -302,6 +349,7 @@ KINDS: List[Tuple[str, Callable[[random.Random], Case], int]] = [
     ("maps", maps, 8),
     ("proofs", proofs_, 5),
     ("count proofs", counts, 5),
+    ("join proofs", join_proofs, 4),
     ("scripts", scripts, 3),
     ("bundles", bundles, 3),
 ]

@@ -48,7 +48,7 @@ def wider(rect: Tuple[int, ...]) -> Tuple[int, ...]:
 
 
 def jobs(bench: Bench, seed: int, count: int, changes: int, queries: int) -> List[Job]:
-    """A job of each command on a generated map of so many records; the first four make what others rely on."""
+    """A job of each command on a generated map of so many records, in each version that it knows."""
     chance = random.Random(seed)
     text = text_of(plain.generated(count, seed))
     gone = [b"- %d\n" % number for number in chance.sample(range(1, count + 1), changes)]
@@ -65,12 +65,14 @@ def jobs(bench: Bench, seed: int, count: int, changes: int, queries: int) -> Lis
     masked = WINDOW + "/00000000000000ff"
     prove2 = job(bench, "prove m %s p" % masked, {"m": build2.whole}, "p")
     counted = job(bench, "count m %s p" % WINDOW, {"m": build2.whole}, "p")
-    check_count = "check-count %s %s p" % (build2.text.decode().strip(), WINDOW)
     wide = [record._replace(rect=wider(record.rect)) for record in plain.generated(max(1, count // 4), seed + 1)]
     other = job(bench, "build2 k r", {"r": text_of(plain.on_layers(wide), 2)}, "k")
     both = {"m": build2.whole, "k": other.whole}
     joined = job(bench, "join m k p", both, "p")
-    roots = build2.text.decode().strip(), other.text.decode().strip()
+    root2 = build2.text.decode().strip()
+    roots = root2, other.text.decode().strip()
+    script2 = script.replace(b"\n", b"/00000000000000ff\n")
+    serve2 = job(bench, "serve m s u", {"m": build2.whole, "s": script2}, "u")
     return [
         build,
         job(bench, "apply m b n", {"m": map_, "b": batch}, "n"),
@@ -82,22 +84,28 @@ def jobs(bench: Bench, seed: int, count: int, changes: int, queries: int) -> Lis
         job(bench, "root2 r", {"r": text2}, ""),
         build2,
         job(bench, "upgrade m n", {"m": map_}, "n"),
+        job(bench, "upgrade m n", {"m": build2.whole}, "n"),
         job(bench, "apply m b n", {"m": build2.whole, "b": batch2}, "n"),
+        serve2,
+        job(bench, "serve m s u", {"m": map_, "s": script2}, "", 10),
         prove2,
         job(bench, "prove m %s p" % masked, {"m": map_}, "", 10),
         job(bench, "audit m %s p" % masked, {"m": build2.whole, "p": prove2.whole}, ""),
         job(bench, "list m", {"m": build2.whole}, ""),
         counted,
         job(bench, "count m %s p" % WINDOW, {"m": map_}, "", 10),
-        job(bench, check_count, {"p": counted.whole}, ""),
+        job(bench, "check-count %s %s p" % (root2, WINDOW), {"p": counted.whole}, ""),
         job(bench, "audit-count m %s p" % WINDOW, {"m": build2.whole, "p": counted.whole}, ""),
         joined,
         job(bench, "join m k p", {"m": build2.whole, "k": map_}, "", 10),
         job(bench, "check-join %s %s p" % roots, {"p": joined.whole}, ""),
         job(bench, "audit-join m k p", {**both, "p": joined.whole}, ""),
+        job(bench, "audit-join m k p", {"m": map_, "k": other.whole, "p": joined.whole}, "", 10),
         job(bench, "check %s %s p" % (root, WINDOW), {"p": prove.whole}, ""),
+        job(bench, "check %s %s p" % (root2, masked), {"p": prove2.whole}, ""),
         job(bench, "audit m %s p" % WINDOW, {"m": map_, "p": prove.whole}, ""),
         job(bench, "check-all %s s u" % root, {"s": script, "u": serve.whole}, ""),
+        job(bench, "check-all %s s u" % root2, {"s": script2, "u": serve2.whole}, ""),
         job(bench, "demo %d %d" % (max(1, count // 10), seed), {}, ""),
     ]
 

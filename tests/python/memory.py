@@ -3,10 +3,10 @@ import os
 import shutil
 import subprocess
 import tempfile
-from typing import List, NamedTuple, Optional, Tuple
+from typing import Dict, List, NamedTuple, Optional, Tuple
 
 from bench import HERE, Bench, Ended, read, write
-from jobs import Job, Tally, begin, clear, few, is_done_again, jobs, left_of, text_of
+from jobs import Job, Tally, begin, clear, few, is_done_again, jobs, left_of, text_of, wider
 from proofs import plain
 
 SOURCE = os.path.join(HERE, "..", "refuse.c")
@@ -111,41 +111,57 @@ class Bound(NamedTuple):
     bytes_: int
 
 
-# The numbers that were measured are 4,515 and 24.1 million; 28 and 4.1 million; 2,704 and 13.9 million; 3,100. By
-# threads those of the last two differ by a few calls from run to run. A record takes some 230 bytes. In version 2 they
-# are 4,515 and 24.1 million, as in version 1; 8,430 and 8,768, and 31.4 million; 4,837 and 16.5 million; and with masks
-# 6,599 and 1.8 million; 30 and 15.9 million; 9,216 and 21.0 million; 13,663 and 54.3 million. Of a count of 2.2 MB they
-# are 8,879 and 3.4 million; 37 and 11.9 million; 9,216 and 12.9 million. Of a batch in place they are 14,663 and 37.3
-# million.
+# $m stands for the root digest of the map m. Each bound is some 7 in a hundred above what was measured; by threads the
+# numbers of some commands differ by a few calls from run to run. A record takes some 230 bytes.
 BOUNDS = (
+    # the records that are made, and their text
+    Bound("make 65536 1 e", 31, 21 * 10**6),
     # the tree of 65,536 records, and copies of half of them
     Bound("list m", 5000, 26 * 10**6),
     Bound("list k", 5000, 26 * 10**6),
-    # the records, and their tree
+    # the records, and their tree; of version 1 `build` holds all pages, of version 2 those below one child of the root
+    Bound("root w", 9100, 34 * 10**6),
     Bound("root2 t", 9000, 335 * 10**5),
-    # and of the pages those below one child of the root
-    Bound("build2 k t", 9500, 335 * 10**5),
-    # the tree, and such pages
+    Bound("demo 20000 1", 5500, 11 * 10**6),
+    Bound("build e w", 9500, 53 * 10**6),
+    Bound("build2 e t", 9500, 335 * 10**5),
+    # the tree, and the pages below one child of the root
     Bound("upgrade m n", 5300, 175 * 10**5),
     Bound("upgrade k n", 5300, 175 * 10**5),
+    # the nodes that are kept, and what a search holds
+    Bound("prove l %s z" % ALL, 2700, 52 * 10**5),
     # the records, and neither the proof nor as many again for a sort; 57 pieces come, none of which asks for memory
-    Bound("check ROOT %s p" % ALL, 40, 45 * 10**5),
+    Bound("check $l %s p" % ALL, 40, 45 * 10**5),
+    # the records, the nodes and a part of the proof
+    Bound("audit l %s p" % ALL, 2800, 99 * 10**5),
     # the proofs, of 13.3 million bytes, each in no more room than it has bytes, and of the bundle a part
     Bound("serve s q u", 3000, 155 * 10**5),
     # each proof is judged once
-    Bound("check-all OTHER q u", 3500, 150 * 10**6),
-    # with a mask, in version 2: the nodes that are kept and what a search holds; the records, and no memory a piece;
-    # the records, the nodes and a part of the proof; and the tree, with each proof in as much room as it has bytes
+    Bound("check-all $s q u", 3500, 150 * 10**6),
+    # with masks, in version 2: as above
     Bound("prove k %s z" % NEAREST, 7000, 21 * 10**5),
-    Bound("check LAYERED %s%s y" % (ALL, ON_ALL), 40, 17 * 10**6),
+    Bound("check $k %s%s y" % (ALL, ON_ALL), 40, 17 * 10**6),
     Bound("audit k %s%s y" % (ALL, ON_ALL), 9700, 22 * 10**6),
     Bound("serve k layered v", 14500, 57 * 10**6),
+    Bound("check-all $k layered v", 480, 240 * 10**6),
     # the nodes that are kept, and the proof; the proof, and the records that it shows; these, and the nodes
     Bound("count k %s z" % COUNTED, 9500, 37 * 10**5),
-    Bound("check-count LAYERED %s z" % COUNTED, 45, 126 * 10**5),
+    Bound("check-count $k %s z" % COUNTED, 45, 126 * 10**5),
     Bound("audit-count k %s z" % COUNTED, 9800, 137 * 10**5),
-    # the map and the new one, and the directory of its records: less than three times the map's 17,047,552 bytes
+    # both trees; the records that the proof shows, in two orders, and the pairs; all of these
+    Bound("join k j z", 9700, 50 * 10**6),
+    Bound("check-join $k $j z", 170000, 30 * 10**6),
+    Bound("audit-join k j z", 180000, 57 * 10**6),
+    # the nodes that are kept, and the directory of the records
+    Bound("apply m b n", 16000, 51 * 10**5),
+    Bound("apply k b n", 16000, 51 * 10**5),
+    # the map and the new one, and the directory of its records: less than three times the map's 17,047,552 bytes, and
+    # of version 2 twice as much as that
     Bound("apply-here h b", 15500, 39 * 10**6),
+    Bound("apply-here g b", 16000, 78 * 10**6),
+    # the journal
+    Bound("recover o", 29, 8 * 10**5),
+    Bound("recover f", 29, 15 * 10**5),
 )
 
 
@@ -161,24 +177,38 @@ def counted(bench: Bench, words: List[str], path: str) -> Tuple[int, int, int]:
     return ran.returncode, calls, most
 
 
-def lay_out(bench: Bench) -> Tuple[str, str, str]:
-    """Makes the maps m, h, k, l and s, the text t of k, proofs p and y, a batch for h, scripts; the roots of l, s and k."""
+def lay_out(bench: Bench) -> Dict[str, str]:
+    """Makes what the command lines read, and answers the root digests of the maps by their names.
+
+    These are the maps m and w's and k and t's of 65,536 records, h and g and o and f their copies, j of records that
+    meet those of k; l of long records, and s of few; the proofs p and y, a batch, scripts, and open journals.
+    """
     clear()
     lines = [plain.line_of(plain.place(number)._replace(payload=b"Z" * 200)) + "\n" for number in range(1, LONG + 1)]
+    wide = [one._replace(rect=wider(one.rect)) for one in plain.generated(500, 2)]
     write("long.txt", "".join(lines).encode())
-    write("q", (ALL + "\n").encode() * SERVED)
+    write("wide.txt", text_of(plain.on_layers(wide), 2))
     write("t", text_of(plain.on_layers(plain.generated(65536, 1)), 2))
+    write("q", (ALL + "\n").encode() * SERVED)
     write("layered", ("%s%s\n%s\n" % (ALL, ON_ALL, NEAREST)).encode() * 10)
-    roots = []
-    layered = ("build2 k t", "prove k %s%s y" % (ALL, ON_ALL))
-    long = ("build l long.txt", "prove l %s p" % ALL)
-    for words in (*layered, "make 65536 1 r", "build m r", *long, "make 2000 1 r", "build s r", "serve s q u"):
+    write("b", b"batch 1\n" + b"".join(b"- %d\n" % (number * 600 + 1) for number in range(100)))
+    roots = {}
+    builds = ("build m w", "build2 k t", "build l long.txt", "build s few.txt", "build2 j wide.txt")
+    proved = ("prove k %s%s y" % (ALL, ON_ALL), "prove l %s p" % ALL)
+    for words in ("make 65536 1 w", "make 2000 1 few.txt", *builds, *proved):
         status, said = bench.program(words.split(" "))
         bench.holds(status == 0, "%s: status %d and %s" % (words, status, said[:200]))
-        roots.append(said.decode().strip())
-    write("h", read("m"))
-    write("b", b"batch 1\n" + b"".join(b"- %d\n" % (number * 600 + 1) for number in range(100)))
-    return roots[4], roots[7], roots[0]
+        if words in builds:
+            roots[words.split(" ")[1]] = said.decode().strip()
+    for map_, copies in (("m", "ho"), ("k", "gf")):
+        for name in copies:
+            write(name, read(map_))
+        # of the second copy the journal is open, and the map as it was
+        status, said = bench.program(["apply-here", copies[1], "b"])
+        bench.holds(status == 0, "apply-here: status %d and %s" % (status, said[:200]))
+        write(copies[1], read(map_))
+        write(copies[1] + ".journal", b"O" + read(copies[1] + ".journal")[1:])
+    return roots
 
 
 def bounded(bench: Bench, seed: int) -> None:
@@ -188,11 +218,11 @@ def bounded(bench: Bench, seed: int) -> None:
         if path is None:
             print("tests/hostile: SKIPPED: how much memory runs take, which takes a C compiler and the GNU C library")
             return
-        root, other, layered = lay_out(bench)
+        roots = lay_out(bench)
         for bound in BOUNDS:
-            words = bound.words.replace("ROOT", root).replace("OTHER", other).replace("LAYERED", layered).split(" ")
+            words = [roots[word[1:]] if word.startswith("$") else word for word in bound.words.split(" ")]
             status, calls, most = counted(bench, words, path)
             is_so = status == 0 and 0 < calls <= bound.calls and 0 < most <= bound.bytes_
-            told = (words[0], status, calls, most, bound.calls, bound.bytes_)
+            told = (bound.words, status, calls, most, bound.calls, bound.bytes_)
             bench.holds(is_so, "%s: status %d; memory %d times, %d bytes; meant are %d and %d" % told)
         clear()

@@ -31,14 +31,14 @@ def stop(bench: Bench, one: Job, after: float) -> Optional[int]:
 
 
 def stopped(bench: Bench, seed: int) -> None:
-    """Each command that makes a file but `make`, as often: fifty stops each in the long run.
+    """Each command that makes a file, in each version, as often: fifty stops each in the long run.
 
     A run that ended before it was to be stopped does not count, and another one is begun.
     """
     chance, tally = random.Random(seed), Tally()
     size, often = (30000, 50) if bench.is_long else (4000, 4)
     ended = 0
-    made = [one for one in jobs(bench, seed % 2**64, size, 100, 50) if one.made and one.words[0] != "make"]
+    made = [one for one in jobs(bench, seed % 2**64, size, 100, 50) if one.made]
     for one in made:
         seconds, stops, runs = seconds_of(bench, one), 0, 0
         other = one.whole[: len(one.whole) // 4096 // 2 * 4096] + b"x"
