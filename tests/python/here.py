@@ -191,6 +191,8 @@ def cut(
     pace, stops, runs = pace_of(bench, found, words), 0, 0
     while stops < often and runs < MOST * often:
         found.lay_out()
+        # at once where the machine is too busy for more
+        pace = Pace(0, 0) if runs == MOST * often // 2 else pace
         before, child = written(), begun(bench, words)
         # of updates three of four while the files are written; a recovery writes its journal last
         if runs % 4 and words == APPLY:

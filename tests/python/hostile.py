@@ -179,7 +179,8 @@ def over(
     inputs: Dict[str, Callable[[], bytes]] = {
         "m": lambda: bytes_,
         "k": lambda: honest_map(chance, others, 2),
-        "b": lambda: bends.batch_text(chance, given, held, version),
+        # `apply-here` reads its batch before the map, in the version that the file says
+        "b": lambda: bends.batch_text(chance, given, held, said.version_of(bytes_) if rule else version),
         "s": lambda: bends.script_text(chance, version),
         "p": lambda: string,
     }

@@ -45,7 +45,8 @@ def stopped(bench: Bench, seed: int) -> None:
         while stops < often and runs < MOST * often:
             old = other if runs % 2 else None
             begin(one, old)
-            # half of them late, when the output is written
+            # half of them late, when the output is written; at once where the machine is too busy for that
+            seconds = 0.0 if runs == MOST * often // 2 else seconds
             after = seconds * (chance.uniform(0, 1.1) if runs % 4 < 2 else chance.uniform(0.6, 1.1))
             is_stopped = stop(bench, one, after) == -signal.SIGKILL
             stops, runs = stops + is_stopped, runs + 1
