@@ -507,7 +507,7 @@ def reads_of(words: List[str], files: said.Files, meant: said.Meant) -> Tuple[in
     place = re.match(rb"refused [A-Za-z]+ at ([0-9]+)", meant.ended[1])
     if words[0] == "check" and place:
         return (int(place[1]) // PIECE + 1,) * 2
-    is_kept = words[0] in ("prove", "serve", "apply", "count") and meant.ended[0] != 10
+    is_kept = words[0] in ("prove", "apply", "count") and meant.ended[0] != 10
     map_ = files.get(words[1], b"") if is_kept else b""
     pages = len(map_) // page_size(map_)
     again = pages - 1 if pages > KEPT + 1 else 0

@@ -1,6 +1,6 @@
 -- `apply` on a map that is opened page by page: its batch, and the whole of it.
 use Rattle.std.proofs.Common.{◌≡◌, ℕ, ◌+◌, ◌≤◌, ltb, List, length, refl, sym, ap, subst, ◌∙◌, inl, inr, arith}
-use Rattle.std.specs.Prelude.{if◌then◌else◌, Option, Some, None, IfSome, IsSome, Result, Ok, Err}
+use Rattle.std.specs.Prelude.{max, if◌then◌else◌, Option, Some, None, IfSome, IsSome, Result, Ok, Err}
 use Rattle.std.specs.Global.{Vec}
 use Rattle.std.specs.String.{string_bytes}
 use Rattle.std.proofs.lemmas.Bool.{cases_Bool, ltb-false}
@@ -31,7 +31,8 @@ use Rattle.mr_store.specs.private.Laws.{keeps_stands}
 use Rattle.mr_store.specs.CachedFile.{name_of, page_form, OfBytes}
 use Rattle.mr_store.specs.Kept.{room}
 use Rattle.mr_store.specs.Opening.{OpensMap, RefusesMap, page_total}
-use Rattle.mr_store.specs.Paged.{IsSameMap, Keeps, shelved, stands_for}
+use Rattle.mr_outside.specs.Faults.{last_count}
+use Rattle.mr_store.specs.Paged.{ReadsFew as FewFetches, IsSameMap, Keeps, shelved, stands_for}
 use Rattle.mr_store.specs.Stored.{IsMapOf, read_map, told_bytes}
 use Rattle.mr_store.specs.declared.paged.Paged.{Paged}
 use Rattle.mr_edit.specs.Reads.{reads_along}
@@ -66,7 +67,13 @@ use Rattle.mr_command.proofs.Inputs.{goes_needed, says_bytes}
 use Rattle.mr_command.proofs.Pages.{HasMap, at_input, few_refused, few_there, file_has, files_told, has_map, pages_all, refused_blamed, refused_told, told_on, was_opened, with_same}
 use Rattle.mr_command.proofs.Plans.{stays}
 use Rattle.mr_command.proofs.Rereading.{comes_told, comes_untold, fetch_blamed, fetch_stopped, says_refused}
-use Rattle.mr_command.proofs.Served.{few_walked}
+
+-- what is read for a walk that fetches so many nodes
+few_walked : (r r' f f' n : ℕ) → f ≡ 0 → FewFetches r f r' f' → r' ≤ max r last_count → f' ≤ f + n → r' ≤ r + n
+few_walked r r' f f' n none few most bound = elim few [
+  | inl each ↦ omega (arith, each, bound, none)
+  | inr last ↦ omega (arith, last, most, bound, none)
+]
 
 -- ---- a batch for the map
 

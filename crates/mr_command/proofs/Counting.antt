@@ -108,22 +108,3 @@ once_none (Some files) name n = omega arith
 pub taken_none : (told : Option Files) (name : List ℕ) (next : List ℕ → Plan) (n : ℕ) → TakenFrom told name next n n
 taken_none None name next n = tt
 taken_none (Some files) name next n = omega arith
-
--- behind a file that is read, a command reads no more where it then comes to an outcome
-pub few_pieces : (told : Option Files) (files : Files) (name : List ℕ) (said : List ℕ → Outcome) (r t : ℕ)
-    → told ≡ Some files → AllowsFrom told (needs name (λ b. comes (said b))) r t
-    → t ≤ r + pieces_of (file files name)
-few_pieces told files name said r t is few =
-    let on = subst (λ o. AllowsFrom o (needs name (λ b. comes (said b))) r t) is few in
-    elim on.2.4 [
-      | inl none ↦ omega (arith, on.1, on.2.2, on.2.3, in_pieces (file files name), none)
-      | inr more ↦ omega (arith, on.1, on.2.2, on.2.3, in_pieces (file files name), last (file files name) on.2.1 more)
-    ]
-  where
-    in_pieces : (input : Input) → reads_taken (given name (λ b. comes (said b)) input) input ≡ pieces_of input
-    in_pieces None = refl
-    in_pieces (Some bytes) = refl
-
-    last : (input : Option (List ℕ)) (n : ℕ) → AllowsReads (given name (λ b. comes (said b)) input) files n → n ≡ 0
-    last None n allows = allows
-    last (Some bytes) n allows = allows

@@ -1,18 +1,12 @@
 -- Two maps that are taken into memory, one behind the other, and the proof of their join.
 use Rattle.std.proofs.Common.{◌≡◌, ℕ, Bool, true, false, List, refl, sym, ap, subst, ◌∙◌}
 use Rattle.std.specs.Prelude.{◌||◌, ⊤, Option, Some, None, MatchOption, Result, Ok, Err}
-use Rattle.mr_outside.specs.State.{Shelved}
 use Rattle.mr_outside.specs.Files.{Files, file}
 use Rattle.mr_outside.specs.Told.{OfFile}
 use Rattle.mr_record.specs.private.Bytes.{AreBytes}
 use Rattle.mr_record.specs.declared.version.Version.{Version}
 use Rattle.mr_record.specs.declared.version.Version.TheVariants.{One, Two}
-use Rattle.mr_tree.specs.Nodes.{MapModel}
-use Rattle.mr_tree.specs.Snapshot.{snapshot_model, tree_model, tree_of}
-use Rattle.mr_tree.specs.declared.nodes.Top.{Top}
-use Rattle.mr_tree.specs.declared.stored.Stored.{Stored}
-use Rattle.mr_tree.specs.declared.tree.Tree.{Tree}
-use Rattle.mr_pages.specs.File.{form_at, version_of}
+use Rattle.mr_pages.specs.File.{form_at}
 use Rattle.mr_pages.specs.Law.{AgreesWithFault}
 use Rattle.mr_pages.specs.declared.opening.Opened.{Opened}
 use Rattle.mr_join.specs.declared.finding.JoinFinding.{JoinFinding}
@@ -20,47 +14,14 @@ use Rattle.mr_join.specs.declared.finding.JoinFinding.TheVariants as findings
 use Rattle.mr_join.specs.declared.fault.JoinFault.{JoinFault}
 use Rattle.mr_join.specs.declared.pair.Pair.{Pair}
 use Rattle.mr_command.specs.Ending.{AreJudged}
-use Rattle.mr_command.specs.private.Joining.{EndsWithoutMap, TakesMap}
-use Rattle.mr_command.specs.private.Steps.{GoesOn, HasReadMap, IsJudged}
+use Rattle.mr_command.specs.private.Steps.{GoesOn, IsJudged}
 use Rattle.mr_plan.specs.Joins.{is_first, join_given, join_of, joined_found, lacks_join}
 use Rattle.mr_plan.specs.Lines.{needs_version_2_line}
 use Rattle.mr_plan.specs.Outcome.{Nothing}
-use Rattle.mr_plan.specs.Plan.{Plan, comes, opens}
-use Rattle.mr_plan.specs.Say.{ends, given_map, needs, needs_map, opened_in, say_audit_join_of, say_beside_maps, say_check_join_of, say_join_finding, say_join_of, say_join_verdict, say_written, unless_first, unless_lacking}
+use Rattle.mr_plan.specs.Plan.{Plan, comes}
+use Rattle.mr_plan.specs.Say.{ends, needs, needs_map, say_audit_join_of, say_beside_maps, say_check_join_of, say_join_finding, say_join_of, say_join_verdict, say_written, unless_first, unless_lacking}
 use Rattle.mr_plan.specs.declared.status.Status.TheVariants.{NeedsVersion2}
-use Rattle.mr_command.specs.declared.ending.Halt.TheVariants as halts
-use Rattle.mr_command.proofs.Counting.{map_taken}
-use Rattle.mr_command.proofs.Going.{comes_halted, judged_map, judged_needs}
-
--- ---- a map in memory
-
-same_tree : (a b : Tree) → ◌≡◌ {A = Option Tree} (Some a) (Some b) → a ≡ b
-same_tree a b e = cc
-
--- nodes that stand for a map are those of that map
-opened_is : (map : Opened) (nodes : List Stored) (top : Top)
-    → snapshot_model nodes top ≡ tree_model map.version map.batch map.tree → opened_in nodes top ≡ map
-opened_is map nodes top e =
-    let trees : tree_of nodes top ≡ map.tree =
-    same_tree (tree_of nodes top) map.tree (ap (λ (x : MapModel). x.tree) e) in
-    let versions : top.version ≡ map.version = ap (λ (x : MapModel). x.version) e in
-    let batches : top.batch ≡ map.batch = ap (λ (x : MapModel). x.batch) e in
-    λ i. record { tree = trees i; version = versions i; batch = batches i }
-
-pub takes_map : (hash : List ℕ → List ℕ) (name : List ℕ) (before after : Shelved) (map : Opened)
-    (nodes : List Stored) (top : Top) → HasReadMap hash name before after map
-    → snapshot_model nodes top ≡ tree_model map.version map.batch map.tree
-    → TakesMap hash name before after nodes top
-takes_map hash name before after map nodes top read e =
-    subst (HasReadMap hash name before after) (sym (opened_is map nodes top e)) read
-
--- memory ran out behind the reading of a map
-pub spent_behind : (hash : List ℕ → List ℕ) (name : List ℕ) (before after : Shelved) (map : Opened)
-    → HasReadMap hash name before after map → EndsWithoutMap hash name before after (Err halts.NoMemory)
-spent_behind hash name before after map read next goes =
-    comes_halted name (λ bytes. opens (version_of bytes) hash bytes (given_map next)) before after halts.NoMemory
-    read.counts (map_taken before.files name hash (given_map next) before.reads after.reads read.once) read.files
-    (judged_map hash name next before.files read.judged goes) tt
+use Rattle.mr_command.proofs.Going.{judged_map, judged_needs}
 
 -- ---- what the second map's bytes stand for
 

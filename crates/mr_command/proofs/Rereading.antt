@@ -22,7 +22,7 @@ use Rattle.mr_pages.specs.Opening.{of_nodes}
 use Rattle.mr_plan.specs.Found.{bad_map_line}
 use Rattle.mr_plan.specs.Outcome.{Outcome, Nothing, LeavesWritten, MayLeave}
 use Rattle.mr_plan.specs.Plan.{Plan, comes, LacksInput, LeadsToOutcome}
-use Rattle.mr_plan.specs.Say.{ends, needs, say, says_missing}
+use Rattle.mr_plan.specs.Say.{ends, say, says_missing}
 use Rattle.mr_plan.specs.Spelling.{AsksAs}
 use Rattle.mr_plan.specs.Untold.{IsSomeFault, IsRefused, MaySayUntold}
 use Rattle.mr_plan.specs.declared.words.Command.{Command}
@@ -32,7 +32,7 @@ use Rattle.mr_command.specs.declared.ending.Halt.{Halt}
 use Rattle.mr_command.specs.declared.ending.Halt.TheVariants as halts
 use Rattle.mr_plan.specs.declared.status.Status.TheVariants.{BadMap}
 use Rattle.mr_plan.proofs.Asking.{as_words, asks_on}
-use Rattle.mr_command.proofs.Counting.{few_none, few_stopped, taken_none}
+use Rattle.mr_command.proofs.Counting.{few_none}
 use Rattle.mr_command.proofs.Plans.{ended_so, lacks_none, last_leaves, leads_on, up_none}
 
 -- ---- another count of reads
@@ -74,19 +74,6 @@ comes_but said before after result on = record {
   outside = blames_with (comes said) after.reads before after result on.outside;
   quiet = calm_with (comes said) after.reads before after result on.quiet;
   few = few_none before.files said after.reads after.reads refl;
-}
-
--- the same of a command that reads one file more
-pub needs_but : (name : List ℕ) (next : List ℕ → Plan) (before after : Shelved) (result : Result Ending Halt)
-    → RunsPlan (needs name next) before after result → ComesBut (needs name next) before after result
-needs_but name next before after result on = record {
-  counts = record { faults = on.counts.faults; reads = omega arith };
-  judged = on.judged;
-  came = came_with (needs name next) after.reads before after result on.came;
-  outside = blames_with (needs name next) after.reads before after result on.outside;
-  quiet = calm_with (needs name next) after.reads before after result on.quiet;
-  few = few_stopped before.files name next after.reads after.reads
-      (taken_none before.files name next after.reads);
 }
 
 -- ---- over files that are told

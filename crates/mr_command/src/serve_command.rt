@@ -6,14 +6,14 @@ ghost use Rattle.mr_query.specs.Script.{script_limit};
 ghost use Rattle.mr_query.specs.Word.{IsAskable};
 ghost use Rattle.mr_command.specs.Ending.{RunsPlan, IsCarriedOut};
 ghost use Rattle.mr_plan.specs.Plan.{comes};
-ghost use Rattle.mr_plan.specs.Say.{lacks_proof as lacks, opened_in, say_script, say_serve_of};
+ghost use Rattle.mr_plan.specs.Say.{lacks_proof as lacks, needs_map, opened_in, say_script, say_serve_of};
 ghost use Rattle.mr_plan.specs.declared.words.Command.TheVariants as commands;
 
 use crate::bundling::{bundle_size, save_proofs};
 use crate::ending::{Ending, Halt};
-use crate::fetching::unfetched;
 use crate::input::queries_from;
-use crate::opening::{lacks_proof, open_paged, without_proof};
+use crate::opening::{lacks_proof, without_proof};
+use crate::snapshots::take_map;
 use mr_bundle::prove_all;
 use mr_outside::{Gate, Shelf};
 use mr_plan::served_line;
@@ -84,9 +84,28 @@ fn serve_script<H: Hash32, S: Shelf, G: Gate, R: Threads + Sync>(
     }
 }
 
+// The same on the map in a file.
+fn serve_map<H: Hash32, S: Shelf, G: Gate, R: Threads + Sync>(
+    rt: &R,
+    alloc: Global,
+    map: &str,
+    script: &str,
+    bundle: &str,
+    shelf: &mut S,
+    gate: &G,
+) -> Result<Ending, Halt>
+    ensures { RunsPlan (needs_map H.of map.now (say_script H.of script.now bundle.now))
+        (S.state shelf.old) (S.state shelf.new) result }
+{
+    match take_map::<H, S>(alloc, map, shelf) {
+        Ok(nodes) => serve_script::<H, S, G, R>(rt, alloc, &nodes, script, bundle, shelf, gate),
+        Err(came) => came,
+    }
+}
+
 /// The proofs for the queries of a script on the map in a file, written to another one, where the
-/// map has one for each. The map is taken into memory, once, and the script is read behind it. The
-/// shelf is handed back.
+/// map has one for each. The map is taken into memory as it is opened, and the script is read
+/// behind it. The shelf is handed back.
 pub fn serve<H: Hash32, S: Shelf, G: Gate, R: Threads + Sync>(
     rt: &R,
     alloc: Global,
@@ -99,20 +118,7 @@ pub fn serve<H: Hash32, S: Shelf, G: Gate, R: Threads + Sync>(
     ensures { IsCarriedOut H.of (commands.Serve map.entry script.entry bundle.entry) (S.state shelf)
         (S.state result.1) result.0 }
 {
-    match open_paged::<H, S>(alloc, map, shelf) {
-        Err(ended) => ended,
-        Ok(paged) => {
-            let mut paged = paged;
-            match paged.snapshot() {
-                Err(error) => (unfetched(alloc, map, &error), paged.close()),
-                Ok(nodes) => {
-                    let mut shelf = paged.close();
-                    let came = serve_script::<H, S, G, R>(
-                        rt, alloc, &nodes, script, bundle, &mut shelf, gate,
-                    );
-                    (came, shelf)
-                }
-            }
-        }
-    }
+    let mut shelf = shelf;
+    let came = serve_map::<H, S, G, R>(rt, alloc, map, script, bundle, &mut shelf, gate);
+    (came, shelf)
 }

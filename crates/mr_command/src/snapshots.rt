@@ -7,16 +7,24 @@ ghost use Rattle.mr_command.specs.private.Joining.{EndsWithoutMap, TakesMap};
 ghost use Rattle.mr_plan.specs.Joins.{is_first as of_first, lacks_join};
 ghost use Rattle.mr_plan.specs.Say.{opened_in};
 
-use crate::ending::{Halt, Step};
-use crate::opening::open_map;
+use crate::ending::Step;
+use crate::opening::{is_word, unopened};
 use crate::serve_command::map_version;
 use mr_outside::Shelf;
+use mr_pages::open_snapshot;
 use mr_record::Version;
-use mr_tree::{Hash32, Snapshot};
+use mr_tree::{Hash32, Nodes, Snapshot};
 use std::alloc::Global;
 
+// The batch of a map in memory.
+fn map_batch<H: Hash32>(nodes: &Snapshot<H>) -> u64
+    ensures { result ≡ nodes.now.top.batch }
+{
+    nodes.reader().top().batch
+}
+
 // The map in a file of either version with its nodes in memory, or what the command comes to
-// without it. Each page is read once.
+// without it. Each page is read once, and each node is hashed once.
 pub(crate) fn take_map<H: Hash32, S: Shelf>(
     alloc: Global,
     name: &str,
@@ -28,12 +36,12 @@ pub(crate) fn take_map<H: Hash32, S: Shelf>(
     // What is told of any file are bytes.
     ensures every { (q : List ℕ) → OfFile (S.state shelf.old).files q ⊤ AreBytes }
 {
-    match open_map::<H, S>(alloc, name, shelf) {
-        Ok(map) => match Snapshot::<H>::by(alloc, map.version, &map.tree, map.batch) {
-            Ok(nodes) => Ok(nodes),
-            Err(_) => Err(Err(Halt::NoMemory)),
-        },
-        Err(came) => Err(came),
+    match open_snapshot::<H, S>(alloc, shelf, name) {
+        Ok(nodes) => {
+            is_word(map_batch(&nodes));
+            Ok(nodes)
+        }
+        Err(error) => Err(unopened(alloc, name, &error)),
     }
 }
 

@@ -23,7 +23,10 @@ use Rattle.mr_pages.specs.declared.error.MapErr.{MapErr}
 use Rattle.mr_pages.specs.declared.error.MapErr.TheVariants as errors
 use Rattle.mr_pages.specs.Page.{Form, IsForm, page_limit}
 use Rattle.mr_pages.specs.File.{File, page_at, is_odd_size, pages_of, file_of, version_of, form_at}
-use Rattle.mr_pages.specs.Stands.{StandsForTree}
+use Rattle.mr_tree.specs.declared.child.Child.{Child}
+use Rattle.mr_pages.specs.Gathering.{MakesTree, tree_in}
+use Rattle.mr_pages.specs.Stands.{StandsForTree, whole_tree}
+use Rattle.mr_pages.specs.private.Spelled.{placed_at}
 use Rattle.mr_pages.specs.Faults.{file_faults, first_of, mapfault}
 use Rattle.mr_pages.specs.Law.{IsOnlyMap, AgreesWithFault}
 use Rattle.mr_pages.specs.Walking.{child_link, head_of}
@@ -33,8 +36,8 @@ use Rattle.mr_record.specs.declared.version.Version.{Version}
 use Rattle.mr_record.specs.declared.version.Version.TheVariants.{One, Two}
 use Rattle.std.proofs.Math.Nat.{mul-div_cancel}
 use Rattle.mr_pages.specs.PageBytes.{page_size, head_bytes, form_by}
-use Rattle.mr_pages.specs.Opening.{of_shelf, pages_in, FailsWithoutFault, OrFails, AnswersMap, SomeBytes, SomeFile, TellsBytes, MapCauses}
-use Rattle.mr_pages.specs.Source.{IfNotFailed, GivesFile, CheckedWhole, ChecksFile, MakesTree, IsFrontOfFile, TellsPage, told_bytes}
+use Rattle.mr_pages.specs.Opening.{opened_as, of_shelf, pages_in, FailsWithoutFault, OrFails, AnswersMap, SomeBytes, SomeFile, TellsBytes, MapCauses}
+use Rattle.mr_pages.specs.Source.{IfNotFailed, GivesFile, CheckedWhole, ChecksFile, IsFrontOfFile, TellsPage, told_bytes}
 use Rattle.mr_pages.specs.private.Walks.{HasWholePages, IsPaged, HasFirst, on_shelf}
 use Rattle.mr_pages.proofs.HeadLaws.{first_form_is, second_form_is}
 use Rattle.mr_pages.proofs.PageReads.{if_there}
@@ -241,22 +244,46 @@ causes_quiet name before after f same =
 
 -- ---- what was checked of the file's pages
 
-module _ (form : Form) (fits : IsForm form) (hash : List ℕ → List ℕ) (name : List ℕ) (lent pages : ℕ) (s : Shelved)
-    (paged : IsPaged form pages s.files name) where
-  answered_err : (bytes : List ℕ) (e : MapErr) → AreBytes bytes →
-      ChecksFile {M = Tree} hash (file_of form bytes) (Err e) → AnswersMap form hash bytes (Err e)
-  answered_err bytes (errors.Map f) all c = c
-  answered_err bytes errors.Missing all c = tt
-  answered_err bytes errors.Fault all c = tt
-  answered_err bytes errors.NoMemory all c = tt
+-- this is made of it: the tree that the pages of a file of these bytes spell, if it has no fault
+pub record IsMadeOf (form : Form) (hash : List ℕ → List ℕ) {M : Type 0}
+    (makes : Option Child → Option M → File → Type 0) (c : Checked M) (o : Opened) : Type 0 where
+  pub version : o.version ≡ form.version
+  pub batch : o.batch ≡ c.head.batch
+  pub tree : (bytes : List ℕ) → AreBytes bytes → ChecksFile hash (file_of form bytes) (Ok c) →
+      makes c.head.root c.made (file_of form bytes) →
+      o.tree ≡ whole_tree (placed_at (file_of form bytes).node (option_map child_link c.head.root))
 
-  answered_ok : (bytes : List ℕ) (c : Checked Tree) → AreBytes bytes →
-      ChecksFile hash (file_of form bytes) (Ok c) →
-      MakesTree (λ (m t : Tree). m ≡ t) (option_map child_link c.head.root) c.made (file_of form bytes) →
-      AnswersMap form hash bytes (Ok (record { tree = c.made; version = form.version; batch = c.head.batch }))
-  answered_ok bytes c all checks made =
-      answered form fits hash bytes all (Ok (record { tree = c.made; version = form.version; batch = c.head.batch }))
-      (checks.0, refl, head_of c.head, checks.1, made, refl)
+-- what was found of some bytes
+pub record IsChecked (form : Form) (hash : List ℕ → List ℕ) {M : Type 0}
+    (makes : Option Child → Option M → File → Type 0) (c : Checked M) (bytes : List ℕ) : Type 0 where
+  pub are : AreBytes bytes
+  pub fault : mapfault hash (file_of form bytes) ≡ None
+  pub head : (file_of form bytes).head ≡ Ok (head_of c.head)
+  pub made : makes c.head.root c.made (file_of form bytes)
+
+pub tree_made : {S : Type 0} (s u : S) (root : Option Child) (o : Option Tree) (f : File) →
+    MakesTree (λ (a b : S) (c : Child) (m t : Tree). m ≡ t) s u root o f →
+    tree_in o ≡ whole_tree (placed_at f.node (option_map child_link root))
+tree_made s u None None f made = refl
+tree_made s u (Some c) (Some m) f made = made
+tree_made s u None (Some m) f made = absurd made
+tree_made s u (Some c) None f made = absurd made
+
+module _ (form : Form) (fits : IsForm form) (hash : List ℕ → List ℕ) (name : List ℕ) (lent : ℕ × ℕ) (pages : ℕ)
+    (s : Shelved) (paged : IsPaged form pages s.files name) where
+  answered_err : (M : Type 0) (bytes : List ℕ) (e : MapErr) → AreBytes bytes →
+      ChecksFile {M = M} hash (file_of form bytes) (Err e) → AnswersMap form hash bytes (Err e)
+  answered_err M bytes (errors.Map f) all c = c
+  answered_err M bytes errors.Missing all c = tt
+  answered_err M bytes errors.Fault all c = tt
+  answered_err M bytes errors.NoMemory all c = tt
+
+  answered_ok : (M : Type 0) (makes : Option Child → Option M → File → Type 0) (bytes : List ℕ) (c : Checked M)
+      (o : Opened) → IsMadeOf form hash makes c o → AreBytes bytes → ChecksFile hash (file_of form bytes) (Ok c) →
+      makes c.head.root c.made (file_of form bytes) → AnswersMap form hash bytes (Ok o)
+  answered_ok M makes bytes c o of_it all checks made =
+      answered form fits hash bytes all (Ok o)
+      (checks.0, of_it.version, head_of c.head, checks.1, of_it.tree bytes all checks made, of_it.batch)
 
   -- of the file that is told
   told_of : (P : List ℕ → Type 0) → ((bytes : List ℕ) → told_bytes s.files name ≡ Some bytes →
@@ -274,23 +301,21 @@ module _ (form : Form) (fits : IsForm form) (hash : List ℕ → List ℕ) (name
           at None there has on = absurd (cc)
           at (Some bytes) there has on = on bytes refl has
 
-  pub told_err : (e : MapErr) → ((f : File) → (on_shelf form lent pages s name).file ≡ Some f →
-      f.version ≡ form.version → f.pages ≡ pages → ChecksFile {M = Tree} hash f (Err e)) →
+  pub told_err : (M : Type 0) (e : MapErr) → ((f : File) → (on_shelf form lent pages s name).file ≡ Some f →
+      f.version ≡ form.version → f.pages ≡ pages → ChecksFile {M = M} hash f (Err e)) →
       OfFile s.files name ⊥ (λ bytes. AnswersMap form hash bytes (Err e))
-  told_err e checks = told_of (λ bytes. AnswersMap form hash bytes (Err e)) (λ bytes is has.
-      answered_err bytes e has.are
+  told_err M e checks = told_of (λ bytes. AnswersMap form hash bytes (Err e)) (λ bytes is has.
+      answered_err M bytes e has.are
       (checks (file_of form bytes) (ap (option_map (file_of form)) is) refl (sym has.count)))
 
-  pub told_ok : (c : Checked Tree) → ((f : File) → (on_shelf form lent pages s name).file ≡ Some f →
+  pub told_ok : (M : Type 0) (makes : Option Child → Option M → File → Type 0) (c : Checked M) (o : Opened) →
+      IsMadeOf form hash makes c o → ((f : File) → (on_shelf form lent pages s name).file ≡ Some f →
       f.version ≡ form.version → f.pages ≡ pages → ChecksFile hash f (Ok c)) →
-      ((f : File) → (on_shelf form lent pages s name).file ≡ Some f →
-      MakesTree (λ (m t : Tree). m ≡ t) (option_map child_link c.head.root) c.made f) →
-      OfFile s.files name ⊥ (λ bytes. AnswersMap form hash bytes (Ok (record
-      { tree = c.made; version = form.version; batch = c.head.batch })))
-  told_ok c checks made = told_of (λ bytes. AnswersMap form hash bytes (Ok (record
-      { tree = c.made; version = form.version; batch = c.head.batch }))) (λ bytes is has.
+      ((f : File) → (on_shelf form lent pages s name).file ≡ Some f → makes c.head.root c.made f) →
+      OfFile s.files name ⊥ (λ bytes. AnswersMap form hash bytes (Ok o))
+  told_ok M makes c o of_it checks made = told_of (λ bytes. AnswersMap form hash bytes (Ok o)) (λ bytes is has.
       let there = ap (option_map (file_of form)) is in
-      answered_ok bytes c has.are (checks (file_of form bytes) there refl (sym has.count))
+      answered_ok M makes bytes c o of_it has.are (checks (file_of form bytes) there refl (sym has.count))
       (made (file_of form bytes) there))
 
   -- of the bytes that were read, told or not
@@ -303,25 +328,34 @@ module _ (form : Form) (fits : IsForm form) (hash : List ℕ → List ℕ) (name
     as_file bytes size = same_file form pages bytes (count_of bytes size)
         (are_whole_pages form.size (length bytes) pages fits.some size some few)
 
-    pub some_err : (e : MapErr) → ((xs : List ℕ) → length (hash xs) ≡ 32) →
-        IfNotFailed {A = Checked Tree} (Err e) (GivesFile (on_shelf form lent pages s name)
-        (CheckedWhole form.version hash (λ (m t : Tree). m ≡ t) pages (Err e))) → SomeBytes form hash (Err e)
-    some_err (errors.Map f) sized g = (
+    pub some_err : (M : Type 0) (makes : Option Child → Option M → File → Type 0) (e : MapErr) →
+        ((xs : List ℕ) → length (hash xs) ≡ 32) →
+        IfNotFailed {A = Checked M} (Err e) (GivesFile (on_shelf form lent pages s name)
+        (CheckedWhole form.version hash makes pages (Err e))) → SomeBytes form hash (Err e)
+    some_err M makes (errors.Map f) sized g = (
       g.bytes,
       g.are,
       subst (λ h. mapfault hash h ≡ Some f) (as_file g.bytes g.size) (g.so.checks refl refl),
     )
-    some_err errors.Missing sized g = some_failed form fits hash sized (Err errors.Missing) tt
-    some_err errors.Fault sized g = some_failed form fits hash sized (Err errors.Fault) tt
-    some_err errors.NoMemory sized g = some_failed form fits hash sized (Err errors.NoMemory) tt
+    some_err M makes errors.Missing sized g = some_failed form fits hash sized (Err errors.Missing) tt
+    some_err M makes errors.Fault sized g = some_failed form fits hash sized (Err errors.Fault) tt
+    some_err M makes errors.NoMemory sized g = some_failed form fits hash sized (Err errors.NoMemory) tt
 
-    pub some_ok : (c : Checked Tree) → GivesFile (on_shelf form lent pages s name)
-        (CheckedWhole form.version hash (λ (m t : Tree). m ≡ t) pages (Ok c)) →
-        SomeBytes form hash (Ok (record { tree = c.made; version = form.version; batch = c.head.batch }))
-    some_ok c g =
-        let w = subst (λ h. CheckedWhole form.version hash (λ (m t : Tree). m ≡ t) h.pages (Ok c) h)
-        (as_file g.bytes g.size) g.so in
-        (g.bytes, g.are, answered_ok g.bytes c g.are (w.checks refl refl) w.made)
+    pub checked_some : (M : Type 0) (makes : Option Child → Option M → File → Type 0) (c : Checked M) →
+        GivesFile (on_shelf form lent pages s name) (CheckedWhole form.version hash makes pages (Ok c)) →
+        (bytes : List ℕ) × IsChecked form hash makes c bytes
+    checked_some M makes c g =
+        let w = subst (λ h. CheckedWhole form.version hash makes h.pages (Ok c) h) (as_file g.bytes g.size) g.so in
+        let checks = w.checks refl refl in
+        (g.bytes, record { are = g.are; fault = checks.0; head = checks.1; made = w.made })
+
+    pub some_ok : (M : Type 0) (makes : Option Child → Option M → File → Type 0) (c : Checked M) (o : Opened) →
+        IsMadeOf form hash makes c o → GivesFile (on_shelf form lent pages s name)
+        (CheckedWhole form.version hash makes pages (Ok c)) → SomeBytes form hash (Ok o)
+    some_ok M makes c o of_it g =
+        let some = checked_some M makes c g in
+        let is = some.1 in
+        (some.0, is.are, answered_ok M makes some.0 c o of_it is.are (is.fault, is.head) is.made)
 
 -- ---- behind the file's size
 
@@ -517,6 +551,17 @@ pub well_of : (hash : List ℕ → List ℕ) (r : Result Opened MapErr) → Some
 well_of hash (Ok m) s =
     (s.1.2.1.well, subst (λ (v : Version). HasLayers v m.tree) (sym s.1.2.0) s.1.2.1.layers)
 well_of hash (Err e) s = tt
+
+pub shown_well : {A : Type 0} (shows : A → Opened) (hash : List ℕ → List ℕ) (r : Result A MapErr) →
+    SomeFile hash (opened_as shows r) →
+    IfOk r (λ m. WellFormed (shows m).tree × HasLayers (shows m).version (shows m).tree)
+shown_well shows hash (Ok m) s = well_of hash (Ok (shows m)) s
+shown_well shows hash (Err e) s = tt
+
+-- what is opened shows itself
+pub shown_itself : (r : Result Opened MapErr) → opened_as (λ (m : Opened). m) r ≡ r
+shown_itself (Ok m) = refl
+shown_itself (Err e) = refl
 
 -- a file that stands for a map in a version is read in that one
 pub stands_version : (v : Version) (hash : List ℕ → List ℕ) (bytes : List ℕ) (t : Tree) (b : ℕ) →

@@ -37,3 +37,5 @@ mod InPieces
 pub mod LeafEntries
 mod Rooted
 pub mod Fits
+pub mod Copies
+mod Copied

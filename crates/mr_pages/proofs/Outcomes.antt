@@ -1,9 +1,8 @@
 -- What checking a file comes to, rule by rule.
-use Rattle.std.proofs.Common.{◌≡◌, ℕ, ◌<◌, true, false, List, [], length, inl, sym, subst, ◌∙◌, ⊎_elim}
+use Rattle.std.proofs.Common.{◌≡◌, ℕ, ◌<◌, Bool, true, false, List, [], length, inl, sym, subst, ◌∙◌, ⊎_elim}
 use Rattle.std.specs.Prelude.{Option, Some, Result, Ok, Err, OnOk}
 use Rattle.mr_record.specs.declared.version.Version.{Version}
 use Rattle.mr_tree.specs.Digest.{Scheme, by}
-use Rattle.mr_tree.specs.declared.tree.Tree.{Tree}
 use Rattle.mr_pages.specs.declared.error.MapErr.{MapErr}
 use Rattle.mr_pages.specs.declared.error.MapErr.TheVariants as errors
 use Rattle.mr_pages.specs.declared.visited.Visited.{Visited}
@@ -28,6 +27,15 @@ root_visits A hash pages at link (Err errors.NoMemory) s w = tt
 root_visits A hash pages at link (Err errors.Missing) s w = tt
 root_visits A hash pages at link (Err errors.Fault) s w = tt
 
+-- a refusal is one whatever was to be made
+pub refused_as : (A B : Type 0) (hash : Scheme) (pages : ℕ) (at : ℕ → Option Node) (before : List Visit) (root : Bool)
+    (link : Link) (e : MapErr) (s : Visited) → WalksBelowLink {A = A} hash pages at before root link (Err e) s →
+    WalksBelowLink {A = B} hash pages at before root link (Err e) s
+refused_as A B hash pages at before root link (errors.Map f) s w = w
+refused_as A B hash pages at before root link errors.NoMemory s w = tt
+refused_as A B hash pages at before root link errors.Missing s w = tt
+refused_as A B hash pages at before root link errors.Fault s w = tt
+
 -- what was reached is kept
 pub kept_all : (A : Type 0) (hash : Scheme) (n : ℕ) (file : File) (root : Option Link) (r : Result A MapErr)
     (old new' : Visited) (keeps : ℕ → Type 0) → Saw n old [] [] → WalksFromRoot {A = A} hash n file.node root r new' →
@@ -46,7 +54,7 @@ kept_all A hash n file root (Ok a) old new' keeps none v k = λ page on.
     no h = cc
 
 -- what is told of the file that is told
-pub visits_of : {M : Type 0} (hash : Scheme) (makes : M → Tree → Type 0) (s : Sourced) (root : Option Link)
+pub visits_of : {M : Type 0} (hash : Scheme) (makes : M → File → Type 0) (s : Sourced) (root : Option Link)
     (r : Result M MapErr) (a b : Visited) → IfNotFailed r (GivesPages s a b (WalkedAll hash makes s.pages root r b)) →
     (f : File) → s.file ≡ Some f → WalksFromRoot hash s.pages f.node root r b
 visits_of hash makes s root (Ok m) a b g f is = (g.so f (inl is)).visits_

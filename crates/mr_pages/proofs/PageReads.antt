@@ -46,7 +46,7 @@ if_there (Some files) name Q g = here (file files name) g
     here None g = tt
     here (Some bytes) g = g
 
-module _ (form : Form) (some : 0 < form.size) (name : List ℕ) (lent pages page : ℕ) (p : List ℕ) where
+module _ (form : Form) (some : 0 < form.size) (name : List ℕ) (lent : ℕ × ℕ) (pages page : ℕ) (p : List ℕ) where
   whole_of : (bytes : List ℕ) → HasWholePages form pages bytes → length bytes ≡ pages * form.size
   whole_of bytes h =
       (whole_pages_are form.size (length bytes) some h.even).whole ∙ ap (λ n. n * form.size) (sym h.count)
@@ -76,8 +76,8 @@ module _ (form : Form) (some : 0 < form.size) (name : List ℕ) (lent pages page
     ]);
   }
 
-pub shelf_gives_head : (form : Form) → 0 < form.size → (name : List ℕ) (lent pages : ℕ) (p : List ℕ) (s : Shelved)
-    (Q : File → Type 0) → IsPaged form pages s.files name → 1 ≤ pages → HasFirst form s.files name p →
+pub shelf_gives_head : (form : Form) → 0 < form.size → (name : List ℕ) (lent : ℕ × ℕ) (pages : ℕ) (p : List ℕ)
+    (s : Shelved) (Q : File → Type 0) → IsPaged form pages s.files name → 1 ≤ pages → HasFirst form s.files name p →
     ((f : File) → f.head ≡ form.head_in pages p → Q f) → GivesHead (on_shelf form lent pages s name) Q
 shelf_gives_head form room name lent pages p s Q paged some first q = record {
   bytes = p;

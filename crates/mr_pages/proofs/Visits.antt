@@ -1,8 +1,9 @@
 -- A walk over pages, step by step: what it meets, and what it leaves.
-use Rattle.std.proofs.Common.{◌≡◌, ℕ, suc, ◌+◌, ◌-◌, ◌<◌, length, get_or, take, drop, Bool, false, List, [], ◌∷◌, ◌++◌, map, refl, sym, ap, subst, ◌∙◌, arith}
+use Rattle.std.proofs.Common.{◌≡◌, ℕ, suc, ◌+◌, ◌-◌, ◌<◌, length, get_or, take, drop, Bool, true, false, List, [], ◌∷◌, ◌++◌, map, refl, sym, ap, subst, ◌∙◌, arith}
 use Rattle.std.specs.Prelude.{Option, Some, None, Result, Ok, Err, All, IfSome}
 use Rattle.std.specs.List.{flat_map, AllByRecursion}
 use Rattle.std.proofs.lemmas.Bool.{OnFalse_at}
+use Rattle.std.proofs.lemmas.List.{take_more}
 use Rattle.std.proofs.lemmas.List.Elements.{All-nil, recursion_from_All}
 use Rattle.mr_record.specs.declared.record.Record.{Record}
 use Rattle.mr_record.specs.declared.version.Version.{Version}
@@ -24,13 +25,15 @@ use Rattle.mr_pages.specs.File.{File}
 use Rattle.mr_pages.specs.Faults.{repeats, found, children, Visit, records_in, visit, visits, reached, all_records, numbers_of, node_faults, walk_faults, first_of}
 use Rattle.mr_pages.specs.Walking.{child_link, page_node, owned, enter_faults, Saw, MeetsNumbers}
 use Rattle.mr_pages.specs.private.Walks.{Passed}
-use Rattle.mr_pages.specs.Source.{Sourced, MatchesChild, ReadsWithinRoom, AreMade}
+use Rattle.mr_pages.specs.Source.{Sourced, MatchesChild, ReadsWithinRoom}
+use Rattle.mr_pages.specs.Gathering.{AreMade, SuitsChild, SuitsEntry, IsCounted, tree_over}
 use Rattle.mr_pages.specs.private.Walks.{ReadsChecked, WalksBelowLink}
 use Rattle.mr_tree.specs.Tree.{first_level}
 use Rattle.mr_pages.specs.Stands as placed
 use Rattle.mr_pages.specs.Stands.{tree_of}
 use Rattle.mr_pages.specs.private.Spelled.{row, place}
 use Rattle.mr_pages.proofs.Building.{what_is_found}
+use Rattle.mr_pages.proofs.Fits.{level_known, count_known}
 use Rattle.mr_pages.proofs.Judged.{entry_same, level_same}
 use Rattle.mr_pages.proofs.ViewPages.{node_tells}
 use Rattle.mr_pages.proofs.Rules.{node_sound}
@@ -69,6 +72,38 @@ knows_of hash c root n o v fits none is = record {
   digest = ap (λ m. hash.of (view.preimage_of hash.version m)) is ∙ ap (λ (k : Entry). k.digest) (entry_same hash n)
       ∙ (node_sound hash root (child_link c) (page_node n) none).digest;
 }
+
+-- the same as its entry, where a root has the count that is said of it
+has_count : (root : Bool) (a b : ℕ) → (root ≡ false → a ≡ b) → (root ≡ true → b ≡ a) → a ≡ b
+has_count true a b below counted = sym (counted refl)
+has_count false a b below counted = below refl
+
+pub suits_of : (hash : Scheme) (c : Child) (root : Bool) (n : view.Node) (o : owned_type.Node) →
+    view.IsView n → IsNode hash.version (page_node n) × (level_of (page_node n) ≡ c.level) →
+    node_faults hash root (child_link c) (Some (page_node n)) ≡ [] → owned o ≡ n → SuitsChild hash root c o
+suits_of hash c root n o v fits none is =
+    subst (λ m. IsCounted root c (view.count_over hash.version m) → SuitsEntry hash root c m) (sym is) suits
+  where
+    suits : IsCounted root c (view.count_over hash.version n) → SuitsEntry hash root c n
+    suits counted =
+        let told = node_tells hash.version n fits.0 in
+        let sound = node_sound hash root (child_link c) (page_node n) none in
+        let same = entry_same hash n in
+        record {
+          fits = v;
+          some = (shape_of hash.version n v fits.0 told).some;
+          told = told;
+          known = λ i. record {
+            level = (sym (level_known hash n ∙ level_same n ∙ fits.1)) i;
+            rect = (sym (ap (λ (e : Entry). e.rect) same ∙ sound.rect)) i;
+            mask = (sym (ap (λ (e : Entry). e.mask) same ∙ sound.sums.mask)) i;
+            count = (sym (has_count root (view.entry_over hash n).count c.count
+                (λ below. ap (λ (e : Entry). e.count) same ∙ sound.sums.count below)
+                (λ is_root. counted is_root ∙ sym (count_known hash n)))) i;
+            digest = (sym (ap (λ (e : Entry). e.digest) same ∙ sound.digest)) i;
+          };
+          full = sound.full;
+        }
 
 -- ---- what is met
 
@@ -203,73 +238,102 @@ inner_known hash at root c n cs k is f =
 
 -- ---- what is made
 
-pub made_more : {M : Type 0} (makes : M → Tree → Type 0) (ms : List M) (ts : List Tree) (m : M) (t : Tree) →
-    AreMade makes ms ts → makes m t → AreMade makes (ms ++ m ∷ []) (ts ++ t ∷ [])
-made_more makes [] [] m t all one = (one, tt)
-made_more makes [] (u ∷ us) m t all one = absurd all
-made_more makes (n ∷ ns) [] m t all one = absurd all
-made_more makes (n ∷ ns) (u ∷ us) m t all one = (all.0, made_more makes ns us m t all.1 one)
+pub made_more : {S M : Type 0} (makes : S → S → Child → M → Tree → Type 0) (s u v : S) (cs : List Child) (ms : List M)
+    (ts : List Tree) (c : Child) (m : M) (t : Tree) → AreMade makes s u cs ms ts → makes u v c m t →
+    AreMade makes s v (cs ++ c ∷ []) (ms ++ m ∷ []) (ts ++ t ∷ [])
+made_more makes s u v [] [] [] c m t all one = (v, subst (λ w. makes w v c m t) all one, refl)
+made_more makes s u v (d ∷ ds) (n ∷ ns) (r ∷ rs) c m t all one =
+    (all.0, all.1, made_more makes all.0 u v ds ns rs c m t all.2 one)
+made_more makes s u v [] [] (r ∷ rs) c m t all one = absurd all
+made_more makes s u v [] (n ∷ ns) ts c m t all one = absurd all
+made_more makes s u v (d ∷ ds) [] ts c m t all one = absurd all
+made_more makes s u v (d ∷ ds) (n ∷ ns) [] c m t all one = absurd all
 
 -- trees are what they stand for
-pub made_are : (ms ts : List Tree) → AreMade (λ (m t : Tree). m ≡ t) ms ts → ms ≡ ts
-made_are [] [] all = refl
-made_are [] (t ∷ ts) all = absurd all
-made_are (m ∷ ms) [] all = absurd all
-made_are (m ∷ ms) (t ∷ ts) all = λ i. all.0 i ∷ made_are ms ts all.1 i
+pub made_are : {S : Type 0} (s u : S) (cs : List Child) (ms ts : List Tree) →
+    AreMade (λ (s u : S) (c : Child) (m t : Tree). m ≡ t) s u cs ms ts → ms ≡ ts
+made_are s u [] [] [] all = refl
+made_are s u (c ∷ cs) (m ∷ ms) (t ∷ ts) all = λ i. all.1 i ∷ made_are all.0 u cs ms ts all.2 i
+made_are s u [] [] (t ∷ ts) all = absurd all
+made_are s u [] (m ∷ ms) ts all = absurd all
+made_are s u (c ∷ cs) [] ts all = absurd all
+made_are s u (c ∷ cs) (m ∷ ms) [] all = absurd all
 
 -- the trees below this many children
 abbrev pub trees_below : (ℕ → Option Node) → Link → List Child → List Tree
 trees_below at link items = map (λ (c : Child). tree_of (place at (link.entry.level - 1) (child_link c))) items
 
-pub leaf_made : {M : Type 0} (makes : M → Tree → Type 0) (at : ℕ → Option Node) (root : Bool) (link : Link)
-    (rs : List Record) (below : List M) (m : M) → found at link ≡ Some (Leaf rs) → below ≡ [] →
-    ((ts : List Tree) → AreMade makes below ts → makes m (tree.Leaf rs)) →
-    makes m (tree_of (place at link.entry.level link))
-leaf_made makes at root link rs below m is none made =
-    subst (makes m) (ap tree_of (sym (at_leaf at root link rs is).spelled))
-    (made [] (subst (λ xs. AreMade makes xs []) (sym none) tt))
+-- what is made of a node, from what was made of its children
+abbrev pub MakesNode : {S M : Type 0} → (Scheme → Bool → S → S → Child → M → Tree → Type 0) → Child →
+    owned_type.Node → (mid after : S) → List M → M → Type 0
+MakesNode {S} makes c n mid after below m = (x : Scheme) (root : Bool) (before : S) (ts : List Tree) →
+    SuitsChild x root c n → AreMade (makes x false) before mid (view.children_in (owned n)) below ts →
+    makes x root before after c m (tree_over n ts)
 
-pub child_made : {M : Type 0} (makes : M → Tree → Type 0) (at : ℕ → Option Node) (root : Bool) (link : Link)
-    (cs items : List Child) (below more : List M) (m : M) (i : ℕ) (one : Child) →
-    AtInner at root link (map child_link cs) → items ≡ cs → i < length items → one ≡ get_or items i one →
-    AreMade makes below (trees_below at link (take i items)) →
-    makes m (tree_of (place at one.level (child_link one))) → more ≡ below ++ m ∷ [] →
-    AreMade makes more (trees_below at link (take (i + 1) items))
-child_made makes at root link cs items below more m i one inner same within is all made push =
-    let low : one.level ≡ link.entry.level - 1 = child_level (link.entry.level - 1) items (subst
-    (λ xs. AllByRecursion (λ (l : Link). l.entry.level ≡ link.entry.level - 1) (map child_link xs)) (sym same)
-    inner.levels) i one within is in
-    let here : Tree = tree_of (place at (link.entry.level - 1) (child_link one)) in
-    subst (λ xs. AreMade makes xs (trees_below at link (take (i + 1) items))) (sym push)
-    (subst (AreMade makes (below ++ m ∷ []))
-    (map_one_more (λ (c : Child). tree_of (place at (link.entry.level - 1) (child_link c))) items i one within is)
-    (made_more makes below (trees_below at link (take i items)) m here all
-    (subst (λ n. makes m (tree_of (place at n (child_link one)))) low made)))
+module _ {S M : Type 0} (x : Scheme) (makes : Scheme → Bool → S → S → Child → M → Tree → Type 0) (at : ℕ → Option Node)
+    (root : Bool) (c : Child) where
+  abbrev link : Link
+  link = child_link c
 
-pub inner_made : {M : Type 0} (makes : M → Tree → Type 0) (at : ℕ → Option Node) (root : Bool) (link : Link)
-    (cs items : List Child) (below : List M) (m : M) (n : ℕ) → AtInner at root link (map child_link cs) →
-    items ≡ cs → take n items ≡ items → AreMade makes below (trees_below at link (take n items)) →
-    ((ts : List Tree) → AreMade makes below ts → makes m (tree.Inner ts)) →
-    makes m (tree_of (place at link.entry.level link))
-inner_made makes at root link cs items below m n inner same whole all made =
-    subst (makes m)
-    (ap tree.Inner (ap (trees_below at link) (whole ∙ same) ∙ images cs
-    ∙ sym (trees_of_row (place at (link.entry.level - 1)) (map child_link cs))) ∙ ap tree_of (sym inner.spelled))
-    (made (trees_below at link (take n items)) all)
-  where
-    images : (xs : List Child) → trees_below at link xs
-        ≡ map (λ l. tree_of (place at (link.entry.level - 1) l)) (map child_link xs)
-    images [] = refl
-    images (x ∷ xs) = ap (λ ts. tree_of (place at (link.entry.level - 1) (child_link x)) ∷ ts) (images xs)
+  pub leaf_made : (n : owned_type.Node) (rs : List Record) (before mid after : S) (below : List M) (m : M) →
+      found at link ≡ Some (Leaf rs) → owned n ≡ Leaf rs → ((ts : List Tree) → tree_over n ts ≡ tree.Leaf rs) →
+      below ≡ [] → mid ≡ before → SuitsChild x root c n → MakesNode makes c n mid after below m →
+      makes x root before after c m (tree_of (place at c.level link))
+  leaf_made n rs before mid after below m is own top none same suits made =
+      subst (makes x root before after c m) (top [] ∙ ap tree_of (sym (at_leaf at root link rs is).spelled))
+      (made x root before [] suits
+      (subst (λ k. AreMade (makes x false) before mid (view.children_in k) below []) (sym own)
+      (subst (λ ms. AreMade (makes x false) before mid [] ms []) (sym none) same)))
+
+  pub child_made : (cs items : List Child) (before mid after : S) (below more : List M) (m : M) (i : ℕ) (one : Child) →
+      AtInner at root link (map child_link cs) → items ≡ cs → i < length items → one ≡ get_or items i one →
+      AreMade (makes x false) before mid (take i items) below (trees_below at link (take i items)) →
+      makes x false mid after one m (tree_of (place at one.level (child_link one))) → more ≡ below ++ m ∷ [] →
+      AreMade (makes x false) before after (take (i + 1) items) more (trees_below at link (take (i + 1) items))
+  child_made cs items before mid after below more m i one inner same within is all made push =
+      let low : one.level ≡ link.entry.level - 1 = child_level (link.entry.level - 1) items (subst
+      (λ xs. AllByRecursion (λ (l : Link). l.entry.level ≡ link.entry.level - 1) (map child_link xs)) (sym same)
+      inner.levels) i one within is in
+      let here : Tree = tree_of (place at (link.entry.level - 1) (child_link one)) in
+      let ds : take (i + 1) items ≡ take i items ++ one ∷ [] =
+      take_more items i one within ∙ ap (λ y. take i items ++ y ∷ []) (sym is) in
+      subst (λ xs. AreMade (makes x false) before after (take (i + 1) items) xs
+      (trees_below at link (take (i + 1) items))) (sym push)
+      (subst (AreMade (makes x false) before after (take (i + 1) items) (below ++ m ∷ []))
+      (map_one_more (λ (d : Child). tree_of (place at (link.entry.level - 1) (child_link d))) items i one within is)
+      (subst (λ ys. AreMade (makes x false) before after ys (below ++ m ∷ [])
+      (trees_below at link (take i items) ++ here ∷ [])) (sym ds)
+      (made_more (makes x false) before mid after (take i items) below (trees_below at link (take i items)) one m here
+      all (subst (λ n. makes x false mid after one m (tree_of (place at n (child_link one)))) low made))))
+
+  pub inner_made : (n : owned_type.Node) (cs items : List Child) (before mid after : S) (below : List M) (m : M)
+      (i : ℕ) → AtInner at root link (map child_link cs) → items ≡ cs → take i items ≡ items → owned n ≡ Inner items →
+      ((ts : List Tree) → tree_over n ts ≡ tree.Inner ts) →
+      AreMade (makes x false) before mid (take i items) below (trees_below at link (take i items)) →
+      SuitsChild x root c n → MakesNode makes c n mid after below m →
+      makes x root before after c m (tree_of (place at c.level link))
+  inner_made n cs items before mid after below m i inner same whole own top all suits made =
+      subst (makes x root before after c m)
+      (top (trees_below at link (take i items)) ∙ ap tree.Inner (ap (trees_below at link) (whole ∙ same) ∙ images cs
+      ∙ sym (trees_of_row (place at (link.entry.level - 1)) (map child_link cs))) ∙ ap tree_of (sym inner.spelled))
+      (made x root before (trees_below at link (take i items)) suits
+      (subst (λ k. AreMade (makes x false) before mid (view.children_in k) below
+      (trees_below at link (take i items))) (sym own)
+      (subst (λ ys. AreMade (makes x false) before mid ys below (trees_below at link (take i items))) whole all)))
+    where
+      images : (xs : List Child) → trees_below at link xs
+          ≡ map (λ l. tree_of (place at (link.entry.level - 1) l)) (map child_link xs)
+      images [] = refl
+      images (y ∷ ys) = ap (λ ts. tree_of (place at (link.entry.level - 1) (child_link y)) ∷ ts) (images ys)
 
 -- what a walk comes to below some of a node's children, and what was made of these
-pub record WalkedBelow {M : Type 0} (hash : Scheme) (makes : M → Tree → Type 0) (pages : ℕ) (old : Visited)
-    (root : Bool)
+pub record WalkedBelow {S M : Type 0} (hash : Scheme) (makes : S → S → Child → M → Tree → Type 0) (s u : S)
+    (pages : ℕ) (old : Visited) (root : Bool)
     (link : Link) (cs items : List Child) (below : List M) (new' : Visited) (f : File) : Type 0 where
   pub inner : AtInner f.node root link (map child_link cs)
   pub passed : (before : List Visit) → Saw pages old (reached before) (numbers_of (all_records before)) →
       PassedBelow hash pages f.node before root link items new'
-  pub made : AreMade makes below (trees_below f.node link items)
+  pub made : AreMade makes s u items below (trees_below f.node link items)
 
 -- ---- what a walk leaves
 

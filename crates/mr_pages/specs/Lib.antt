@@ -8,6 +8,7 @@ pub mod Law
 pub mod Saved
 pub mod Walking
 pub mod Opening
+pub mod Gathering
 pub mod Source
 pub mod private
 pub mod Making

@@ -8,6 +8,11 @@ use Rattle.mr_outside.specs.State.{Shelved}
 use Rattle.mr_outside.specs.Told.{MayMiss}
 use Rattle.mr_outside.specs.declared.shelf.ShelfErr.{ShelfErr}
 use Rattle.mr_outside.specs.declared.shelf.ShelfErr.TheVariants as shelf
+use Rattle.mr_tree.specs.declared.hash.Hashes as hashes
+use Rattle.mr_tree.specs.declared.snapshot.Snapshot.{Snapshot}
+use Rattle.mr_tree.specs.Snapshot.{tree_of}
+use Rattle.mr_tree.specs.declared.nodes.Top.{Top}
+use Rattle.mr_tree.specs.declared.stored.Stored.{Stored}
 use Rattle.mr_tree.specs.declared.nodes.NodesErr.{NodesErr}
 use Rattle.mr_tree.specs.declared.nodes.NodesErr.TheVariants as nodes
 use Rattle.mr_pages.specs.PageBytes.{page_size, form_by}
@@ -36,6 +41,21 @@ of_nodes (nodes.Outside page) = errors.Map (record { page = page; rule = rule.Ou
 of_nodes nodes.Missing = errors.Missing
 of_nodes nodes.Fault = errors.Fault
 of_nodes nodes.NoMemory = errors.NoMemory
+
+-- ---- what was opened
+
+-- the map that is in memory, by its nodes and its head
+abbrev pub opened_in : List Stored → Top → Opened
+opened_in nodes top = record
+    { tree = tree_of nodes top; version = top.version; batch = top.batch }
+
+abbrev pub opened_of : {H : Type 0} {K : hashes.Ghosts H} → Snapshot H K → Opened
+opened_of s = opened_in s.nodes.items s.top
+
+-- the answer of a call whose values show this
+abbrev pub opened_as : {A : Type 0} → (A → Opened) → Result A MapErr → Result Opened MapErr
+opened_as shows (Ok made) = Ok (shows made)
+opened_as shows (Err e) = Err e
 
 -- how many pages a file of these bytes has, or 1 where what was read of it tells that it has none;
 -- and of a file that is smaller than any page nothing is read

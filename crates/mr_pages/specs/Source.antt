@@ -19,23 +19,18 @@ use Rattle.mr_pages.specs.declared.visited.Visited.{Visited}
 use Rattle.mr_pages.specs.Page.{Link, Form, IsHead}
 use Rattle.mr_pages.specs.File.{File, page_at, pages_of, version_of}
 use Rattle.mr_record.specs.declared.version.Version.{Version}
-use Rattle.mr_pages.specs.Stands.{whole_tree}
-use Rattle.mr_pages.specs.private.Spelled.{placed_at}
 use Rattle.mr_pages.specs.Faults.{has, reached, walk, mapfault}
 use Rattle.mr_pages.specs.Walking.{child_link, page_node, owned, head_of}
 use Rattle.mr_pages.specs.declared.checking.Checked.{Checked}
 use Rattle.mr_tree.specs.Digest.{Scheme, by}
-use Rattle.mr_tree.specs.declared.tree.Tree.{Tree}
-use Rattle.mr_tree.specs.declared.tree.Tree.TheVariants as tree
-use Rattle.mr_pages.specs.declared.node.Node.TheVariants as owned_node
 
 -- where they come from: a file by its name, and all files where they are told; how its pages are
--- spelled; and the reference to the shelf, where it is not owned
+-- spelled; and the references to the shelf and to what is made, where they are not owned
 pub record Origin : Type 0 where
   pub name : List ℕ
   pub files : Option Files
   pub form : Form
-  pub lent : ℕ
+  pub lent : ℕ × ℕ
 
 pub record Sourced : Type 0 where
   pub origin : Origin
@@ -116,17 +111,6 @@ pub record MatchesChild (s : Scheme) (c : Child) (n : owned_type.Node) : Type 0 
   pub told : view.AreTold s.version (owned n)
   pub level : view.level_of (owned n) ≡ c.level
   pub digest : s.of (view.preimage_of s.version (owned n)) ≡ c.digest
-
--- the tree with this node on top, over those of its children
-abbrev pub tree_over : owned_type.Node → List Tree → Tree
-tree_over (owned_node.Leaf records) ts = tree.Leaf records.items
-tree_over (owned_node.Inner children) ts = tree.Inner ts
-
--- these were made, and each stands for its tree
-abbrev pub AreMade : {M : Type 0} → (M → Tree → Type 0) → List M → List Tree → Type 0
-AreMade makes [] [] = ⊤
-AreMade makes (m ∷ ms) (t ∷ ts) = makes m t × AreMade makes ms ts
-AreMade makes _ _ = ⊥
 
 -- a node that may be kept: its children are in the file, and it is the one on its page
 pub record MayKeep (hash : List ℕ →
@@ -210,17 +194,12 @@ ChecksFile hash file (Err _) = ⊤
 abbrev pub AllKept : File → Option Link → (ℕ → Type 0) → Type 0
 AllKept file root keeps = (page : ℕ) → has page (reached (walk file.node root)) ≡ true → keeps page
 
--- the tree that was made is the one that the pages below a root spell
-abbrev pub MakesTree : {M : Type 0} → (M → Tree → Type 0) → Option Link → M → File → Type 0
-MakesTree makes root m f = makes m (whole_tree (placed_at f.node root))
-
 -- what checking a file comes to, and what was made of the nodes
 pub record CheckedWhole {M : Type 0} (v : Version) (hash : List ℕ → List ℕ)
-    (makes : M → Tree → Type 0) (pages : ℕ) (result : Result (Checked M) MapErr) (f : File)
-    : Type 0 where
+    (makes : Option Child → Option M → File → Type 0) (pages : ℕ)
+    (result : Result (Checked M) MapErr) (f : File) : Type 0 where
   pub checks : f.version ≡ v → f.pages ≡ pages → ChecksFile hash f result
-  pub made : IfOk result
-      (λ c. MakesTree makes (option_map child_link c.head.root) c.made f)
+  pub made : IfOk result (λ c. makes c.head.root c.made f)
 
 -- the root's page is in the file
 pub record IsRootIn (pages : ℕ) (c : Child) : Type 0 where

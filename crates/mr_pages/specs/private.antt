@@ -4,3 +4,4 @@ pub mod Numbers
 pub mod Judging
 pub mod Putting
 pub mod Walks
+pub mod Copying

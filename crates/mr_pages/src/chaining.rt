@@ -20,6 +20,7 @@ fn step<P: Source>(pages: &mut P, page: u32, seen: &mut Visited) -> Result<u32, 
     ensures goes { ReadsWithinRoom (P.state pages.old) (P.state pages.new) (left seen.old)
         (left seen.new)
         result }
+    ensures holds { P.held pages.new ≡ P.held pages.old }
     ensures stay { Stay (P.keeps pages.old) (P.keeps pages.new) }
 {
     if let Some(_) = seen.enter(page) {
@@ -47,6 +48,7 @@ pub fn chain<P: Source>(pages: &mut P, first: u32, seen: &mut Visited) -> Result
     ensures goes { ReadsWithinRoom (P.state pages.old) (P.state pages.new) (left seen.old)
         (left seen.new)
         result }
+    ensures holds { P.held pages.new ≡ P.held pages.old }
     ensures stay { Stay (P.keeps pages.old) (P.keeps pages.new) }
 {
     let mut next = first;

@@ -1,11 +1,10 @@
 //! Whether a file stands for a map: page 0, the walk, the count of records, the chain of free
 //! pages.
 
-ghost use Rattle.std.specs.Prelude.{◌≡◌, ◌≤◌, ◌-◌, length, [], Some, IfOk, IfErr, IfSome, OnOk, option_map};
+ghost use Rattle.std.specs.Prelude.{◌≡◌, ◌≤◌, ◌-◌, length, [], Some, IfOk, IfErr, IfSome, OnOk, option_map, true};
 ghost use Rattle.mr_tree.specs.Digest.{by};
 ghost use Rattle.mr_pages.specs.File.{File};
-ghost use Rattle.mr_pages.specs.Stands.{whole_tree};
-ghost use Rattle.mr_pages.specs.private.Spelled.{placed_at};
+ghost use Rattle.mr_pages.specs.Gathering.{MakesTree};
 ghost use Rattle.mr_pages.specs.Source.{AllKept, CheckedWhole, ChecksFile, GivesFile, ReadsWithinRoom, IsRootIn, SaysHead, SaysOnce, IfNotFailed, Stay, left};
 ghost use Rattle.mr_pages.specs.private.Walks.{CheckedBehind, GivesPages, GivesAll, WalkedAll};
 ghost use Rattle.mr_pages.specs.Walking.{child_link, Saw};
@@ -19,11 +18,11 @@ use crate::{MapErr, MapFault, MapRule};
 use mr_tree::{Child, NodeView};
 use std::alloc::Global;
 
-/// A map without a fault: what page 0 says, and what was made of the nodes.
+/// A map without a fault: what page 0 says, and what was made of its root node, if it has one.
 #[derive(Drop)]
 pub struct Checked<M: Drop> {
     pub head: MapHead,
-    pub made: M,
+    pub made: Option<M>,
 }
 
 // The walk from the root on.
@@ -32,10 +31,12 @@ fn visit_all<P: Source>(
     pages: &mut P,
     root: &Option<Child>,
     seen: &mut Visited,
-) -> Result<P::Made, MapErr>
+) -> Result<Option<P::Made>, MapErr>
     requires none { Saw (P.state pages.old).pages seen.old [] [] }
     ensures told { IfNotFailed result (GivesPages (P.state pages.old) seen.old seen.new
-        (WalkedAll (by (P.state pages.old).origin.form.version P.Hash.of) P.makes
+        (WalkedAll (by (P.state pages.old).origin.form.version P.Hash.of)
+        (MakesTree (P.makes (by (P.state pages.old).origin.form.version P.Hash.of) true)
+        (P.held pages.old) (P.held pages.new) root.now)
         (P.state pages.old).pages (option_map child_link root.now)
         result seen.new)) }
     ensures of_one_read { IfErr result SaysOnce }
@@ -48,15 +49,24 @@ fn visit_all<P: Source>(
         result }
 {
     match root {
-        None => Ok(pages.none()),
-        Some(child) => visit::<P>(alloc, pages, child, true, &mut NodeView::new(), seen),
+        None => Ok(None),
+        Some(child) => match visit::<P>(alloc, pages, child, true, &mut NodeView::new(), seen) {
+            Ok(made) => Ok(Some(made)),
+            Err(error) => Err(error),
+        },
     }
 }
 
 // What is behind page 0.
-fn check_behind<P: Source>(alloc: Global, pages: &mut P, head: &MapHead) -> Result<P::Made, MapErr>
+fn check_behind<P: Source>(
+    alloc: Global,
+    pages: &mut P,
+    head: &MapHead,
+) -> Result<Option<P::Made>, MapErr>
     ensures told { IfNotFailed result (GivesAll (P.state pages.old)
-        (CheckedBehind (P.state pages.old).origin.form.version P.Hash.of P.makes
+        (CheckedBehind (P.state pages.old).origin.form.version P.Hash.of
+        (MakesTree (P.makes (by (P.state pages.old).origin.form.version P.Hash.of) true)
+        (P.held pages.old) (P.held pages.new) head.now.root)
         (P.state pages.old).pages head.now result)) }
     ensures of_one_read { IfErr result SaysOnce }
     ensures kept { (file : File) → (P.state pages.old).file ≡ Some file → OnOk result
@@ -85,7 +95,8 @@ fn check_behind<P: Source>(alloc: Global, pages: &mut P, head: &MapHead) -> Resu
     Ok(made)
 }
 
-/// What page 0 of a map without a fault says, and what was made of its nodes, or the first fault.
+/// What page 0 of a map without a fault says, and what was made of its root node and of all below
+/// it, or the first fault.
 ///
 /// Each page is read at most once. Where the file is not told, the answer is that of some bytes.
 pub fn check<P: Source>(alloc: Global, pages: &mut P) -> Result<Checked<P::Made>, MapErr>
@@ -94,9 +105,12 @@ pub fn check<P: Source>(alloc: Global, pages: &mut P) -> Result<Checked<P::Made>
         file.version ≡ (P.state pages.old).origin.form.version →
         file.pages ≡ (P.state pages.old).pages → ChecksFile P.Hash.of file result }
     ensures made { (file : File) → (P.state pages.old).file ≡ Some file → IfOk result (λ c.
-        P.makes c.made (whole_tree (placed_at file.node (option_map child_link c.head.root)))) }
+        MakesTree (P.makes (by (P.state pages.old).origin.form.version P.Hash.of) true)
+        (P.held pages.old) (P.held pages.new) c.head.root c.made file) }
     ensures of_some_bytes { IfNotFailed result (GivesFile (P.state pages.old)
-        (CheckedWhole (P.state pages.old).origin.form.version P.Hash.of P.makes
+        (CheckedWhole (P.state pages.old).origin.form.version P.Hash.of
+        (MakesTree (P.makes (by (P.state pages.old).origin.form.version P.Hash.of) true)
+        (P.held pages.old) (P.held pages.new))
         (P.state pages.old).pages result)) }
     ensures of_one_read { IfErr result SaysOnce }
     ensures kept { (file : File) → (P.state pages.old).file ≡ Some file → IfOk result (λ c.

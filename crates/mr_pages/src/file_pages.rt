@@ -1,23 +1,28 @@
-//! The pages of a file on a shelf, of which its tree is made.
+//! The pages of a file on a shelf.
 
-ghost use Rattle.std.specs.Prelude.{◌≡◌, ◌/◌, ◌≤◌, ⊤, true, false, List, IfOk, OnOk, MatchOption};
+ghost use Rattle.std.specs.Prelude.{◌≡◌, ◌/◌, ◌≤◌, ⊤, Bool, true, false, List, IfOk, OnOk, MatchOption};
 ghost use Rattle.std.proofs.Props.{props};
+ghost use Rattle.mr_tree.specs.Digest.{Scheme};
+ghost use Rattle.mr_tree.specs.View.{children_in};
 ghost use Rattle.mr_tree.specs.declared.tree.Tree as trees;
 ghost use Rattle.mr_pages.specs.PageBytes.{form_of, IsLayout};
 ghost use Rattle.mr_pages.specs.File.{is_odd_size};
 ghost use Rattle.mr_pages.specs.Page.{page_limit};
-ghost use Rattle.mr_pages.specs.Source.{AreMade, Stay, tree_over};
+ghost use Rattle.mr_pages.specs.Walking.{owned};
+ghost use Rattle.mr_pages.specs.Source.{Stay};
+ghost use Rattle.mr_pages.specs.Gathering.{AreMade, SuitsChild, tree_over};
 ghost use Rattle.mr_pages.specs.private.Walks.{HasFirst, IsPaged, on_shelf};
 
 use crate::head::MapHead;
 use crate::layout::{Layout, PAGE_LIMIT, SECOND_SIZE};
+use crate::maker::Maker;
 use crate::node::Node;
 use crate::page::{free_on, head_on, node_on};
 use crate::reading::page_into;
 use crate::rule::MapRule;
 use crate::source::Source;
-use mr_outside::{Items, Shelf, ShelfErr};
-use mr_tree::{Child, Hashes, NodeView, Tree};
+use mr_outside::{Shelf, ShelfErr};
+use mr_tree::{Child, Hashes, NodeView};
 use std::alloc::AllocError;
 use std::marker::PhantomData;
 
@@ -34,15 +39,17 @@ pub fn page_count(layout: Layout, size: u64) -> Option<u32>
     Some((size / page_size) as u32)
 }
 
-/// So many pages of a file on a shelf, each read by itself, but for page 0, which was read before.
+/// So many pages of a file on a shelf, each read by itself, but for page 0, which was read before;
+/// and what is made of their nodes.
 #[derive(Drop)]
-pub struct FilePages<'a, 'b, 'c, S: Shelf, H: Hashes> {
+pub struct FilePages<'a, 'b, 'c, 'd, S: Shelf, H: Hashes, G: Maker> {
     pub shelf: &'a mut S,
     pub name: &'b str,
     pub first: &'c [u8],
     pub layout: Layout,
     pub pages: u32,
     pub hash: PhantomData<H>,
+    pub into: &'d mut G,
     ghost few: { pages ≤ page_limit },
     ghost fits: { IsLayout layout },
     ghost paged: { IsPaged (form_of layout) pages (S.state shelf.now).files
@@ -51,17 +58,21 @@ pub struct FilePages<'a, 'b, 'c, S: Shelf, H: Hashes> {
         first.now } by { Prim.hlevel props },
 }
 
-impl<S: Shelf, H: Hashes> Source for FilePages<'_, '_, '_, S, H> {
+impl<S: Shelf, H: Hashes, G: Maker> Source for FilePages<'_, '_, '_, '_, S, H, G> {
     type Hash = H;
 
-    type Made = Tree;
+    type Made = G::Made;
 
-    ghost state = { λ s. on_shelf (form_of s.layout) s.shelf.ghost_name s.pages
+    type Held = G::Held;
+
+    ghost state = { λ s. on_shelf (form_of s.layout) (s.shelf.ghost_name, s.into.ghost_name) s.pages
         (S.state s.shelf.now) s.name.now };
 
     ghost keeps = { λ s page. ⊤ };
 
-    ghost makes = { λ made t. made ≡ t };
+    ghost held = { λ s. G.held s.into.now };
+
+    ghost makes = { G.makes };
 
     fn count(&self) -> u32 {
         self.pages
@@ -93,23 +104,26 @@ impl<S: Shelf, H: Hashes> Source for FilePages<'_, '_, '_, S, H> {
         Ok(free_on(self.layout, bytes))
     }
 
-    fn none(&self) -> Tree {
-        Tree::Empty
-    }
-
-    fn make(&mut self, _child: &Child, node: Node, below: Vec<Tree>) -> Result<Tree, AllocError>
-        ensures same { on_shelf (form_of self.new.layout) self.new.shelf.ghost_name self.new.pages
+    fn make(
+        &mut self,
+        child: &Child,
+        node: Node,
+        below: Vec<G::Made>,
+    ) -> Result<G::Made, AllocError>
+        ensures same { on_shelf (form_of self.new.layout) (self.new.shelf.ghost_name, self.new.into.ghost_name)
+            self.new.pages
             (S.state self.new.shelf.now) self.new.name.now
-            ≡ on_shelf (form_of self.old.layout) self.old.shelf.ghost_name self.old.pages
+            ≡ on_shelf (form_of self.old.layout) (self.old.shelf.ghost_name, self.old.into.ghost_name)
+            self.old.pages
             (S.state self.old.shelf.now) self.old.name.now }
-        ensures made { IfOk result (λ made. (ts : List trees.Tree) →
-            AreMade (λ one t. one ≡ t) below.items ts → made ≡ tree_over node ts) }
+        ensures made { IfOk result (λ m. (x : Scheme) (root : Bool) (before : G.Held)
+            (ts : List trees.Tree) → SuitsChild x root child.now node →
+            AreMade (G.makes x false) before (G.held self.old.into.now) (children_in (owned node))
+            below.items ts →
+            G.makes x root before (G.held self.new.into.now) child.now m (tree_over node ts)) }
         ensures kept { OnOk result ⊤ }
         ensures stay { Stay (λ page. ⊤) (λ page. ⊤) }
     {
-        match node {
-            Node::Leaf(records) => Ok(Tree::Leaf(Items::of(records))),
-            Node::Inner(_) => Ok(Tree::Inner(Items::of(below))),
-        }
+        self.into.make_of(child, node, below)
     }
 }

@@ -3,11 +3,13 @@
 
 mod chaining;
 mod checking;
+mod copying;
 mod error;
 mod file_pages;
 mod head;
 mod judging;
 mod layout;
+mod maker;
 mod making;
 mod node;
 mod numbers;
@@ -21,8 +23,10 @@ mod source;
 mod table;
 mod visited;
 mod visiting;
+mod whole;
 
 pub use checking::{Checked, check};
+pub use copying::{moved_to, put_stored};
 pub use error::MapErr;
 pub use file_pages::page_count;
 pub use head::{MapHead, head_root};
@@ -30,7 +34,7 @@ pub use judging::{has_fill, has_rect, has_sums, is_fit};
 pub use layout::{FIRST, Layout, PAGE_LIMIT, PAGE_SIZE, SECOND, SECOND_SIZE};
 pub use node::Node;
 pub use numbers::Numbers;
-pub use opening::{Opened, open_plain};
+pub use opening::{Opened, open_plain, open_snapshot};
 pub use page::{
     digest_on, free_on, head_on, level_of_root, node_on, put_free, put_head, put_node,
     read_free_page, read_head, read_head2, read_page, read_page2, write_free_page, write_head_page,

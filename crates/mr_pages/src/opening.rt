@@ -4,29 +4,27 @@ ghost use Rattle.std.specs.Prelude.{◌≡◌, ◌≤◌, ◌+◌, ◌/◌, ⊤,
 ghost use Rattle.mr_outside.specs.Told.{OfFile, HoldBytes};
 ghost use Rattle.mr_record.specs.private.Bytes.{AreBytes};
 ghost use Rattle.mr_record.specs.declared.version.Version as versions;
-ghost use Rattle.mr_pages.specs.PageBytes.{form_of, form_by, IsLayout};
+ghost use Rattle.mr_pages.specs.PageBytes.{form_by};
+ghost use Rattle.mr_tree.specs.Snapshot.{tree_of};
 ghost use Rattle.mr_tree.specs.WellFormed.{WellFormed, HasLayers};
 ghost use Rattle.mr_tree.specs.declared.tree.Tree as trees;
 ghost use Rattle.mr_pages.specs.declared.rule.MapFault.{MapFault};
-ghost use Rattle.mr_pages.specs.Page.{page_limit};
 ghost use Rattle.mr_pages.specs.File.{file_of, form_at, version_of};
 ghost use Rattle.mr_pages.specs.Stands.{StandsForTree};
 ghost use Rattle.mr_pages.specs.Faults.{mapfault};
 ghost use Rattle.mr_pages.specs.Law.{IsOnlyMap, AgreesWithFault};
-ghost use Rattle.mr_pages.specs.Opening.{pages_in, FailsWithoutFault, AnswersMap, SomeBytes, SomeFile, TellsBytes, MapCauses};
+ghost use Rattle.mr_pages.specs.Opening.{opened_as, opened_of, pages_in, FailsWithoutFault, SomeBytes, SomeFile, TellsBytes, MapCauses};
 ghost use Rattle.mr_pages.specs.Source.{IsFrontOfFile};
-ghost use Rattle.mr_pages.specs.private.Walks.{HasFirst, IsPaged};
 
-use crate::checking::{Checked, check};
-use crate::file_pages::{FilePages, page_count};
+use crate::file_pages::page_count;
 use crate::layout::{Layout, PAGE_SIZE, SECOND_SIZE};
 use crate::reading::read_front;
+use crate::whole::Whole;
 use crate::{MapErr, MapFault, MapRule};
 use mr_outside::Shelf;
 use mr_record::Version;
-use mr_tree::{Hash32, Hashes, Tree};
+use mr_tree::{Hash32, Hashes, Snapshot, Tree};
 use std::alloc::Global;
-use std::marker::PhantomData;
 
 /// A map that was opened.
 #[derive(Drop)]
@@ -42,62 +40,24 @@ const SIZE_FAULT: MapErr = MapErr::Map(MapFault {
     rule: MapRule::Size,
 });
 
-// The map that so many pages of a file stand for, or their first fault. Page 0 was read before.
-fn open_pages<'a, 'b, 'c, H: Hashes, S: Shelf>(
-    alloc: Global,
-    layout: Layout,
-    shelf: &'a mut S,
-    name: &'b str,
-    first: &'c [u8],
-    pages: u32,
-) -> Result<Opened, MapErr>
-    requires layout { IsLayout layout }
-    requires paged { IsPaged (form_of layout) pages (S.state shelf.old).files name.now }
-    requires first { HasFirst (form_of layout) (S.state shelf.old).files name.now first.now }
-    requires some { 1 ≤ pages }
-    requires few { pages ≤ page_limit }
-    ensures told { OfFile (S.state shelf.old).files name.now ⊥
-        (λ bytes. AnswersMap (form_of layout) H.of bytes result) }
-    ensures of_some_bytes { SomeBytes (form_of layout) H.of result }
-    ensures causes { MapCauses name.now (S.state shelf.old) (S.state shelf.new) result }
-    ensures files { (S.state shelf.new).files ≡ (S.state shelf.old).files }
-    ensures reads { (S.state shelf.old).reads ≤ (S.state shelf.new).reads }
-    ensures reads_at_most { (S.state shelf.new).reads + 1 ≤ (S.state shelf.old).reads + pages }
-{
-    let mut source = FilePages::<'a, 'b, 'c, S, H> {
-        shelf,
-        name,
-        first,
-        layout,
-        pages,
-        hash: PhantomData,
-    };
-    let checked = check::<FilePages<'a, 'b, 'c, S, H>>(alloc, &mut source)?;
-    let Checked { head, made } = checked;
-    Ok(Opened {
-        tree: made,
-        version: layout.version,
-        batch: head.batch,
-    })
-}
-
 // The map in a file of this size, whose front was read into the room.
-fn open_front<H: Hashes, S: Shelf>(
+fn open_front<H: Hashes, S: Shelf, W: Whole<H>>(
     alloc: Global,
     version: Version,
     shelf: &mut S,
     name: &str,
     room: &[u8; SECOND_SIZE],
     size: u64,
-) -> Result<Opened, MapErr>
+) -> Result<W, MapErr>
     requires size { OfFile (S.state shelf.old).files name.now ⊥ (λ file. length file ≡ size) }
     requires told { OfFile (S.state shelf.old).files name.now ⊥
         (λ file. IsFrontOfFile file room.now) }
     requires are { OfFile (S.state shelf.old).files name.now ⊥ AreBytes }
-    ensures told { OfFile (S.state shelf.old).files name.now (FailsWithoutFault result)
-        (λ bytes. TellsBytes (form_by version) H.of bytes result) }
-    ensures of_some_bytes { SomeBytes (form_by version) H.of result }
-    ensures causes { MapCauses name.now (S.state shelf.old) (S.state shelf.new) result }
+    ensures told { OfFile (S.state shelf.old).files name.now (FailsWithoutFault (opened_as W.shows result))
+        (λ bytes. TellsBytes (form_by version) H.of bytes (opened_as W.shows result)) }
+    ensures of_some_bytes { SomeBytes (form_by version) H.of (opened_as W.shows result) }
+    ensures causes { MapCauses name.now (S.state shelf.old) (S.state shelf.new)
+        (opened_as W.shows result) }
     ensures files { (S.state shelf.new).files ≡ (S.state shelf.old).files }
     ensures reads { (S.state shelf.old).reads ≤ (S.state shelf.new).reads }
     ensures reads_at_most { OfFile (S.state shelf.old).files name.now
@@ -110,26 +70,27 @@ fn open_front<H: Hashes, S: Shelf>(
         None => Err(SIZE_FAULT),
         Some(pages) => {
             let (first, _) = room.split_at(layout.size);
-            open_pages::<H, S>(alloc, layout, shelf, name, first, pages)
+            W::open_pages::<S>(alloc, layout, shelf, name, first, pages)
         }
     }
 }
 
 // What `open_plain` does.
-fn open_named<H: Hashes, S: Shelf>(
+fn open_named<H: Hashes, S: Shelf, W: Whole<H>>(
     alloc: Global,
     shelf: &mut S,
     name: &str,
-) -> Result<Opened, MapErr>
-    ensures told { OfFile (S.state shelf.old).files name.now (FailsWithoutFault result)
-        (λ bytes. TellsBytes (form_at bytes) H.of bytes result) }
-    ensures of_some_bytes { SomeFile H.of result }
+) -> Result<W, MapErr>
+    ensures told { OfFile (S.state shelf.old).files name.now (FailsWithoutFault (opened_as W.shows result))
+        (λ bytes. TellsBytes (form_at bytes) H.of bytes (opened_as W.shows result)) }
+    ensures of_some_bytes { SomeFile H.of (opened_as W.shows result) }
     ensures law { (v : versions.Version) (bytes : List ℕ) → AreBytes bytes →
         AgreesWithFault (form_by v) H.of bytes }
     ensures agrees { OfFile (S.state shelf.old).files name.now ⊤
         (λ bytes. AgreesWithFault (form_at bytes) H.of bytes) }
     ensures every { HoldBytes (S.state shelf.old).files }
-    ensures causes { MapCauses name.now (S.state shelf.old) (S.state shelf.new) result }
+    ensures causes { MapCauses name.now (S.state shelf.old) (S.state shelf.new)
+        (opened_as W.shows result) }
     ensures files { (S.state shelf.new).files ≡ (S.state shelf.old).files }
     ensures reads { (S.state shelf.old).reads ≤ (S.state shelf.new).reads }
     ensures reads_at_most { let before = (S.state shelf.old).reads in
@@ -143,7 +104,7 @@ fn open_named<H: Hashes, S: Shelf>(
     }
     let mut room = [0; SECOND_SIZE];
     let version = read_front(shelf, name, size, &mut room)?;
-    open_front::<H, S>(alloc, version, shelf, name, &room, size)
+    open_front::<H, S, W>(alloc, version, shelf, name, &room, size)
 }
 
 /// The tree, the version and the batch of the map in a file.
@@ -192,5 +153,46 @@ pub fn open_plain<H: Hash32, S: Shelf>(
         OfFile (S.state shelf.old).files name.now (after ≡ before)
         (λ bytes. after ≤ before + pages_in bytes) }
 {
-    open_named::<H, S>(alloc, shelf, name)
+    open_named::<H, S, Opened>(alloc, shelf, name)
+}
+
+/// The same map with its nodes in memory, of which each is hashed once, as its page is judged.
+///
+/// It is read as `open_plain` reads it, and refused just so.
+pub fn open_snapshot<H: Hash32, S: Shelf>(
+    alloc: Global,
+    shelf: &mut S,
+    name: &str,
+) -> Result<Snapshot<H>, MapErr>
+    // What is answered: the one map that the file stands for, or the first rule that it breaks.
+    ensures exact { let answer = opened_as opened_of result in
+        OfFile (S.state shelf.old).files name.now (FailsWithoutFault answer)
+        (λ bytes. TellsBytes (form_at bytes) H.of bytes answer) }
+
+    // What that is worth: a well-formed tree, of some bytes where no file is told; and bytes have a
+    // map or a fault, and one of them alone; and a file that stands for a map in a version is read
+    // in that one.
+    ensures well_formed { IfOk result (λ s. WellFormed (tree_of s.nodes.items s.top)
+        × HasLayers s.top.version (tree_of s.nodes.items s.top)) }
+    ensures of_some_bytes { SomeFile H.of
+        (opened_as opened_of result) }
+    ensures law { (v : versions.Version) (bytes : List ℕ) → AreBytes bytes →
+        AgreesWithFault (form_by v) H.of bytes }
+    ensures agrees { OfFile (S.state shelf.old).files name.now ⊤
+        (λ bytes. AgreesWithFault (form_at bytes) H.of bytes) }
+    ensures every { HoldBytes (S.state shelf.old).files }
+    ensures version { (v : versions.Version) (bytes : List ℕ) (t : trees.Tree) (b : ℕ) →
+        StandsForTree (form_by v) H.of bytes t b → version_of bytes ≡ v }
+
+    // Why it is refused, and what stands afterwards.
+    ensures causes { MapCauses name.now (S.state shelf.old) (S.state shelf.new)
+        (opened_as opened_of result) }
+    ensures files { (S.state shelf.new).files ≡ (S.state shelf.old).files }
+    ensures reads { (S.state shelf.old).reads ≤ (S.state shelf.new).reads }
+    ensures reads_at_most { let before = (S.state shelf.old).reads in
+        let after = (S.state shelf.new).reads in
+        OfFile (S.state shelf.old).files name.now (after ≡ before)
+        (λ bytes. after ≤ before + pages_in bytes) }
+{
+    open_named::<H, S, Snapshot<H>>(alloc, shelf, name)
 }

@@ -1,13 +1,16 @@
 //! The pages of a file, as a walk over them sees them.
 
-ghost use Rattle.std.specs.Prelude.{◌≡◌, ◌<◌, ◌≤◌, ℕ, List, length, IfOk, IfErr, OnOk, true};
+ghost use Rattle.std.specs.Prelude.{◌≡◌, ◌<◌, ◌≤◌, ℕ, Bool, List, length, IfOk, IfErr, OnOk, true, false};
+ghost use Rattle.mr_tree.specs.Digest.{Scheme};
+ghost use Rattle.mr_tree.specs.View.{children_in};
+ghost use Rattle.mr_tree.specs.declared.child.Child as types;
 ghost use Rattle.mr_tree.specs.declared.tree.Tree as trees;
-ghost use Rattle.mr_tree.specs.declared.tree.Tree.TheVariants as tree;
 ghost use Rattle.mr_pages.specs.Faults.{of_level};
 ghost use Rattle.mr_pages.specs.Page.{IsNode, level_of};
 ghost use Rattle.mr_pages.specs.PageBytes.{form_of, IsLayout};
-ghost use Rattle.mr_pages.specs.Source.{Sourced, GivesPage, GivesHead, ReadsPage, IsOfOneRead, SaysHead, MayKeep, Stay, AreMade, tree_over};
-ghost use Rattle.mr_pages.specs.Walking.{page_node, ShowsWanted, AnswersHead};
+ghost use Rattle.mr_pages.specs.Source.{Sourced, GivesPage, GivesHead, ReadsPage, IsOfOneRead, SaysHead, MayKeep, Stay};
+ghost use Rattle.mr_pages.specs.Gathering.{AreMade, SuitsChild, tree_over};
+ghost use Rattle.mr_pages.specs.Walking.{page_node, owned, ShowsWanted, AnswersHead};
 
 use crate::head::MapHead;
 use crate::layout::Layout;
@@ -27,14 +30,21 @@ pub trait Source {
     // what is made of a node, and of what was made of its children
     type Made: Drop;
 
+    // what was made so far and stands beside
+    type Held;
+
     // what the pages are read as, where that is told, and what was counted
     ghost state: { Self → Sourced };
 
     // the node of this page is kept
     ghost keeps: { Self → ℕ → Type 0 };
 
-    // what was made stands for this tree
-    ghost makes: { Self.Made → trees.Tree → Type 0 };
+    ghost held: { Self → Self.Held };
+
+    // from what was held before to what is held now: this was made of the node of a child, which
+    // may be the root, and of all below it, which are this tree
+    ghost makes: { Scheme → (root : Bool) → Self.Held → Self.Held → types.Child → Self.Made →
+        trees.Tree → Type 0 };
 
     /// How many pages there are.
     fn count(&self) -> u32
@@ -72,6 +82,7 @@ pub trait Source {
         ensures on { IfOk result (λ shown. shown ≡ true →
             bytes.new ≡ (state self.old).origin.form.node_page (page_node into.new)) }
         ensures reads { ReadsPage (state self.old) (state self.new) result }
+        ensures holds { held self.new ≡ held self.old }
         ensures stay { Stay (keeps self.old) (keeps self.new) };
 
     /// The page that a free page names, if this is one.
@@ -79,11 +90,8 @@ pub trait Source {
         requires { page < (state self.old).pages }
         ensures next { IfOk result (λ o. GivesPage (state self.old) page (λ f. o ≡ f.free page)) }
         ensures reads { ReadsPage (state self.old) (state self.new) result }
+        ensures holds { held self.new ≡ held self.old }
         ensures stay { Stay (keeps self.old) (keeps self.new) };
-
-    /// What is made of a map without a node.
-    fn none(&self) -> Self::Made
-        ensures { makes result tree.Empty };
 
     /// What is made of the node of a page, which was judged and whose children are in the file, and
     /// of what was made of these children. The node is kept, if this source keeps any.
@@ -95,8 +103,10 @@ pub trait Source {
     ) -> Result<Self::Made, AllocError>
         requires { MayKeep Self.Hash.of (state self.old) child.now node }
         ensures same { state self.new ≡ state self.old }
-        ensures made { IfOk result (λ m. (ts : List trees.Tree) → AreMade makes below.items ts →
-            makes m (tree_over node ts)) }
+        ensures made { IfOk result (λ m. (x : Scheme) (root : Bool) (before : Self.Held)
+            (ts : List trees.Tree) → SuitsChild x root child.now node →
+            AreMade (makes x false) before (held self.old) (children_in (owned node)) below.items ts →
+            makes x root before (held self.new) child.now m (tree_over node ts)) }
         ensures kept { OnOk result (keeps self.new child.now.id) }
         ensures stay { Stay (keeps self.old) (keeps self.new) };
 }

@@ -2,6 +2,7 @@
 
 ghost use Rattle.std.specs.Prelude.{◌≡◌, ◌≤◌, ◌<◌, length, OnOk, IfOk, IfErr};
 ghost use Rattle.mr_tree.specs.Digest.{by};
+ghost use Rattle.mr_pages.specs.Gathering.{SuitsChild};
 ghost use Rattle.mr_pages.specs.Source.{ReadsWithinRoom, Stay, GivesPage, MatchesChild, IfNotFailed, SaysOnce, left};
 ghost use Rattle.mr_pages.specs.private.Walks.{AreKept, GivesPages, ReadsChecked, Walked};
 ghost use Rattle.mr_pages.specs.Walking.{child_link};
@@ -30,8 +31,11 @@ fn read_checked<P: Source>(
         (child_link child.now) result)) }
     ensures known { IfOk result
         (MatchesChild (by (P.state pages.old).origin.form.version P.Hash.of) child.now) }
+    ensures suits { IfOk result
+        (SuitsChild (by (P.state pages.old).origin.form.version P.Hash.of) root child.now) }
     ensures of_one_read { IfErr result SaysOnce }
     ensures goes { ReadsWithinRoom (P.state pages.old) (P.state pages.new) 1 0 result }
+    ensures holds { P.held pages.new ≡ P.held pages.old }
     ensures stay { Stay (P.keeps pages.old) (P.keeps pages.new) }
 {
     let layout = pages.layout();
@@ -65,7 +69,9 @@ pub fn visit<P: Source>(
 ) -> Result<P::Made, MapErr>
     requires { length seen.old.reached.items ≡ (P.state pages.old).pages }
     ensures told { IfNotFailed result (GivesPages (P.state pages.old) seen.old seen.new
-        (Walked (by (P.state pages.old).origin.form.version P.Hash.of) P.makes
+        (Walked (by (P.state pages.old).origin.form.version P.Hash.of)
+        (P.makes (by (P.state pages.old).origin.form.version P.Hash.of) root (P.held pages.old)
+        (P.held pages.new) child.now)
         (P.state pages.old).pages seen.old root child.now result seen.new)) }
     ensures of_one_read { IfErr result SaysOnce }
     ensures inside { OnOk result

@@ -7,9 +7,7 @@ use Rattle.mr_record.specs.declared.version.Version.TheVariants.{One, Two}
 use Rattle.mr_record.specs.declared.text_fault.TextFault.{TextFault}
 use Rattle.mr_journal.specs.Images.{Image}
 use Rattle.mr_tree.specs.Digest.{by}
-use Rattle.mr_tree.specs.Snapshot.{tree_of}
-use Rattle.mr_tree.specs.declared.nodes.Top.{Top}
-use Rattle.mr_tree.specs.declared.stored.Stored.{Stored}
+pub use Rattle.mr_pages.specs.Opening.{opened_in}
 use Rattle.mr_pages.specs.declared.opening.Opened.{Opened}
 use Rattle.mr_query.specs.declared.query.Query.{Query}
 use Rattle.mr_query.specs.declared.key.Key.{Key}
@@ -110,11 +108,6 @@ unless_lacking lacks said = if lacks then ends NeedsVersion2 needs_version_2_lin
 -- a bundle in a file, how many queries it is for, and its length
 abbrev pub say_bundle : List ℕ → (queries : ℕ) → List ℕ → Outcome
 say_bundle name queries bytes = say_text (served_line queries (length bytes)) name bytes
-
--- the map that is in memory, by its nodes and its head
-abbrev pub opened_in : List Stored → Top → Opened
-opened_in nodes top = record
-    { tree = tree_of nodes top; version = top.version; batch = top.batch }
 
 -- the bundle for the queries of a script on a map in a file; or the script's first fault, or that
 -- one of them has no proof

@@ -46,7 +46,7 @@ some_from_ok None rule x e = absurd cc
 pub u64_some : (text : List ℕ) (n : ℕ) → u64_of text ≡ Some n → (text ≡ decimal n) × (n < 2 ^ 64)
 u64_some text n e = let w = u64_of-written text in rw e at w
 
-i32_some : (text : List ℕ) (z : ℤ) → i32_of text ≡ Some z → (text ≡ signed_decimal z) × FitsSigned w32 z
+pub i32_some : (text : List ℕ) (z : ℤ) → i32_of text ≡ Some z → (text ≡ signed_decimal z) × FitsSigned w32 z
 i32_some text z e = let w = i32_of-written text in rw e at w
 
 -- ---- layers
@@ -274,7 +274,7 @@ result_written v line (Err rule) e = tt
 abbrev pub IsInk : List ℕ → Type 0
 IsInk text = All (λ b. 45 ≤ b) text
 
-digit_ink : (b : ℕ) → is_ascii_digit b ≡ true → 45 ≤ b
+pub digit_ink : (b : ℕ) → is_ascii_digit b ≡ true → 45 ≤ b
 digit_ink b e = let low : 48 ≤ b = leb-true 48 b (and_parts (leb 48 b) (leb b 57) e).0 in omega arith
 
 pub decimal_ink : (n : ℕ) → n < 2 ^ 64 → IsInk (decimal n)
@@ -292,7 +292,7 @@ lower_ink b e = elim (or_cases _ _ e) [
   | inr t ↦ let low : 97 ≤ b = leb-true 97 b (and_parts (leb 97 b) (leb b 102) t).0 in omega arith
 ]
 
-payload_ink : (bytes : List ℕ) → AreBytes bytes → IsInk (payload_text bytes)
+pub payload_ink : (bytes : List ℕ) → AreBytes bytes → IsInk (payload_text bytes)
 payload_ink [] fits = All-cons (λ b. 45 ≤ b) 45 [] (lit≤ tt) (All-nil (λ b. 45 ≤ b))
 payload_ink (b ∷ bytes) fits =
     λ k d at. lower_ink _ (AllPass-from_list_all is_lower_digit (payload_text (b ∷ bytes))

@@ -2,3 +2,4 @@ pub mod Bytes
 pub mod Padding
 pub mod Numbers
 pub mod Gathered
+pub mod Fronts

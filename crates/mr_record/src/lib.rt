@@ -5,6 +5,7 @@ mod bytes;
 mod cutting;
 mod decimal;
 mod encoding;
+mod front;
 mod line;
 mod numbers;
 mod payload;

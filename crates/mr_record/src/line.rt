@@ -1,16 +1,18 @@
 //! One record as a line of text.
 
-ghost use Rattle.std.specs.Prelude.{◌≡◌, ◌∷◌, [], IfOk, MatchResult, MatchOption, None, Some, Ok};
+ghost use Rattle.std.specs.Prelude.{◌≡◌, ◌∷◌, [], IfOk, IfSome, MatchResult, MatchOption, None, Some, Ok};
 ghost use Rattle.std.specs.List.{list_all};
 ghost use Rattle.mr_record.specs.Record.{IsRecord, HasLayer};
 ghost use Rattle.mr_record.specs.declared.version.Version.TheVariants.{One, Two};
 ghost use Rattle.mr_record.specs.RecordText.{is_lower_digit, hex_bytes, payload_of, layer_of, last_of, rectangle_of_fields, record_from, record_of_fields, layered, record_of_line, line_of};
 ghost use Rattle.mr_record.specs.Lines.{fields_of};
+ghost use Rattle.mr_record.specs.private.Fronts.{HasPointInFront, HasLayerInFront};
 ghost use Rattle.mr_record.specs.declared.record.Record as types;
 ghost use Rattle.mr_record.specs.declared.text_fault.TextRule.TheVariants as rules;
 
 use crate::cutting::cut;
-use crate::{LAYER_LIMIT, PAYLOAD_LIMIT, Payload, Record, TextRule, Version, read_i32, read_u64};
+use crate::front::{front_coordinate, front_layer, front_number};
+use crate::{LAYER_LIMIT, Payload, Record, TextRule, Version, read_i32, read_u64};
 use mr_geom::Rect;
 
 fn are_lower_digits(field: &[u8]) -> bool
@@ -28,12 +30,10 @@ fn read_hex(field: &[u8]) -> Option<Payload>
     if field.len() < 2 || field.len() > 400 || !are_lower_digits(field) {
         return None;
     }
-    let mut places = [0; PAYLOAD_LIMIT];
-    let (front, _) = places.split_at_mut(field.len() / 2);
-    match hex::decode_to_slice(field, front) {
-        Ok(()) => Payload::new(front),
-        Err(_) => None,
+    if field.len() % 2 != 0 {
+        return None;
     }
+    Some(Payload::of_pairs(field))
 }
 
 // `-` for no bytes, or lower-case hexadecimal.
@@ -145,8 +145,9 @@ fn read_parts(
     Ok((record, layer))
 }
 
+// The record of a line, or the first rule that it breaks, field by field.
 #[tactic(auto, unfolding(crate::specs::RecordText::record_from, crate::specs::RecordText::last_of))]
-pub(crate) fn read_fields(version: Version, line: &[u8]) -> Result<(Record, Option<u8>), TextRule>
+fn read_each(version: Version, line: &[u8]) -> Result<(Record, Option<u8>), TextRule>
     ensures { result ≡ record_of_fields version (fields_of line.now) }
 {
     let (number, rest) = split_field(line)?;
@@ -157,6 +158,54 @@ pub(crate) fn read_fields(version: Version, line: &[u8]) -> Result<(Record, Opti
     match split_last(version, rest) {
         None => Err(TextRule::Form),
         Some((layer, payload)) => read_parts(number, x0, y0, x1, y1, layer, payload),
+    }
+}
+
+// The two coordinates in front, and what stands behind them.
+fn front_point(line: &[u8]) -> Option<(i32, i32, &[u8])>
+    ensures { IfSome result (λ p. HasPointInFront p.0 p.1 line.now p.2.now) }
+{
+    let (x, rest) = front_coordinate(line)?;
+    let (y, rest) = front_coordinate(rest)?;
+    Some((x, y, rest))
+}
+
+// The layer in front, where the version has one, and what stands behind it.
+fn front_last(version: Version, line: &[u8]) -> Option<(u8, &[u8])>
+    ensures { IfSome result (λ p. HasLayerInFront version p.0 line.now p.1.now) }
+{
+    match version {
+        Version::One => Some((0, line)),
+        Version::Two => front_layer(line),
+    }
+}
+
+// The record of a line that breaks no rule, read in one pass. `None` says nothing of the line: which
+// rule it breaks, if any, is left to `read_each`.
+fn read_at_once(version: Version, line: &[u8]) -> Option<(Record, Option<u8>)>
+    ensures { IfSome result (λ p. record_of_fields version (fields_of line.now) ≡ Ok p) }
+{
+    let (number, rest) = front_number(line)?;
+    let (x0, y0, rest) = front_point(rest)?;
+    let (x1, y1, rest) = front_point(rest)?;
+    let (layer, last) = front_last(version, rest)?;
+    let rect = Rect::new(x0, y0, x1, y1)?;
+    let payload = read_payload(last)?;
+    let record = Record {
+        number,
+        rect,
+        layer: 0,
+        payload,
+    };
+    Some((record, Some(layer)))
+}
+
+pub(crate) fn read_fields(version: Version, line: &[u8]) -> Result<(Record, Option<u8>), TextRule>
+    ensures { result ≡ record_of_fields version (fields_of line.now) }
+{
+    match read_at_once(version, line) {
+        Some(found) => Ok(found),
+        None => read_each(version, line),
     }
 }
 

@@ -175,19 +175,21 @@ module _ (form : Form) (is : IsForm form) (hash : List ℕ → List ℕ) (pages 
       same_file form pages bytes
       (sym (ap (λ n. n / form.size) size ∙ mul-div_cancel pages is.some)) even
 
-  pub some_fault : (e : MapErr) → IfNotFailed {A = Checked (Unit {0})} (Err e) (GivesFile (on_shelf form 0 pages s name)
-      (CheckedWhole form.version hash (λ (m : Unit {0}) (t : Tree). ⊤) pages (Err e))) → SomeBytes form hash (Err e)
-  some_fault (errors.Map f) g = (
+  pub some_fault : (makes : Option Child → Option (Unit {0}) → File → Type 0) (e : MapErr)
+      → IfNotFailed {A = Checked (Unit {0})} (Err e) (GivesFile (on_shelf form (0, 0) pages s name)
+      (CheckedWhole form.version hash makes pages (Err e))) → SomeBytes form hash (Err e)
+  some_fault makes (errors.Map f) g = (
     g.bytes,
     g.are,
     subst (λ h. mapfault hash h ≡ Some f) (as_file g.bytes g.size) (g.so.checks refl refl),
   )
-  some_fault errors.Missing g = fails_some form hash errors.Missing tt
-  some_fault errors.Fault g = fails_some form hash errors.Fault tt
-  some_fault errors.NoMemory g = fails_some form hash errors.NoMemory tt
+  some_fault makes errors.Missing g = fails_some form hash errors.Missing tt
+  some_fault makes errors.Fault g = fails_some form hash errors.Fault tt
+  some_fault makes errors.NoMemory g = fails_some form hash errors.NoMemory tt
 
-  pub of_some : (c : Checked (Unit {0})) → GivesFile (on_shelf form 0 pages s name)
-      (CheckedWhole form.version hash (λ (m : Unit {0}) (t : Tree). ⊤) pages (Ok c)) → IsOfSome form hash c.head
+  pub of_some : {makes : Option Child → Option (Unit {0}) → File → Type 0} (c : Checked (Unit {0}))
+      → GivesFile (on_shelf form (0, 0) pages s name)
+      (CheckedWhole form.version hash makes pages (Ok c)) → IsOfSome form hash c.head
   of_some c g =
       let checks = subst (λ h. ChecksFile {M = Unit {0}} hash h (Ok c)) (as_file g.bytes g.size)
       (g.so.checks refl refl) in

@@ -48,7 +48,7 @@ module _ (form : Form) (hash : List ℕ → List ℕ) (told : Option Files) (nam
     owned_type.Node)
     (faults reads : ℕ)
     (may : MayKeep hash (record {
-      origin = record { name = name; files = told; form = form; lent = 0 };
+      origin = record { name = name; files = told; form = form; lent = (0, 0) };
       pages = pages;
       file = option_map (file_of form) (told_bytes told name);
       faults = faults;

@@ -4,5 +4,4 @@ pub mod Ids
 pub mod Told
 pub mod Laws
 pub mod Walk
-pub mod Copying
 pub mod Listing

@@ -4,12 +4,12 @@ ghost use Rattle.std.specs.Prelude.{◌≡◌, ◌≤◌, ◌+◌, length, IfOk,
 ghost use Rattle.mr_tree.specs.Nodes.{HasSomeCause, IsTop, TellsRefusal, subtrees};
 ghost use Rattle.mr_tree.specs.Snapshot.{AreLinked, IsPlaced, snapshot_model, tree_of};
 ghost use Rattle.mr_tree.specs.declared.nodes.NodesErr.TheVariants as errors;
-ghost use Rattle.mr_store.specs.private.Copying.{IsPut};
+ghost use Rattle.mr_pages.specs.private.Copying.{IsPut};
 ghost use Rattle.mr_store.specs.Stored.{IsSaid, IsSnapshotOf};
 
 use crate::walk::{Gather, walk};
 use mr_outside::Items;
-use mr_pages::Visited;
+use mr_pages::{Visited, put_stored};
 use mr_record::Record;
 use mr_tree::{Child, NodeView, Nodes, NodesErr, Snapshot, Stored, Top};
 use std::alloc::Global;
@@ -26,11 +26,7 @@ fn put(list: &mut Vec<Stored>, node: Stored) -> Result<u32, NodesErr>
     ensures put { IfOk result (IsPut list.old.items list.new.items node) }
     ensures memory { IfErr result (λ e. e ≡ errors.NoMemory) }
 {
-    if list.len() >= u32::MAX as usize {
-        return Err(NodesErr::NoMemory);
-    }
-    list.push(node)?;
-    Ok(list.len() as u32)
+    Ok(put_stored(list, node)?)
 }
 
 impl Gather for Copies {

@@ -1,9 +1,13 @@
 //! A file of pages on a shelf, of which it is not known yet whether it stands for a map.
 
-ghost use Rattle.std.specs.Prelude.{◌≡◌, ⊤, ℕ, List, IfOk, OnOk};
+ghost use Rattle.std.specs.Prelude.{◌≡◌, ⊤, ℕ, Bool, List, IfOk, OnOk};
 ghost use Rattle.std.proofs.Props.{props};
 ghost use Rattle.mr_tree.specs.declared.tree.Tree.{Tree};
-ghost use Rattle.mr_pages.specs.Source.{MayKeep, AreMade, Stay};
+ghost use Rattle.mr_pages.specs.Source.{MayKeep, Stay};
+ghost use Rattle.mr_pages.specs.Gathering.{AreMade, SuitsChild};
+ghost use Rattle.mr_pages.specs.Walking.{owned};
+ghost use Rattle.mr_tree.specs.Digest.{Scheme};
+ghost use Rattle.mr_tree.specs.View.{children_in};
 ghost use Rattle.mr_store.specs.CachedFile.{entries_of};
 ghost use Rattle.mr_store.specs.private.Paging.{sourced, HoldsPage, IsUnchecked};
 ghost use Rattle.mr_store.specs.Kept.{node_of, PutsNode};
@@ -29,11 +33,15 @@ impl<S: Shelf, H: Hashes> Source for Paging<'_, S, H> {
 
     type Made = ();
 
+    type Held = ();
+
     ghost state = { λ s. sourced s.file };
 
     ghost keeps = { λ s page. HoldsPage s.file.pages (entries_of s.file) page };
 
-    ghost makes = { λ made t. ⊤ };
+    ghost held = { λ s. tt };
+
+    ghost makes = { λ x root before after child made t. ⊤ };
 
     fn count(&self) -> u32 {
         self.file.pages
@@ -63,13 +71,13 @@ impl<S: Shelf, H: Hashes> Source for Paging<'_, S, H> {
         self.file.read_free(page)
     }
 
-    fn none(&self) {}
-
     fn make(&mut self, child: &Child, node: Node, _below: Vec<()>) -> Result<(), AllocError>
         requires { MayKeep H.of (sourced self.old.file) child.now node }
         ensures same { sourced self.new.file ≡ sourced self.old.file }
-        ensures made { IfOk result (λ m. (ts : List Tree) →
-            AreMade (λ one t. ⊤) _below.items ts → ⊤) }
+        ensures made { IfOk result (λ m. (x : Scheme) (root : Bool) (before : ⊤) (ts : List Tree) →
+            SuitsChild x root child.now node →
+            AreMade {S = ⊤} (λ s u c one t. ⊤) before tt (children_in (owned node)) _below.items ts →
+            ⊤) }
         ensures kept { OnOk result
             (HoldsPage self.new.file.pages (entries_of self.new.file) child.now.id) }
         ensures puts { OnOk result (PutsNode self.old.file.cache.cap (entries_of self.old.file)

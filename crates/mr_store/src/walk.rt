@@ -12,7 +12,7 @@ ghost use Rattle.mr_tree.specs.declared.tree.Tree.TheVariants as tree;
 ghost use Rattle.mr_tree.specs.declared.tree.Tree.TheOpen.{Leaf, Inner};
 ghost use Rattle.mr_store.specs.private.Walk.{SuitsEntry, IsCounted, IsFull, CanWalk, AddsNumbers, moved, nodes_at, GathersAll, Walked, StopsWalk, IsTwice};
 
-use mr_pages::{Visited, is_fit};
+use mr_pages::{Visited, is_fit, moved_to};
 use mr_record::{Record, Version};
 use mr_tree::{Child, NodeView, Nodes, NodesErr, is_view};
 use std::alloc::Global;
@@ -79,20 +79,6 @@ fn meet(page: u32, records: &[Record], seen: &mut Visited) -> Result<(), NodesEr
         Err(_) => Err(NodesErr::NoMemory),
         Ok(true) => Err(NodesErr::Page { page }),
         Ok(false) => Ok(()),
-    }
-}
-
-// The entry of a node that is found in this place.
-fn moved_to(id: u32, child: &Child) -> Child
-    ensures { result ≡ moved id child.now }
-{
-    Child {
-        id,
-        level: child.level,
-        rect: child.rect,
-        mask: child.mask,
-        count: child.count,
-        digest: child.digest,
     }
 }
 

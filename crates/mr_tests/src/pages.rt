@@ -58,8 +58,6 @@ struct Turned {
 enum Turn {
     No,
     Byte(usize, u8),
-    // The same byte at two places.
-    Twins(usize, usize, u8),
     Cut,
     Gone(u64),
 }
@@ -74,14 +72,6 @@ impl Turned {
             Turn::Byte(at, byte) => {
                 if at < self.map.len() {
                     self.map[at] = byte;
-                }
-            }
-            Turn::Twins(one, other, byte) => {
-                if one < self.map.len() {
-                    self.map[one] = byte;
-                }
-                if other < self.map.len() {
-                    self.map[other] = byte;
                 }
             }
             Turn::Cut => self.map.truncate(0),
@@ -161,8 +151,7 @@ struct Row {
 }
 
 // Page 3 is the first leaf's, and page 130 the third inner node's below the root, none of which is
-// kept when it is sought again. The first child of page 130 is page 131. The first record of page 3
-// lies right of the middle, so that its left and its right side begin with a byte 00.
+// kept when it is sought again. The first child of page 130 is page 131.
 const ROWS: &[Row] = &[
     Row {
         name: "a proof of a map that stays",
@@ -242,46 +231,25 @@ const ROWS: &[Row] = &[
         text: "bad text line 1 ",
     },
     Row {
-        name: "many proofs of a map with another record",
+        name: "many proofs of a map with another record, which is not read again",
         words: SERVED,
         turn: Turn::Byte(12_297, 0xff),
-        status: BadMap,
-        text: "bad map page 3 Changed held ",
+        status: BadText,
+        text: "bad text line 1 ",
     },
     Row {
-        name: "many proofs of a map with a record that lies elsewhere, under the same digest",
-        words: SERVED,
-        turn: Turn::Twins(12_298, 12_306, 0x10),
-        status: BadMap,
-        text: "bad map page 3 Page\n",
-    },
-    Row {
-        name: "many proofs of a map with a page that is no node",
-        words: SERVED,
-        turn: Turn::Byte(12_288, 0xff),
-        status: BadMap,
-        text: "bad map page 3 Page\n",
-    },
-    Row {
-        name: "many proofs of a map that is cut off",
+        name: "many proofs of a map that is cut off, which is not read again",
         words: SERVED,
         turn: Turn::Cut,
-        status: BadMap,
-        text: "bad map page 3 Page\n",
+        status: BadText,
+        text: "bad text line 1 ",
     },
     Row {
-        name: "many proofs of a map that is gone",
+        name: "many proofs of a map that is gone, which is not read again",
         words: SERVED,
         turn: Turn::Gone(OPENED),
-        status: Outside,
-        text: "missing m\n",
-    },
-    Row {
-        name: "many proofs of a map with a child behind its end",
-        words: SERVED,
-        turn: Turn::Byte(532_483, 0xff),
-        status: BadMap,
-        text: "bad map page 4278190211 Outside\n",
+        status: BadText,
+        text: "bad text line 1 ",
     },
     Row {
         name: "a list of a map that is gone before its first page is read",

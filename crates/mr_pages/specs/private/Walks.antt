@@ -20,7 +20,7 @@ use Rattle.mr_pages.specs.Faults.{has, Visit, visits, reached, all_records, numb
 use Rattle.mr_pages.specs.Walking.{child_link, page_node, owned, head_of, Saw}
 use Rattle.mr_tree.specs.Digest.{Scheme}
 use Rattle.mr_tree.specs.declared.tree.Tree.{Tree}
-use Rattle.mr_pages.specs.Source.{Sourced, told_bytes, TellsPage, IsPage, HasPage, IsReached, MakesTree}
+use Rattle.mr_pages.specs.Source.{Sourced, told_bytes, TellsPage, IsPage, HasPage, IsReached}
 use Rattle.mr_pages.specs.declared.opening.Opened.{Opened}
 
 -- a walk behind these visits met no fault among these, and this is what it keeps then
@@ -30,7 +30,7 @@ pub record Passed (s : Scheme) (pages : ℕ) (before vs : List Visit) (after : V
   pub saw : Saw pages after (reached (before ++ vs)) (numbers_of (all_records (before ++ vs)))
 
 -- so many pages of a file on a shelf
-abbrev pub on_shelf : Form → (lent pages : ℕ) → Shelved → (name : List ℕ) → Sourced
+abbrev pub on_shelf : Form → (lent : ℕ × ℕ) → (pages : ℕ) → Shelved → (name : List ℕ) → Sourced
 on_shelf form lent pages s name = record {
   origin = record { name = name; files = s.files; form = form; lent = lent };
   pages = pages;
@@ -150,18 +150,18 @@ WalksFromRoot s pages at root (Err (errors.Map f)) after =
 WalksFromRoot s pages at root (Err _) after = ⊤
 
 -- what the walk from a root comes to, and what was made of the nodes
-pub record WalkedAll {M : Type 0} (s : Scheme) (makes : M → Tree → Type 0) (pages : ℕ)
+pub record WalkedAll {M : Type 0} (s : Scheme) (makes : M → File → Type 0) (pages : ℕ)
     (root : Option Link) (result : Result M MapErr) (new : Visited) (f : File) : Type 0 where
   pub visits_ : WalksFromRoot s pages f.node root result new
-  pub made : IfOk result (λ m. MakesTree makes root m f)
+  pub made : IfOk result (λ m. makes m f)
 
 -- what comes of all that is behind page 0, which says this, and what was made of the nodes
 pub record CheckedBehind {M : Type 0} (v : Version) (hash : List ℕ → List ℕ)
-    (makes : M → Tree → Type 0) (pages : ℕ) (h : MapHead) (result : Result M MapErr) (f : File)
+    (makes : M → File → Type 0) (pages : ℕ) (h : MapHead) (result : Result M MapErr) (f : File)
     : Type 0 where
   pub checks : f.version ≡ v → f.pages ≡ pages → f.head ≡ Ok (head_of h) →
       ChecksBehind hash f result
-  pub made : IfOk result (λ m. MakesTree makes (option_map child_link h.root) m f)
+  pub made : IfOk result (λ m. makes m f)
 
 -- what opening a file answers: the map that its pages spell, where it has no fault
 abbrev pub OpensFile : (List ℕ → List ℕ) → File → Result Opened MapErr → Type 0

@@ -18,7 +18,7 @@ use Rattle.mr_store.specs.CachedFile.{state_of, name_of, page_form, entries_of}
 
 -- the pages of the file, as a walk over them sees them
 abbrev pub sourced : {S : Type 0} {G : Ghosts S} → CachedFile S G → Sourced
-sourced f = on_shelf (page_form f) 0 f.pages (state_of f) (name_of f)
+sourced f = on_shelf (page_form f) (0, 0) f.pages (state_of f) (name_of f)
 
 -- the page is kept, where there is room for all pages
 abbrev pub HoldsPage : ℕ → CacheEntries → ℕ → Type 0

@@ -16,22 +16,15 @@ use Rattle.mr_tree.specs.declared.nodes.NodesErr.TheVariants as errors
 use Rattle.mr_tree.specs.declared.tree.Tree.{Tree}
 use Rattle.mr_tree.specs.declared.tree.Tree.TheVariants as tree
 use Rattle.mr_tree.specs.declared.tree.Tree.TheFolds.{every-Tree}
-use Rattle.mr_pages.specs.Faults.{numbers_of, repeats, size, least_fill}
-use Rattle.mr_pages.specs.Walking.{page_node, Saw}
+use Rattle.mr_pages.specs.Faults.{numbers_of, repeats}
+pub use Rattle.mr_pages.specs.Gathering.{SuitsEntry, IsCounted, moved}
+unfoldable pub use Rattle.mr_pages.specs.Gathering.{GathersAll}
+use Rattle.mr_pages.specs.Walking.{Saw}
 use Rattle.mr_pages.specs.declared.visited.Visited.{Visited}
 use Rattle.mr_pages.proofs.Building.{FilledAs}
 use Rattle.mr_pages.proofs.Lists.{Fresh}
 
 -- ---- one node
-
--- a node that breaks no rule by itself: what is said of it is its entry, and it is full, as a root
--- or below it
-pub record SuitsEntry (x : Scheme) (root : Bool) (c : Child) (n : view.Node) : Type 0 where
-  pub fits : view.IsView n
-  pub some : 1 ≤ view.size n
-  pub told : view.AreTold x.version n
-  pub known : view.child_entry c ≡ view.entry_over x n
-  pub full : least_fill root (page_node n) ≤ size (page_node n)
 
 -- a tree that may stand in a map of this version below this place
 pub record IsFine (v : Version) (root : Bool) (t : Tree) : Type 0 where
@@ -53,17 +46,6 @@ pub record CanWalk (s : MapModel) (root : Bool) (seen : Visited) (c : Child) : T
   pub full : IsFull s root c
   pub fresh : (t : Tree) → s.node c.id ≡ Some t → Fresh ns (numbers_of (records t))
 
--- the same entry, by which the node is found in another place
-abbrev pub moved : (id : ℕ) → Child → Child
-moved id c = record {
-  id = id;
-  level = c.level;
-  rect = c.rect;
-  mask = c.mask;
-  count = c.count;
-  digest = c.digest;
-}
-
 -- the numbers of these records were met, none of them twice
 abbrev pub AddsNumbers : Visited → Visited → List Record → Type 0
 AddsNumbers before after rs = (pages : ℕ) (ns : List ℕ) → Saw pages before [] ns →
@@ -72,10 +54,6 @@ AddsNumbers before after rs = (pages : ℕ) (ns : List ℕ) → Saw pages before
 -- no number was met
 abbrev pub HasSeenNone : Visited → Type 0
 HasSeenNone seen = (pages : ℕ) × Saw pages seen [] []
-
--- the count that is said of a root is the head's, and is compared behind a walk
-abbrev pub IsCounted : (root : Bool) → Child → (count : ℕ) → Type 0
-IsCounted root c count = root ≡ true → c.count ≡ count
 
 -- ---- how many nodes
 
@@ -89,15 +67,6 @@ abbrev pub nodes_in : MapModel → List Child → ℕ
 nodes_in s children = sum_by (λ (d : Child). nodes_at (s.node d.id)) children
 
 -- ---- what was walked over
-
--- what comes of adding nodes one after another, where this comes of adding one
-unfoldable pub GathersAll : {S : Type 0} → (S → S → Child → Tree → Type 0) → S → S → List Child
-    → List Tree → Type 0
-GathersAll gathers s u [] [] = u ≡ s
-GathersAll gathers s u (c ∷ cs) (t ∷ ts) =
-    (m : _) × gathers s m c t × GathersAll gathers m u cs ts
-GathersAll gathers s u [] (t ∷ ts) = ⊥
-GathersAll gathers s u (c ∷ cs) [] = ⊥
 
 -- the tree is the one that is said of, and breaks no rule, and this was made of it
 pub record IsMadeOf (x : Scheme) (root : Bool) (c : Child) (t : Tree) (Made : Type 0)

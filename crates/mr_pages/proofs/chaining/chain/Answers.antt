@@ -15,6 +15,7 @@ loop-init g c = record {
       c.args.seen.now saw);
   room = refl;
   goes = goes_none (g.P.Source.state c.args.pages.now) _;
+  holds = refl;
   stay = λ page kept. kept;
 }
 
@@ -60,6 +61,7 @@ loop-preserved g c = record {
       c.loop.invariant.goes.from_ c.loop.invariant.goes.same c.loop.invariant.told c.in_ok-next.ensures.told);
   room = c.step.ensures.room ∙ c.loop.invariant.room;
   goes = goes_step c.in_ok-next.next _ _ _ _ _ _ c.loop.invariant.goes c.in_ok-next.ensures.goes;
+  holds = c.step.ensures.holds ∙ c.loop.invariant.holds;
   stay = λ page kept. c.step.ensures.stay page (c.loop.invariant.stay page kept);
 }
 

@@ -16,5 +16,6 @@ invariant-loop g l = record {
   goes : ReadsWithinRoom {A = Unit {0}} (g.P.Source.state l.fn.pages) (g.P.Source.state l.pages) (left l.fn.seen)
       (left l.seen)
       (Ok tt);
+  holds : g.P.Source.held l.pages ≡ g.P.Source.held l.fn.pages;
   stay : Stay (g.P.Source.keeps l.fn.pages) (g.P.Source.keeps l.pages);
 }

@@ -1,7 +1,8 @@
-use Rattle.std.proofs.Common.{◌≡◌, refl, sym, ap, ◌∙◌}
+use Rattle.std.proofs.Common.{◌≡◌, true, refl, sym, ap, subst, ◌∙◌}
 use Rattle.std.proofs.lemmas.Result.{err_from_is_err_and}
 use Rattle.mr_tree.specs.Digest.{by}
 use Rattle.mr_pages.specs.Faults.{walk, reached, all_records, numbers_of}
+use Rattle.mr_pages.specs.Gathering.{MakesTree}
 use Rattle.mr_pages.specs.Stands.{whole_tree}
 use Rattle.mr_pages.specs.private.Spelled.{placed_at}
 use Rattle.mr_pages.specs.Walking.{head_of}
@@ -103,6 +104,9 @@ returns-clause-told g c =
           (c.count-found.ensures ∙ p.saw.met.count) c.if-head-found.false q.0
           (lost_of file.pages c.count-2.result c.chain.new.seen _
           (c.count-2.ensures ∙ c.chain.ensures.goes.count ∙ now) c.in_default.ensures.told _ _ q.1) refl).0;
-      made = both.0.made;
+      made = subst (λ held. MakesTree
+          (g.P.Source.makes (by (g.P.Source.state c.args.pages.now).origin.form.version g.P.Hash.Hashes.of) true)
+          (g.P.Source.held c.args.pages.now) held c.args.head.now.root c.in_ok-made.made file)
+          (sym c.chain.ensures.holds) both.0.made;
     }) (gives_next s t c.in_ok-seen.seen c.visit_all.new.seen c.chain.new.seen _ _ c.visit_all.ensures.goes.from_
     c.visit_all.ensures.goes.same c.in_ok-made.ensures.told c.in_ok-chain.ensures.told)

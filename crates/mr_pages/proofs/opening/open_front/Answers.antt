@@ -1,6 +1,6 @@
 use Rattle.std.proofs.Common.{◌≡◌, ◌≤◌, ◌<◌, get_or, ◌+◌, ◌/◌, true, arith, ap, refl, subst, sym}
 use Rattle.mr_pages.specs.File.{is_odd_size}
-use Rattle.mr_pages.specs.Opening.{TellsBytes, SomeBytes, FailsWithoutFault}
+use Rattle.mr_pages.specs.Opening.{opened_as, TellsBytes, SomeBytes, FailsWithoutFault}
 use Rattle.std.specs.Prelude.{max, length}
 use Rattle.mr_outside.specs.Told.{OfFile}
 use Rattle.mr_pages.specs.Page.{Form, page_limit}
@@ -49,7 +49,7 @@ returns-in-Some g c =
     let fits = c.by-layout.ensures.fits in
     let told = (g.S.Shelf.state c.args.shelf.now).files in
     let name = c.args.name.now in
-    let r = c.open_pages.result in
+    let r = opened_as g.W.Whole.shows c.open_pages.result in
     let h = g.H.Hashes.of in
     let same = ap form_of c.by-layout.ensures.layout in
     let whole = whole_pages_are layout.size c.args.size (omega (arith, fits.room)) c.in-Some.ensures.0 in

@@ -4,7 +4,7 @@ use Rattle.std.proofs.lemmas.Result.{err_from_is_err_and}
 use Rattle.mr_outside.specs.Told.{OfFile}
 use Rattle.mr_record.specs.private.Bytes.{AreBytes}
 use Rattle.mr_record.specs.declared.version.Version.TheVariants.{One}
-use Rattle.mr_pages.specs.Opening.{of_shelf, FailsWithoutFault, TellsBytes}
+use Rattle.mr_pages.specs.Opening.{opened_as, of_shelf, FailsWithoutFault, TellsBytes}
 use Rattle.mr_pages.specs.PageBytes.{form_by}
 use Rattle.mr_pages.specs.Source.{IsFrontOfFile}
 use Rattle.mr_pages.proofs.Agreement.{agrees}
@@ -95,7 +95,7 @@ returns g c =
     let size = c.in_ok-size.size in
     let room = c.read_front.new.room in
     let v = c.in_ok-version.version in
-    let r = c.open_front.result in
+    let r = opened_as g.W.Whole.shows c.open_front.result in
     let h = g.H.Hashes.of in
     let sized = g.met.H.Hashes.sized in
     let told = (g.S.Shelf.state c.args.shelf.now).files in

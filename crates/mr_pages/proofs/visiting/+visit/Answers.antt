@@ -7,8 +7,12 @@ use Rattle.std.proofs.lemmas.Result.{err_from_is_err_and}
 use Rattle.mr_tree.specs.Digest.{by}
 use Rattle.mr_tree.specs.declared.child.Child.{Child}
 use Rattle.mr_pages.specs.Walking.{child_link, page_node, owned}
-use Rattle.mr_pages.specs.Source.{MatchesChild, AreMade}
+use Rattle.mr_pages.specs.Source.{MatchesChild}
+use Rattle.mr_pages.specs.Gathering.{AreMade, SuitsChild}
 use Rattle.mr_pages.specs.declared.node.Node.TheVariants as owned_node
+use Rattle.mr_pages.specs.Stands.{tree_of}
+use Rattle.mr_pages.specs.private.Spelled.{place}
+use Rattle.mr_tree.specs.declared.tree.Tree.TheOpen.{Inner}
 use Rattle.mr_pages.proofs.Building.{what_is_found}
 use Rattle.mr_pages.proofs.Giving.{err_settles, gives_none, gives_one, gives_so, gives_still, gives_next}
 use Rattle.mr_pages.proofs.Walks.{AtInner, refused_at_entry, number_refused, inner_starts}
@@ -68,10 +72,16 @@ returns-in_ok-make-in-Leaf-clause-told g t c =
           (child_link c.args.child.now) c.in-Leaf.records.items c.deref.result.now c.in_ok-meet-in-Leaf.field-0
           c.meet.new.self entered.0 looked.0 (looked.1 ∙ ap (λ n. Some (page_node (owned n))) c.in-Leaf.is)
           c.deref.ensures.value (c.in_ok-meet-in-Leaf.ensures.told _ _ _ entered.1) c.if-branch.false;
-      made = leaf_made g.P.Source.makes f.node c.args.root (child_link c.args.child.now) c.in-Leaf.records.items
-          c.new.result.items c.in_ok-make-in-Leaf.field-0
-          (looked.1 ∙ ap (λ n. Some (page_node (owned n))) c.in-Leaf.is)
-          c.new.ensures.items c.in_ok-make-in-Leaf.ensures.made;
+      made = leaf_made (by s.origin.form.version g.P.Hash.Hashes.of) g.P.Source.makes f.node c.args.root
+          c.args.child.now (owned_node.Leaf c.in-Leaf.records) c.in-Leaf.records.items
+          (g.P.Source.held c.args.pages.now)
+          (g.P.Source.held c.read_checked.new.pages) (g.P.Source.held c.make.new.self) c.new.result.items
+          c.in_ok-make-in-Leaf.field-0
+          (looked.1 ∙ ap (λ n. Some (page_node (owned n))) c.in-Leaf.is) refl (λ ts. refl)
+          c.new.ensures.items c.read_checked.ensures.holds
+          (subst (SuitsChild (by s.origin.form.version g.P.Hash.Hashes.of) c.args.root c.args.child.now) c.in-Leaf.is
+          c.in_ok-records.ensures.suits)
+          c.in_ok-make-in-Leaf.ensures.made;
     }) (gives_one s c.args.seen.now c.enter.new.self c.args.child.now.id _ c.in_default.ensures.step
     c.in_ok-records.ensures.told))
 
@@ -93,7 +103,9 @@ loop-one-init g t c = record {
             (child_link c.args.child.now) (map child_link c.in-Inner.children.items)
             c.enter.new.self entered.0 entered.1 looked.0
             (looked.1 ∙ ap (λ n. Some (page_node (owned n))) c.in-Inner.is);
-        made = subst (λ xs. AreMade g.P.Source.makes xs []) (sym c.new-below.ensures.items) tt;
+        made = subst (λ xs. AreMade (g.P.Source.makes (by s.origin.form.version g.P.Hash.Hashes.of) false)
+            (g.P.Source.held c.args.pages.now) (g.P.Source.held c.read_checked.new.pages) [] xs [])
+            (sym c.new-below.ensures.items) c.read_checked.ensures.holds;
       })
       (gives_one s c.args.seen.now c.enter.new.self c.args.child.now.id _ c.in_default.ensures.step
       c.in_ok-records.ensures.told);
@@ -157,10 +169,17 @@ loop-one-preserved g t c = record {
             c.loop-one.invariant.goes.count
             (both.1.walks (before_child f.node before c.args.root (child_link c.args.child.now)
             (take c.loop-one.one-index items))) so_far.saw);
-        made = child_made g.P.Source.makes f.node c.args.root (child_link c.args.child.now) items
-            items c.loop-one.below.items c.push.new.self.items c.in_ok-made-in-Inner.made
+        made = child_made (by s.origin.form.version g.P.Hash.Hashes.of) g.P.Source.makes f.node c.args.root
+            c.args.child.now items items (g.P.Source.held c.args.pages.now) (g.P.Source.held c.loop-one.pages)
+            (g.P.Source.held c.visit.new.pages) c.loop-one.below.items c.push.new.self.items
+            c.in_ok-made-in-Inner.made
             c.loop-one.one-index c.one-item.result both.0.inner refl c.loop-one-test.true c.one-item.is
-            both.0.made both.1.made c.in_ok-push-in-Inner.ensures.items;
+            both.0.made
+            (subst (λ o. g.P.Source.makes (by o.form.version g.P.Hash.Hashes.of) false
+            (g.P.Source.held c.loop-one.pages) (g.P.Source.held c.visit.new.pages) c.one-item.result
+            c.in_ok-made-in-Inner.made
+            (tree_of (place f.node c.one-item.result.level (child_link c.one-item.result))))
+            c.loop-one.invariant.goes.from_ both.1.made) c.in_ok-push-in-Inner.ensures.items;
       }) (gives_next s (g.P.Source.state c.loop-one.pages) c.args.seen.now c.loop-one.seen c.visit.new.seen _ _
       c.loop-one.invariant.goes.from_ c.loop-one.invariant.goes.same c.loop-one.invariant.told
       c.in_ok-made-in-Inner.ensures.told);
@@ -218,7 +237,11 @@ returns-in_ok-make-in-Inner-clause-told g t c =
           s.pages f.node before c.args.root
           (child_link c.args.child.now) items items c.loop-one.seen
           c.loop-one.one-index so_far.inner refl whole (so_far.passed before saw);
-      made = inner_made g.P.Source.makes f.node c.args.root (child_link c.args.child.now) items
-          items c.loop-one.below.items c.in_ok-make-in-Inner.field-0 c.loop-one.one-index so_far.inner
-          refl whole so_far.made c.in_ok-make-in-Inner.ensures.made;
+      made = inner_made (by s.origin.form.version g.P.Hash.Hashes.of) g.P.Source.makes f.node c.args.root
+          c.args.child.now (owned_node.Inner c.in-Inner.children) items items (g.P.Source.held c.args.pages.now)
+          (g.P.Source.held c.loop-one.pages) (g.P.Source.held c.make-in-Inner.new.self) c.loop-one.below.items
+          c.in_ok-make-in-Inner.field-0 c.loop-one.one-index so_far.inner
+          refl whole (ap Inner (sym c.deref-one-items.ensures.value)) (λ ts. refl) so_far.made
+          (subst (SuitsChild (by s.origin.form.version g.P.Hash.Hashes.of) c.args.root c.args.child.now) c.in-Inner.is
+          c.in_ok-records.ensures.suits) c.in_ok-make-in-Inner.ensures.made;
     }) c.loop-one.invariant.told

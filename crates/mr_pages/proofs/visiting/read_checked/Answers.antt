@@ -9,7 +9,7 @@ use Rattle.mr_pages.specs.private.Judging.{JudgesNode}
 use Rattle.mr_pages.specs.Walking.{child_link, page_node, ShowsWanted}
 use Rattle.mr_pages.proofs.Giving.{page_gives}
 use Rattle.mr_pages.proofs.ViewPages.{node_tells}
-use Rattle.mr_pages.proofs.Visits.{knows_of}
+use Rattle.mr_pages.proofs.Visits.{knows_of, suits_of}
 use Rattle.mr_pages.proofs.visiting.read_checked.Goals as goal
 
 pub check_node-requires-clause-counts : goal.check_node-requires-clause-counts
@@ -35,6 +35,16 @@ pub returns-clause-known : goal.returns-clause-known
 returns-clause-known g c =
     let s = g.P.Source.state c.args.pages.now in
     knows_of (by s.origin.form.version g.P.Hash.Hashes.of) c.args.child.now c.args.root c.node.new.into
+    c.in_ok-of.field-0
+    c.is_view.ensures
+    (c.in_ok-node.ensures.spelled c.if-not-branch.false)
+    (subst (λ (form : Form). node_faults (by form.version g.P.Hash.Hashes.of) c.args.root (child_link c.args.child.now)
+    (Some (page_node c.node.new.into)) ≡ []) c.layout-layout.ensures.form c.in_default.ensures.told) c.in_ok-of.ensures
+
+pub returns-clause-suits : goal.returns-clause-suits
+returns-clause-suits g c =
+    let s = g.P.Source.state c.args.pages.now in
+    suits_of (by s.origin.form.version g.P.Hash.Hashes.of) c.args.child.now c.args.root c.node.new.into
     c.in_ok-of.field-0
     c.is_view.ensures
     (c.in_ok-node.ensures.spelled c.if-not-branch.false)

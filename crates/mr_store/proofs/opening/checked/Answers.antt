@@ -72,7 +72,7 @@ returns-in-Err g c =
                   c.in-Err.error s.paging.there s.paging.file_
                   (λ file is. e.told file is (version_known (page_form f) (bytes_of f) file is));
               some = some_fault (page_form f) (form_is f.layout f.fits) g.H.Hashes.of f.pages (state_of f) (name_of f)
-                  s.paging.some s.paging.few c.in-Err.error e.of_some_bytes;
+                  s.paging.some s.paging.few _ c.in-Err.error e.of_some_bytes;
               why = record {
                 missing = λ is. misses _ _ _ _ (e.goes.untold (err_is c.in-Err.error errors.Missing is))
                     (e.goes.missing (err_is c.in-Err.error errors.Missing is));

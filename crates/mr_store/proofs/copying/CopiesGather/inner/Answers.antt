@@ -1,5 +1,5 @@
 use Rattle.mr_store.specs.declared.copying.Copies.{Copies}
-use Rattle.mr_store.proofs.Copies.{all_placed, inner_put}
+use Rattle.mr_pages.proofs.Copies.{all_placed, inner_put}
 use Rattle.mr_store.proofs.Walks.{if_ok}
 use Rattle.mr_store.proofs.copying.CopiesGather.inner.Goals as goal
 

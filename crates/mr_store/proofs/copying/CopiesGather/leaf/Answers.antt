@@ -1,5 +1,5 @@
 use Rattle.std.proofs.Common.{rules, ◌≡◌, ◌∙◌}
-use Rattle.mr_store.proofs.Copies.{leaf_put}
+use Rattle.mr_pages.proofs.Copies.{leaf_put}
 use Rattle.mr_store.proofs.Walks.{if_ok}
 use Rattle.mr_store.proofs.copying.CopiesGather.leaf.Goals as goal
 

@@ -1,7 +1,7 @@
 -- A copy of a map's nodes in a list: what each node adds.
-use Rattle.std.proofs.Common.{◌≡◌, ℕ, Bool, ◌+◌, ◌≤◌, List, [], ◌∷◌, ◌++◌, length, map, refl, sym, ap, subst, ◌∙◌, arith, append_assoc}
-use Rattle.std.specs.Prelude.{All, Ok}
-use Rattle.std.specs.List.{flat_map, AllByRecursion}
+use Rattle.std.proofs.Common.{◌≡◌, ℕ, Bool, true, false, ◌+◌, ◌≤◌, List, [], ◌∷◌, ◌++◌, length, map, refl, sym, ap, subst, ◌∙◌, arith, append_assoc}
+use Rattle.std.specs.Prelude.{All, Result, Ok, Err, IfOk}
+use Rattle.std.specs.List.{AllByRecursion}
 use Rattle.std.proofs.lemmas.List.{length-map, map-append, append-nil, flat_map_more}
 use Rattle.std.proofs.lemmas.List.Elements.{All-from_recursion, recursion_from_All, All-nil}
 use Rattle.mr_record.specs.Record.{HasLayer}
@@ -10,7 +10,7 @@ use Rattle.mr_record.specs.declared.version.Version.TheVariants.{Two}
 use Rattle.mr_record.specs.declared.record.Record.{Record}
 use Rattle.mr_tree.specs.Limits.{level_limit}
 use Rattle.mr_tree.specs.Tree.{first_level}
-use Rattle.mr_tree.specs.Digest.{Scheme, entry_step}
+use Rattle.mr_tree.specs.Digest.{Scheme, entry, entry_step}
 use Rattle.mr_tree.specs.declared.entry.Entry.{Entry}
 use Rattle.mr_tree.specs.View as view
 use Rattle.mr_tree.specs.View.{IsInner}
@@ -22,13 +22,31 @@ use Rattle.mr_tree.specs.declared.stored.Stored.TheVariants.{Records, Children}
 use Rattle.mr_tree.specs.declared.tree.Tree.{Tree}
 use Rattle.mr_tree.specs.declared.tree.Tree.TheVariants as tree
 use Rattle.mr_tree.specs.declared.tree.Tree.TheOpen.{Leaf, Inner}
+use Rattle.mr_tree.proofs.Equations.{entry-Leaf, entry-Inner}
 use Rattle.mr_tree.proofs.Subtrees.{subtrees-Leaf}
 use Rattle.mr_tree.proofs.Told.{told_counts}
 use Rattle.mr_tree.proofs.Placements.{leaf_placed, inner_placed, placed_on, links_more, trees_before}
-use Rattle.mr_store.specs.private.Walk.{SuitsEntry, GathersAll, moved}
-use Rattle.mr_store.specs.private.Copying.{trees_in, IsPut, ArePlaced}
-use Rattle.mr_pages.proofs.Fits.{levels}
-use Rattle.mr_store.proofs.Walks.{first_same, rest_same, no_first}
+use Rattle.mr_pages.specs.declared.node.Node as owned_type
+use Rattle.mr_pages.specs.Gathering.{SuitsEntry, IsCounted, CopiesNodes, AreMade, GathersAll, moved, tree_over}
+use Rattle.mr_pages.specs.Walking.{owned}
+use Rattle.mr_pages.specs.private.Copying.{trees_in, IsPut, ArePlaced}
+use Rattle.mr_pages.proofs.Fits.{levels, count_known}
+use Rattle.mr_pages.proofs.Visits.{MakesNode}
+
+-- ---- lists
+
+first_same : {A : Type 0} (x y : A) (xs ys : List A) → x ∷ xs ≡ y ∷ ys → x ≡ y
+first_same x y xs ys e = cc
+
+rest_same : {A : Type 0} (x y : A) (xs ys : List A) → x ∷ xs ≡ y ∷ ys → xs ≡ ys
+rest_same x y xs ys e = cc
+
+no_first : {A : Type 0} (x : A) (xs : List A) → x ∷ xs ≡ [] → ⊥
+no_first x xs e = cc
+
+pub if_ok : {A E : Type 0} (r : Result A E) (P Q : A → Type 0) → ((x : A) → P x → Q x) → IfOk r P → IfOk r Q
+if_ok (Ok x) P Q f h = f x h
+if_ok (Err e) P Q f h = tt
 
 -- ---- a leaf
 
@@ -177,3 +195,99 @@ module _ {S : Type 0} (x : Scheme) (nodes : S → List Stored) where
       ArePlaced x (nodes s) (nodes u) cs ts
   all_placed s u cs ts all linked =
       behind_placed (nodes s) s u [] cs [] ts (none_placed x (nodes s) linked) all
+
+-- ---- what a walk over pages puts there
+
+not_root : (a b : ℕ) → ◌≡◌ {A = Bool} false true → a ≡ b
+not_root a b e = absurd (no e)
+  where
+    no : ◌≡◌ {A = Bool} false true → ⊥
+    no h = cc
+
+-- the entries of nodes that stand there are those of the trees below them
+entries_there : (x : Scheme) (all : List Tree) (cs : List Child) → AllByRecursion (IsLinked x all) cs →
+    map view.child_entry cs ≡ map (entry x) (trees_in all cs)
+entries_there x all [] links = refl
+entries_there x all (c ∷ cs) links =
+    let one = links.0.entry in
+    let rest = entries_there x all cs links.1 in
+    λ i. one i ∷ rest i
+
+leaf_counted : (x : Scheme) (root : Bool) (c : Child) (rs : List Record) →
+    IsCounted root c (entry x (tree.Leaf rs)).count → IsCounted root c (view.count_over x.version (Leaf rs))
+leaf_counted x root c rs counted is =
+    counted is ∙ ap (λ (e : Entry). e.count) (entry-Leaf x rs) ∙ count_known x (Leaf rs)
+
+inner_counted : (x : Scheme) (root : Bool) (c : Child) (cs : List Child) (ts : List Tree) →
+    map view.child_entry cs ≡ map (entry x) ts → IsCounted root c (entry x (tree.Inner ts)).count →
+    IsCounted root c (view.count_over x.version (Inner cs))
+inner_counted x root c cs ts same counted is =
+    counted is ∙ ap (λ (e : Entry). e.count) (entry-Inner x ts ∙ ap (λ es. entry_step x (Inner es)) (sym same))
+    ∙ count_known x (Inner cs)
+
+module _ {S : Type 0} (nodes : S → List Stored) where
+  abbrev pub Copies : Scheme → Bool → S → S → Child → Child → Tree → Type 0
+  Copies x root s u c m t = CopiesNodes x root (nodes s) (nodes u) c m t
+
+  gathered : (x : Scheme) (s u : S) (cs ms : List Child) (ts : List Tree) → AreMade (Copies x false) s u cs ms ts →
+      GathersAll (Puts x nodes) s u ms ts × (map view.child_entry ms ≡ map view.child_entry cs)
+  unfolding GathersAll
+  gathered x s u [] [] [] all = (all, refl)
+  gathered x s u (c ∷ cs) (m ∷ ms) (t ∷ ts) all =
+      let rest = gathered x all.0 u cs ms ts all.2 in
+      let one = all.1.same in (
+        (all.0, (λ linked. all.1.placed (λ e. not_root _ _ e) linked), rest.0),
+        (λ i. one i ∷ rest.1 i),
+      )
+  gathered x s u [] [] (t ∷ ts) all = absurd all
+  gathered x s u [] (m ∷ ms) ts all = absurd all
+  gathered x s u (c ∷ cs) [] ts all = absurd all
+  gathered x s u (c ∷ cs) (m ∷ ms) [] all = absurd all
+
+  pub leaf_copied : (c m : Child) (n : owned_type.Node) (rs qs : List Record) (mid after : S) (below : List Child) →
+      owned n ≡ Leaf rs → ((ts : List Tree) → tree_over n ts ≡ tree.Leaf rs) →
+      qs ≡ rs → IsPut (nodes mid) (nodes after) (Records qs) m.id → m ≡ moved m.id c →
+      MakesNode Copies c n mid after below m
+  leaf_copied c m n rs qs mid after below own top same put is x root before ts suits all =
+      subst (Copies x root before after c m) (sym (top ts)) (at below ts
+      (subst (λ k. AreMade (Copies x false) before mid (view.children_in k) below ts) own all))
+    where
+      suits_as : IsCounted root c (view.count_over x.version (Leaf rs)) → SuitsEntry x root c (Leaf rs)
+      suits_as = subst (λ k. IsCounted root c (view.count_over x.version k) → SuitsEntry x root c k) own suits
+
+      at : (ms : List Child) (us : List Tree) → AreMade (Copies x false) before mid [] ms us →
+          Copies x root before after c m (tree.Leaf rs)
+      at [] [] none = record {
+        same = ap view.child_entry is;
+        placed = λ counted linked.
+            subst (λ k. IsPlaced x (nodes before) (nodes after) k (tree.Leaf rs)
+            (subtrees (tree.Leaf rs))) (sym is)
+            (leaf_put x root c rs qs (nodes before) (nodes after) m.id same
+            (subst (λ s. IsPut (nodes s) (nodes after) (Records qs) m.id) none put)
+            (suits_as (leaf_counted x root c rs counted)) linked);
+      }
+      at [] (u ∷ us) none = absurd none
+      at (k ∷ ks) us none = absurd none
+
+  pub inner_copied : (c m : Child) (n : owned_type.Node) (cs qs : List Child) (mid after : S) (below : List Child) →
+      owned n ≡ Inner cs → ((ts : List Tree) → tree_over n ts ≡ tree.Inner ts) →
+      qs ≡ below → IsPut (nodes mid) (nodes after) (Children qs) m.id → m ≡ moved m.id c →
+      MakesNode Copies c n mid after below m
+  inner_copied c m n cs qs mid after below own top same put is x root before ts suits all =
+      let made = gathered x before mid cs below ts
+      (subst (λ k. AreMade (Copies x false) before mid (view.children_in k) below ts) own all) in
+      let suits_as : IsCounted root c (view.count_over x.version (Inner cs)) → SuitsEntry x root c (Inner cs) =
+      subst (λ k. IsCounted root c (view.count_over x.version k) → SuitsEntry x root c k) own suits in
+      subst (Copies x root before after c m) (sym (top ts)) (record {
+        same = ap view.child_entry is;
+        placed = λ counted linked.
+            let placed = all_placed x nodes before mid below ts made.0 linked in
+            let known : map view.child_entry cs ≡ map (entry x) ts =
+            sym made.1 ∙ entries_there x (trees (nodes mid)) below
+            (recursion_from_All (IsLinked x (trees (nodes mid))) below placed.links)
+            ∙ ap (map (entry x)) (sym placed.are) in
+            subst (λ k. IsPlaced x (nodes before) (nodes after) k (tree.Inner ts) (subtrees (tree.Inner ts))) (sym is)
+            (inner_put x root c below qs cs ts (nodes before) (nodes mid) (nodes after) m.id same put
+            (suits_as (inner_counted x root c cs ts known counted)) made.1
+            (all_placed x nodes before mid below ts made.0) linked);
+      })
