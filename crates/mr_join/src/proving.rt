@@ -136,7 +136,8 @@ fn first_part<N: Nodes>(alloc: Global, nodes: &mut N, rect: &Rect) -> Result<Fir
 
 // The length of a part, where the frame has room for it.
 fn size_of(part: &[u8]) -> Option<u32>
-    ensures { result ≡ (if nat_lt (length part.now) (2 ^ 32) then Some (length part.now) else None) }
+    ensures { result
+        ≡ (if nat_lt (length part.now) (2 ^ 32) then Some (length part.now) else None) }
 {
     u32::try_from(part.len()).ok()
 }

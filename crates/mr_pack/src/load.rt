@@ -103,8 +103,8 @@ pub fn pack_distinct(alloc: Global, list: Vec<Record>) -> Result<Tree, AllocErro
     packed(alloc, &list)
 }
 
-/// As `pack_distinct`, and gives what is said of the tree's leaves in version 1, left to right. They
-/// are hashed in joined halves, as in `pack_joined`; no node above them is.
+/// As `pack_distinct`, and gives what is said of the tree's leaves in version 1, left to right.
+/// They are hashed in joined halves, as in `pack_joined`; no node above them is.
 pub fn pack_leaves_distinct<H: Hash32, G: Gate, R: Threads + Sync>(
     rt: &R,
     alloc: Global,

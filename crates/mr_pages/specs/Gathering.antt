@@ -58,7 +58,8 @@ tree_over (owned_node.Inner children) ts = tree.Inner ts
 abbrev pub AreMade : {S M : Type 0} → (S → S → Child → M → Tree → Type 0) → S → S → List Child →
     List M → List Tree → Type 0
 AreMade makes s u [] [] [] = u ≡ s
-AreMade makes s u (c ∷ cs) (m ∷ ms) (t ∷ ts) = (v : _) × makes s v c m t × AreMade makes v u cs ms ts
+AreMade makes s u (c ∷ cs) (m ∷ ms) (t ∷ ts) =
+    (v : _) × makes s v c m t × AreMade makes v u cs ms ts
 AreMade makes s u _ _ _ = ⊥
 
 -- something was made of the root's node, for the tree that the pages below it spell, or nothing
@@ -66,7 +67,8 @@ AreMade makes s u _ _ _ = ⊥
 abbrev pub MakesTree : {S M : Type 0} → (S → S → Child → M → Tree → Type 0) → S → S →
     Option Child → Option M → File → Type 0
 MakesTree makes s u None None f = u ≡ s
-MakesTree makes s u (Some c) (Some m) f = makes s u c m (tree_of (place f.node c.level (child_link c)))
+MakesTree makes s u (Some c) (Some m) f =
+    makes s u c m (tree_of (place f.node c.level (child_link c)))
 MakesTree makes s u _ _ f = ⊥
 
 -- the tree that was made, or that of a map without a node

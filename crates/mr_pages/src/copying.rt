@@ -67,9 +67,11 @@ impl Maker for Copies {
     fn make_of(&mut self, child: &Child, node: Node, below: Vec<Child>) -> Result<Child, AllocError>
         ensures { IfOk result (λ made. (x : Scheme) (root : Bool) (before : _)
             (ts : List trees.Tree) → SuitsChild x root child.now node →
-            AreMade (λ s u c one t. CopiesNodes x false s.items u.items c one t) before self.old.nodes
+            AreMade (λ s u c one t. CopiesNodes x false s.items u.items c one t)
+            before self.old.nodes
             (children_in (owned node)) below.items ts →
-            CopiesNodes x root before.items self.new.nodes.items child.now made (tree_over node ts)) }
+            CopiesNodes x root before.items self.new.nodes.items child.now made
+            (tree_over node ts)) }
     {
         match node {
             Node::Leaf(records) => {

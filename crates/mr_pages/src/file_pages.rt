@@ -110,10 +110,12 @@ impl<S: Shelf, H: Hashes, G: Maker> Source for FilePages<'_, '_, '_, '_, S, H, G
         node: Node,
         below: Vec<G::Made>,
     ) -> Result<G::Made, AllocError>
-        ensures same { on_shelf (form_of self.new.layout) (self.new.shelf.ghost_name, self.new.into.ghost_name)
+        ensures same { on_shelf (form_of self.new.layout)
+            (self.new.shelf.ghost_name, self.new.into.ghost_name)
             self.new.pages
             (S.state self.new.shelf.now) self.new.name.now
-            ≡ on_shelf (form_of self.old.layout) (self.old.shelf.ghost_name, self.old.into.ghost_name)
+            ≡ on_shelf (form_of self.old.layout)
+            (self.old.shelf.ghost_name, self.old.into.ghost_name)
             self.old.pages
             (S.state self.old.shelf.now) self.old.name.now }
         ensures made { IfOk result (λ m. (x : Scheme) (root : Bool) (before : G.Held)

@@ -36,7 +36,8 @@ pub trait Maker: Drop {
     ) -> Result<Self::Made, AllocError>
         ensures { IfOk result (λ m. (x : Scheme) (root : Bool) (before : Self.Held)
             (ts : List trees.Tree) → SuitsChild x root child.now node →
-            AreMade (makes x false) before (held self.old) (children_in (owned node)) below.items ts →
+            AreMade (makes x false) before (held self.old) (children_in (owned node))
+            below.items ts →
             makes x root before (held self.new) child.now m (tree_over node ts)) };
 }
 
@@ -56,7 +57,8 @@ impl Maker for Trees {
     fn make_of(&mut self, _child: &Child, node: Node, below: Vec<Tree>) -> Result<Tree, AllocError>
         ensures { IfOk result (λ made. (x : Scheme) (root : Bool) (before : ⊤)
             (ts : List trees.Tree) → SuitsChild x root _child.now node →
-            AreMade {S = ⊤} (λ s u c one t. one ≡ t) before tt (children_in (owned node)) below.items ts →
+            AreMade {S = ⊤} (λ s u c one t. one ≡ t) before tt (children_in (owned node))
+            below.items ts →
             made ≡ tree_over node ts) }
     {
         match node {

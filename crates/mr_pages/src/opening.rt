@@ -53,7 +53,8 @@ fn open_front<H: Hashes, S: Shelf, W: Whole<H>>(
     requires told { OfFile (S.state shelf.old).files name.now ⊥
         (λ file. IsFrontOfFile file room.now) }
     requires are { OfFile (S.state shelf.old).files name.now ⊥ AreBytes }
-    ensures told { OfFile (S.state shelf.old).files name.now (FailsWithoutFault (opened_as W.shows result))
+    ensures told { OfFile (S.state shelf.old).files name.now
+        (FailsWithoutFault (opened_as W.shows result))
         (λ bytes. TellsBytes (form_by version) H.of bytes (opened_as W.shows result)) }
     ensures of_some_bytes { SomeBytes (form_by version) H.of (opened_as W.shows result) }
     ensures causes { MapCauses name.now (S.state shelf.old) (S.state shelf.new)
@@ -81,7 +82,8 @@ fn open_named<H: Hashes, S: Shelf, W: Whole<H>>(
     shelf: &mut S,
     name: &str,
 ) -> Result<W, MapErr>
-    ensures told { OfFile (S.state shelf.old).files name.now (FailsWithoutFault (opened_as W.shows result))
+    ensures told { OfFile (S.state shelf.old).files name.now
+        (FailsWithoutFault (opened_as W.shows result))
         (λ bytes. TellsBytes (form_at bytes) H.of bytes (opened_as W.shows result)) }
     ensures of_some_bytes { SomeFile H.of (opened_as W.shows result) }
     ensures law { (v : versions.Version) (bytes : List ℕ) → AreBytes bytes →

@@ -123,8 +123,8 @@ pub fn save_rooted<H: Hash32, S: Shelf>(
     save_named::<H, S>(alloc, Layout::by(version), shelf, name, tree, batch, leaves)
 }
 
-/// `save_rooted` in version 1, where nothing is known of the leaves and the root digest is not asked
-/// for.
+/// `save_rooted` in version 1, where nothing is known of the leaves and the root digest is not
+/// asked for.
 pub fn save_plain<H: Hash32, S: Shelf>(
     alloc: Global,
     shelf: &mut S,

@@ -105,7 +105,8 @@ pub trait Source {
         ensures same { state self.new ≡ state self.old }
         ensures made { IfOk result (λ m. (x : Scheme) (root : Bool) (before : Self.Held)
             (ts : List trees.Tree) → SuitsChild x root child.now node →
-            AreMade (makes x false) before (held self.old) (children_in (owned node)) below.items ts →
+            AreMade (makes x false) before (held self.old) (children_in (owned node))
+            below.items ts →
             makes x root before (held self.new) child.now m (tree_over node ts)) }
         ensures kept { OnOk result (keeps self.new child.now.id) }
         ensures stay { Stay (keeps self.old) (keeps self.new) };

@@ -33,7 +33,8 @@ use Rattle.mr_record.proofs.RecordLines.{i32_some, digit_ink, payload_ink, lacks
 
 -- one digit more
 pub digits_more : (line : List ℕ) (at number digit : ℕ) → at < length line → digit ≡ get_or line at 0 →
-    is_ascii_digit digit ≡ true → list_all is_ascii_digit (take at line) ≡ true → number ≡ digits_value 10 (take at line)
+    is_ascii_digit digit ≡ true → list_all is_ascii_digit (take at line) ≡ true →
+    number ≡ digits_value 10 (take at line)
     → (list_all is_ascii_digit (take (at + 1) line) ≡ true)
     × (number * 10 + (digit - 48) ≡ digits_value 10 (take (at + 1) line))
 digits_more line at number digit lt is one all value =
@@ -178,7 +179,8 @@ last_in_front Two line rest layer has lacks =
 pub record_in_front : (v : Version) (line first second third rest : List ℕ) (n : ℕ) (x0 y0 x1 y1 : ℤ) (layer : ℕ)
     (rect : Rectangle) (payload : List ℕ) → StandsInFront u64_of n line first → HasPointInFront x0 y0 first second →
     HasPointInFront x1 y1 second third → HasLayerInFront v layer third rest →
-    rectangle_of (kept x0) (kept y0) (kept x1) (kept y1) ≡ Some rect → payload_of rest ≡ Some payload → record_of_fields v (fields_of line)
+    rectangle_of (kept x0) (kept y0) (kept x1) (kept y1) ≡ Some rect → payload_of rest ≡ Some payload →
+    record_of_fields v (fields_of line)
     ≡ Ok (record { number = n; rect = rect; layer = 0; payload = payload }, Some layer)
 record_in_front v line first second third rest n x0 y0 x1 y1 layer rect payload number low high last box bytes =
     let lower = point_kept first second x0 y0 low in
@@ -195,6 +197,8 @@ record_in_front v line first second third rest n x0 y0 x1 y1 layer rect payload 
     ∙ ap (λ (f : List (List ℕ)). a.field ∷ f) (fields_cut lower.between b.field second b.cut
     ∙ ap (λ (f : List (List ℕ)). b.field ∷ f) (fields_cut second c.field upper.between c.cut
     ∙ ap (λ (f : List (List ℕ)). c.field ∷ f) (fields_cut upper.between d.field third d.cut)))))
-    ∙ record_of_parts number.field a.field b.field c.field d.field (last_of (fields_of third) v) n rect layer rest payload
+    ∙ record_of_parts number.field a.field b.field c.field d.field (last_of (fields_of third) v) n
+    rect layer rest payload
     (last_in_front v third rest layer last lacks) number.spells
-    (rectangle_of_four a.field b.field c.field d.field (kept x0) (kept y0) (kept x1) (kept y1) rect a.spells b.spells c.spells d.spells box) bytes
+    (rectangle_of_four a.field b.field c.field d.field (kept x0) (kept y0) (kept x1) (kept y1) rect
+    a.spells b.spells c.spells d.spells box) bytes

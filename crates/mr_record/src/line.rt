@@ -180,8 +180,8 @@ fn front_last(version: Version, line: &[u8]) -> Option<(u8, &[u8])>
     }
 }
 
-// The record of a line that breaks no rule, read in one pass. `None` says nothing of the line: which
-// rule it breaks, if any, is left to `read_each`.
+// The record of a line that breaks no rule, read in one pass. `None` says nothing of the line:
+// which rule it breaks, if any, is left to `read_each`.
 fn read_at_once(version: Version, line: &[u8]) -> Option<(Record, Option<u8>)>
     ensures { IfSome result (λ p. record_of_fields version (fields_of line.now) ≡ Ok p) }
 {

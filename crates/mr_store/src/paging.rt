@@ -76,7 +76,8 @@ impl<S: Shelf, H: Hashes> Source for Paging<'_, S, H> {
         ensures same { sourced self.new.file ≡ sourced self.old.file }
         ensures made { IfOk result (λ m. (x : Scheme) (root : Bool) (before : ⊤) (ts : List Tree) →
             SuitsChild x root child.now node →
-            AreMade {S = ⊤} (λ s u c one t. ⊤) before tt (children_in (owned node)) _below.items ts →
+            AreMade {S = ⊤} (λ s u c one t. ⊤) before tt (children_in (owned node))
+            _below.items ts →
             ⊤) }
         ensures kept { OnOk result
             (HoldsPage self.new.file.pages (entries_of self.new.file) child.now.id) }

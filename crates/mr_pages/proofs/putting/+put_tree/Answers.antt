@@ -128,7 +128,8 @@ show_children-requires g t c =
     let end : c.loop-child.child-index ≡ length ts =
     omega (arith, c.loop-child-test.false, c.loop-child.auto.child-index-end) in
     let all = put_whole (form_of c.args.layout) g.H.Hashes.of c.args.tree.now ts c.loop-child.child-index c.args.page
-    c.args.pages.now.items c.loop-child.pages.items c.loop-child.links.items is c.requires.can c.loop-child.invariant.put
+    c.args.pages.now.items c.loop-child.pages.items c.loop-child.links.items is
+    c.requires.can c.loop-child.invariant.put
     end in
     let told = links_told (form_of c.args.layout) g.H.Hashes.of c.args.tree.now ts c.loop-child.child-index c.args.page
     c.args.pages.now.items c.loop-child.pages.items c.loop-child.links.items is c.requires.can c.requires.layers

@@ -17,7 +17,8 @@ pub returns-clause-stands : goal.returns-clause-stands
 returns-clause-stands g c =
     let hash = g.H.Hashes.of in
     OfFile-put c.args.name.now (saved second_form hash c.args.tree.now c.args.batch) ⊥
-    (λ bytes. StandsForTree second_form hash bytes c.args.tree.now c.args.batch) (g.S.Shelf.state c.args.shelf.now).files
+    (λ bytes. StandsForTree second_form hash bytes c.args.tree.now c.args.batch)
+    (g.S.Shelf.state c.args.shelf.now).files
     (g.S.Shelf.state c.save_named.new.shelf).files c.in_ok-save_named.ensures.whole c.save_named.ensures.stands
 
 pub returns-clause-causes : goal.returns-clause-causes
