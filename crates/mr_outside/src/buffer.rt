@@ -51,6 +51,13 @@ impl<const N: usize> Buffer<N> {
         self.len += bytes.len();
     }
 
+    /// Forgets the bytes so far.
+    pub fn clear(&mut self)
+        ensures { self.new ≡ [] }
+    {
+        self.len = 0;
+    }
+
     /// The bytes so far.
     pub fn as_slice(&self) -> &[u8]
         ensures bytes { result.now ≡ self.now }
