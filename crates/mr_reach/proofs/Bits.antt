@@ -120,7 +120,7 @@ pub runs_more : (marks rest row behind : List Bool) (before count after : ℕ) (
     → bits ≡ mask row → new ≡ runs ++ record { before = before; bits = bits } ∷ [] → count ≡ count_ones bits
     → after ≡ before + count → RunsSome marks behind after new
 runs_more marks rest row behind before count after runs new bits so some row_is behind_is bits_is new_is
-  count_is after_is =
+    count_is after_is =
     let left = ap length so.rest_is ∙ length-drop (64 * length runs) marks in
     let grown : length new ≡ length runs + 1 = ap length new_is ∙ length_push runs run in
     let line : row ≡ take 64 (drop (64 * length runs) marks) = row_is ∙ ap (take 64) so.rest_is in

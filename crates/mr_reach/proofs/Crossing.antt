@@ -142,7 +142,7 @@ any_counted p (r ∷ rs) = by_test (p r) refl (any_counted p rs)
         → list_any p (r ∷ rs) ≡ ltb 0 (count_by p (r ∷ rs))
     by_test true e rest =
         let some : 0 < count_by p (r ∷ rs) =
-          omega (arith, bit_of p r rs ∙ ap (λ (b : Bool). cond b 1 0 + count_by p rs) e) in
+        omega (arith, bit_of p r rs ∙ ap (λ (b : Bool). cond b 1 0 + count_by p rs) e) in
         ap (λ (b : Bool). b || list_any p rs) e ∙ sym (lt-ltb 0 (count_by p (r ∷ rs)) some)
     by_test false e rest =
         let same : count_by p rs ≡ count_by p (r ∷ rs) =

@@ -118,7 +118,7 @@ walk_first list v at half start sum low front w is before = record {
 }
 
 pub walk_second : (list : List ℤ) (v : ℤ) (at half start sum low front : ℕ) →
-  Walks list v at (half + half) start sum low
+    Walks list v at (half + half) start sum low
     → front ≡ at_most v (take half (drop start list))
     → low ≡ at_most v (take half (drop start list)) + at_most v (take half (drop half (drop start list)))
     → start + half ≤ at → Walks list v at half (start + half) (sum + front) (low - front)

@@ -250,7 +250,7 @@ module _ (hash : List ℕ → List ℕ) (before after : Option Files) (status : 
   unread_done said (Some files) ends = ends.0
 
   pub done : IsSized hash → (command : Command) → AllByRecursion IsWord (words_of command) →
-    IsInOrder hash before command
+      IsInOrder hash before command
       → EndsAsSaid (say hash (Some command)) (may_be hash command) before after status text → status ≡ Done
   done sized (commands.Root name) each holds ends =
       text_done One name.now (say_root_of One hash) (may_be hash (commands.Root name)) (λ list. refl) holds ends

@@ -7,7 +7,7 @@ use Rattle.mr_reach.specs.private.Corners.{Axes, CountsCorners}
 -- the right or the left one, of the upper or of the lower ones
 abbrev pub corner_of : Bool → Bool → Rectangle → Point
 corner_of right upper r =
-  record { x = if right then r.x1 else r.x0; y = if upper then r.y1 else r.y0 }
+    record { x = if right then r.x1 else r.x0; y = if upper then r.y1 else r.y0 }
 
 -- the corners of ordered rectangles
 pub record HasCorners
