@@ -1,4 +1,5 @@
 pub mod Slim
 pub mod Sound
 pub mod HashLaws
+pub mod Fed
 pub mod SnapshotLaws
