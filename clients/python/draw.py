@@ -3,12 +3,12 @@
 
 usage: draw.py [--most BYTES] [--count] ROOT QUERY PROOF SVG
 
-The proof is checked first, and only one that is accepted is drawn: round the query and the answer the opened nodes, the
-pruned parts, the records that are shown and those of the answer, and the window, or the circle through the last of the
-nearest records. With `--count` the proof is a count proof: the pruned parts that are inside the window are drawn as
-such, and of the records that are shown those that are inside. A small picture below shows where on the map that is.
-North is up. Of more than 4,000 shapes the first are drawn, those of the answer before others, and that is told. `-` is
-the standard input or output. Exit statuses are those of `records.py`. This script is tested and not proved.
+The proof is checked first, and only one that is accepted is drawn. Round the query and the answer stand the opened
+nodes, the pruned parts, the records that are shown and those of the answer. So does the window, or the circle through
+the last of the nearest records. With `--count` the proof is a count proof: the pruned parts that are inside the window
+are drawn as such, and of the records that are shown those that are inside. A small picture below shows where on the map
+that is. North is up. Of more than 4,000 shapes the first are drawn, those of the answer before others, and that is
+told. `-` is the standard input or output. Exit statuses are those of `records.py`. The script is tested, not proved.
 """
 from __future__ import annotations
 

@@ -6,8 +6,8 @@ usage: mrtree_check.py [--most BYTES] [check] ROOT QUERY PROOF
        mrtree_check.py [--most BYTES] check-join ROOT ROOT2 PROOF
        mrtree_check.py [--most BYTES] check-all ROOT SCRIPT BUNDLE
 
-Lines and exit statuses are those of the program's commands of these names, with three differences: a file may be a pipe
-too, the name `-` is the standard input, and of a proof or bundle no more is read than `--most` allows: a longer one
+Lines and exit statuses are those of the program's commands of these names, with three differences. A file may be a pipe
+too. The name `-` is the standard input. And of a proof or bundle no more is read than `--most` allows: a longer one
 ends with status 7. It is tested against the program, and not proved.
 
 As a module: `check(root, query, proof)` answers the records, the batch and the count of the map, or raises `Refused`;

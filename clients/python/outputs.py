@@ -1,7 +1,7 @@
 """Files that are written whole or not at all, and runs that end with a line and a status. Shared by the scripts.
 
 An output is written beside its name and renamed once all of it is there: a run that is stopped, or for which something
-does not fit, leaves the old file as it was. What goes wrong is one line on standard error; the exit statuses are those
+does not fit, leaves the old file as it was. What goes wrong is one line on standard error. The exit statuses are those
 of the program: 1 where words or a file do not fit, 2 of a refused proof, 7 where a file cannot be read or written, 8
 without memory.
 """

@@ -269,9 +269,9 @@ function toldOf({ rect, mask }, version) {
 }
 
 /**
- * An opened node, of which parts are still to come: its level, how many parts are left, the
- * rectangle round those that came, their mask and the count of their records, and its preimage so
- * far. Of an inner node the preimage lacks the digests of its children, which are promised:
+ * An opened node, of which parts are still to come: its level, how many parts are left, and its
+ * preimage so far; of those that came the rectangle round them, their mask and the count of their
+ * records. Of an inner node the preimage lacks the digests of its children, which are promised:
  * `digests` has them, with their places. In version 1 a mask is of all layers, and a count is 0.
  */
 class Opened {

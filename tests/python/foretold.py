@@ -1,15 +1,16 @@
 """The rows and stories of crates/mr_rows, foretold: what runs print and leave, and what is left where a call fails.
 
 What comes of a command is that of said.py, by docs/FORMATS.md, under the hash function of the table. Calls that fail
-are foretold from the course of a command's calls, as the rows name them: a text or a proof is asked for its size and
+are foretold from the course of a command's calls, as the rows name them. A text or a proof is asked for its size and
 read by pieces, a map page by page; what a command makes is then made, written and synced, a map's page 0 last. A map
-of version 1 goes to its file at once; one of version 2 child by child of the root, behind zeros for page 0 and the
-root, and the root's page before page 0. Of what is written in a call that fails half is there. Of `apply` the calls
-between the copy of OLD and the first sync are not foretold one by one: whichever they are, a file that they leave is
-Unsealed, or is of a bad Size just where a page was being added, which comes about as often as the file has pages more
-than OLD. Half a page of version 2 is a whole one of version 1, in which a file without page 0 is read: so that file is
-Unsealed there too. Where each call on real files fails in turn, what the whole run says and leaves is foretold, and
-about how many calls it makes; what may be left where one fails is a rule of the program that goes through the rows.
+of version 1 goes to its file at once. One of version 2 goes there child by child of the root, behind zeros for page 0
+and the root, and the root's page before page 0. Of what is written in a call that fails half is there. Of `apply` the
+calls between the copy of OLD and the first sync are not foretold one by one. Whichever they are, a file that they
+leave is Unsealed, or is of a bad Size just where a page was being added. That comes about as often as the file has
+pages more than OLD. Half a page of version 2 is a whole one of version 1, in which a file without page 0 is read: so
+that file is Unsealed there too. Where each call on real files fails in turn, what the whole run says and leaves is
+foretold, and about how many calls it makes. What may be left where one fails is a rule of the program that goes
+through the rows.
 """
 import hashlib
 import itertools
