@@ -18,7 +18,6 @@ pub mod ToFault
 pub mod Verdicts
 pub mod Audits
 pub mod CountProofs
-pub mod Served
 pub mod Joined
 pub mod Bundles
 pub mod Piecewise

@@ -83,14 +83,6 @@ IsFewBeside hash opened_nodes bytes proof n = (n ≤ pages_in bytes)
     × (n ≤ pages_in bytes + pieces_of proof
     + opened_beside opened_nodes (by (version_of bytes) hash) t batch proof))))
 
--- the pages of a file of these bytes; where it stands for a map the pieces of a script besides, and
--- where that is large each of its nodes once, of which there are fewer than pages
-abbrev pub IsFewServed : (List ℕ → List ℕ) → List ℕ → Input → ℕ → Type 0
-IsFewServed hash bytes script n = (n ≤ pages_in bytes)
-    ⊎ ((t : Tree) × (batch : ℕ) × IsMapFile hash bytes (map_in (version_of bytes) t batch)
-    × ((n ≤ pages_in bytes + pieces_of script) ⊎ (IsLarge bytes
-    × (n ≤ pages_in bytes + length (subtrees t) + pieces_of script))))
-
 -- what the directory of a map in so many pages reads again: each node once, where it is large
 abbrev pub nodes_listed : (pages : ℕ) → Tree → ℕ
 nodes_listed pages t = if nat_lt (room + 1) pages then length (subtrees t) else 0
@@ -127,11 +119,6 @@ abbrev pub AllowsAudit : (List ℕ → List ℕ) → (map : List ℕ) → Opens 
     → ℕ → Type 0
 AllowsAudit hash map opened_nodes proof files n = MatchOption (file files map) (n ≡ 0)
     (λ bytes. IsFewBeside hash opened_nodes bytes (file files proof) n)
-
--- of the map and the script, for a bundle
-abbrev pub AllowsServe : (List ℕ → List ℕ) → (map script : List ℕ) → Files → ℕ → Type 0
-AllowsServe hash map script files n =
-    MatchOption (file files map) (n ≡ 0) (λ bytes. IsFewServed hash bytes (file files script) n)
 
 -- of the map, the batch and the new file, for `apply`
 abbrev pub AllowsApply : (List ℕ → List ℕ) → (old batch : List ℕ) → Files → ℕ → Type 0
@@ -172,8 +159,6 @@ MayRead hash (Some (commands.Count map q proof)) files n =
     AllowsProof hash map.now 1 (count_question (count_ways q)) files n
 MayRead hash (Some (commands.AuditCount map q proof)) files n =
     AllowsAudit hash map.now (opens_for_count (count_ways q)) proof.now files n
-MayRead hash (Some (commands.Serve map script bundle)) files n =
-    AllowsServe hash map.now script.now files n
 MayRead hash (Some (commands.Apply old batch new)) files n =
     AllowsApply hash old.now batch.now files n
 MayRead hash (Some (commands.Check root q proof)) files n =

@@ -4,10 +4,9 @@ ghost use Rattle.std.specs.Prelude.{◌≡◌, ◌≤◌, length, All, Ok};
 ghost use Rattle.std.specs.List.{list_any};
 ghost use Rattle.mr_query.specs.Script.{script_limit};
 ghost use Rattle.mr_query.specs.Word.{IsAskable};
-ghost use Rattle.mr_command.specs.Ending.{RunsPlan, IsCarriedOut};
+ghost use Rattle.mr_command.specs.Ending.{RunsPlan};
 ghost use Rattle.mr_plan.specs.Plan.{comes};
-ghost use Rattle.mr_plan.specs.Say.{lacks_proof as lacks, needs_map, opened_in, say_script, say_serve_of};
-ghost use Rattle.mr_plan.specs.declared.words.Command.TheVariants as commands;
+ghost use Rattle.mr_plan.specs.Say.{lacks_proof as lacks, opened_in, say_script, say_serve, say_serve_of};
 
 use crate::bundling::{bundle_size, save_proofs};
 use crate::ending::{Ending, Halt};
@@ -84,8 +83,10 @@ fn serve_script<H: Hash32, S: Shelf, G: Gate, R: Threads + Sync>(
     }
 }
 
-// The same on the map in a file.
-fn serve_map<H: Hash32, S: Shelf, G: Gate, R: Threads + Sync>(
+/// The proofs for the queries of a script on the map in a file, written to another one, where the
+/// map has one for each. The map is taken into memory as it is opened, and the script is read
+/// behind it.
+pub fn serve<H: Hash32, S: Shelf, G: Gate, R: Threads + Sync>(
     rt: &R,
     alloc: Global,
     map: &str,
@@ -94,31 +95,11 @@ fn serve_map<H: Hash32, S: Shelf, G: Gate, R: Threads + Sync>(
     shelf: &mut S,
     gate: &G,
 ) -> Result<Ending, Halt>
-    ensures { RunsPlan (needs_map H.of map.now (say_script H.of script.now bundle.now))
-        (S.state shelf.old) (S.state shelf.new) result }
+    ensures { RunsPlan (say_serve H.of map.now script.now bundle.now) (S.state shelf.old)
+        (S.state shelf.new) result }
 {
     match take_map::<H, S>(alloc, map, shelf) {
         Ok(nodes) => serve_script::<H, S, G, R>(rt, alloc, &nodes, script, bundle, shelf, gate),
         Err(came) => came,
     }
-}
-
-/// The proofs for the queries of a script on the map in a file, written to another one, where the
-/// map has one for each. The map is taken into memory as it is opened, and the script is read
-/// behind it. The shelf is handed back.
-pub fn serve<H: Hash32, S: Shelf, G: Gate, R: Threads + Sync>(
-    rt: &R,
-    alloc: Global,
-    map: &str,
-    script: &str,
-    bundle: &str,
-    shelf: S,
-    gate: &G,
-) -> (Result<Ending, Halt>, S)
-    ensures { IsCarriedOut H.of (commands.Serve map.entry script.entry bundle.entry) (S.state shelf)
-        (S.state result.1) result.0 }
-{
-    let mut shelf = shelf;
-    let came = serve_map::<H, S, G, R>(rt, alloc, map, script, bundle, &mut shelf, gate);
-    (came, shelf)
 }

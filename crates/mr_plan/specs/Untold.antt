@@ -12,7 +12,6 @@ use Rattle.mr_tree.specs.Limits.{count_limit, level_limit}
 use Rattle.mr_tree.specs.Nodes.{MapModel, root_entry}
 use Rattle.mr_tree.specs.View.{IsChild}
 use Rattle.mr_tree.specs.declared.child.Child.{Child}
-use Rattle.mr_tree.specs.WellFormed.{WellFormed}
 use Rattle.mr_pages.specs.Law.{IsMapFile, map_root}
 use Rattle.mr_pages.specs.declared.opening.Opened.{Opened}
 use Rattle.mr_pages.specs.Opening.{SomeFile}
@@ -24,7 +23,6 @@ use Rattle.mr_batch.specs.Admissible.{batch_fault}
 use Rattle.mr_batch.specs.BatchText.{batch_of_text}
 use Rattle.mr_batch.specs.Changes.{Changes}
 use Rattle.mr_batch.specs.declared.admission.BatchFault.{BatchFault}
-use Rattle.mr_query.specs.Script.{queries_of_text}
 use Rattle.mr_query.specs.declared.query.Query.{Query}
 use Rattle.mr_check.specs.Versions.{proof_version}
 use Rattle.mr_clash.specs.Finding.{ShowsCollision, FindsFor}
@@ -41,7 +39,7 @@ use Rattle.mr_plan.specs.Outcome.{Outcome}
 use Rattle.mr_plan.specs.Outcome as content
 use Rattle.mr_plan.specs.Plan.{LeadsToOutcome}
 use Rattle.mr_plan.specs.Say.{say}
-use Rattle.mr_plan.specs.Saying.{ends, says_missing, say_text, say_written, say_finding, say_count_finding, say_in_place, say_serve_of}
+use Rattle.mr_plan.specs.Saying.{ends, says_missing, say_text, say_written, say_finding, say_count_finding, say_in_place}
 use Rattle.mr_plan.specs.declared.status.Status.{Status}
 use Rattle.mr_plan.specs.declared.status.Status.TheVariants.{Done, BadText, BadMap, BadBatch, NeedsVersion2}
 use Rattle.mr_plan.specs.declared.words.Command.{Command}
@@ -150,12 +148,6 @@ MaySayAuditCount hash map way proof = MaySayBeside hash map proof (λ said. (byt
     × (finding : ChoiceFinding) × IsCountFinding hash way bytes finding
     × (said ≡ say_count_finding way finding))
 
--- it is refused, or what is said is the bundle of some map, for the queries of some script
-abbrev pub MaySayServe : (List ℕ → List ℕ) → (map script bundle : List ℕ) → Outcome → Type 0
-MaySayServe hash map script bundle said = IsRefused hash map said ⊎ (said ≡ says_missing script)
-    ⊎ ((held : Opened) × ∥ WellFormed held.tree ∥₁ × (text : List ℕ) × AreBytes text
-    × (said ≡ say_serve_of hash bundle held (queries_of_text text)))
-
 -- it is refused, or why some batch is not applied is said, or some root
 abbrev pub MaySayApply : (List ℕ → List ℕ) → (old batch new : List ℕ) → Outcome → Type 0
 MaySayApply hash old batch new said = IsRefused hash old said ⊎ (said ≡ says_missing batch)
@@ -213,8 +205,6 @@ MaySayUntold hash (Some (commands.Count map query proof)) said =
     MaySayProof hash map.now (count_question (count_ways query)) proof.now said
 MaySayUntold hash (Some (commands.AuditCount map query proof)) said =
     MaySayAuditCount hash map.now (count_ways query) proof.now said
-MaySayUntold hash (Some (commands.Serve map script bundle)) said =
-    MaySayServe hash map.now script.now bundle.now said
 MaySayUntold hash (Some (commands.Apply old batch new)) said =
     MaySayApply hash old.now batch.now new.now said
 MaySayUntold hash (Some (commands.ApplyHere map batch)) said =

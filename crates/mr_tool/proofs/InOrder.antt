@@ -34,7 +34,7 @@ use Rattle.mr_plan.specs.Counts.{count_question, count_ways}
 use Rattle.mr_plan.specs.First.{pages_by}
 use Rattle.mr_plan.specs.Outcome.{Outcome, IsHeld}
 use Rattle.mr_plan.specs.Plan.{Plan, comes, opens, LeadsToOutcome}
-use Rattle.mr_plan.specs.Untold.{MaySayApply, MaySayServe}
+use Rattle.mr_plan.specs.Untold.{MaySayApply}
 use Rattle.mr_tool.specs.Promises.{HoldsBytes, HoldsRecords, HoldsMap, HoldsProof, HoldsCut, HoldsMaps, HoldsPairs, HoldsHonestJoin, owner_of, HoldsBatch, HoldsScript, HoldsBundle, IsInOrder}
 use Rattle.mr_plan.specs.Say.{given_map, needs, needs_map, lacks_proof_for, unless_lacking, say_written, say, say_root_of, say_build_of, say_list_of, say_upgrade_of, say_admitted, say_batch, say_change, say_apply, say_apply_of, say_proof_of, say_check, say_check_of, say_check_count, say_check_count_of, say_audit_count_of, say_script, say_serve, say_serve_of, given_queries, say_parts, say_parts_of, say_check_all, say_make_of, needs_maps, say_join_of, say_check_join, say_check_join_of, say_audit_join, say_audit_join_of, say_beside_maps}
 use Rattle.mr_plan.specs.Lines.{digest_line}
@@ -214,18 +214,17 @@ module _ (hash : List ℕ → List ℕ) (before after : Option Files) (status : 
       (record { well = one.stands.well; batch = one.stands.stands.batch_fits })
       (record { well = other.stands.well; batch = other.stands.stands.batch_fits }) holds.own)
 
-  serve_done : (map script bundle : List ℕ) → HoldsScript hash before map script
-      → EndsAsSaid (say_serve hash map script bundle) (MaySayServe hash map script bundle) before after status text
-      → status ≡ Done
-  serve_done map script bundle holds ends =
+  serve_done : (map script bundle : List ℕ) (may : Outcome → Type 0) → HoldsScript hash before map script
+      → EndsAsSaid (say_serve hash map script bundle) may before after status text → status ≡ Done
+  serve_done map script bundle may holds ends =
       let v = holds.version in
       let held = map_in v holds.on.tree holds.on.batch in
       let next = say_script hash script bundle in
       let said : List ℕ → Outcome = λ text. say_serve_of hash bundle held (queries_of_text text) in
       let mapped = map_on v hash map holds.on.bytes holds.on.tree holds.on.batch before after status text
       holds.on.held holds.on.stands
-      next (told_ends before after map holds.on.bytes (say_serve hash map script bundle)
-      (MaySayServe hash map script bundle) status text holds.on.held ends) in
+      next (told_ends before after map holds.on.bytes (say_serve hash map script bundle) may status text
+      holds.on.held ends) in
       let last = ends_on script holds.text before after status text holds.beside (λ text. comes (said text)) mapped in
       last.0 ∙ ap (λ r. (say_serve_of hash bundle held r).status) holds.right
       ∙ served_done hash bundle held holds.queries (lacks_none v holds.queries holds.may)
@@ -307,7 +306,7 @@ module _ (hash : List ℕ → List ℕ) (before after : Option Files) (status : 
       audit_join_done sized first.now second.now name.now (may_be hash (commands.AuditJoin first second name)) holds
       ends
   done sized (commands.Serve map script bundle) each holds ends =
-      serve_done map.now script.now bundle.now holds ends
+      serve_done map.now script.now bundle.now (may_be hash (commands.Serve map script bundle)) holds ends
   done sized (commands.CheckAll root script bundle) each holds ends =
       check_all_done root script.now bundle.now (may_be hash (commands.CheckAll root script bundle)) holds ends
   done sized (commands.Make count seed records) each holds ends =

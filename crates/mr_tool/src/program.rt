@@ -7,7 +7,7 @@ ghost use Rattle.mr_command.specs.Answer.{NoCountFalls, world};
 ghost use Rattle.mr_command.specs.Ending.{RunsPlan, IsCarriedOut};
 ghost use Rattle.mr_tool.specs.Promises.{CompletesWords, AnswersHonest, AcceptsHonestOrCollides, AuditsAccepted, CollidesRightly, CountsHonest, CountsOrCollides, AuditsAcceptedCount, JoinsHonest, JoinsOrCollides, AuditsAcceptedJoin, JoinsCollideRightly, AppliesAlike, AppliesHere, RecoversHere, UpgradesAll};
 ghost use Rattle.mr_tool.specs.Run.{AnswersWords, BlamesRightly, IsRun, ReadsFewWords, StaysQuiet};
-ghost use Rattle.mr_plan.specs.Say.{say_root, say_build};
+ghost use Rattle.mr_plan.specs.Say.{say_root, say_build, say_serve};
 ghost use Rattle.mr_plan.specs.Spelling.{IsSpelled};
 ghost use Rattle.mr_plan.specs.private.Asking.{MayBeAsked};
 ghost use Rattle.mr_plan.specs.declared.words.Command.TheVariants as commands;
@@ -77,6 +77,24 @@ fn check_on<H: Hash32, S: Shelf>(
 {
     let mut shelf = shelf;
     let came = check_proof::<H, S>(alloc, root, query, proof, &mut shelf);
+    (came, shelf)
+}
+
+// Proves the queries of a script, and hands the shelf back.
+fn serve_on<H: Hash32, S: Shelf, G: Gate, R: Threads + Sync>(
+    rt: &R,
+    alloc: Global,
+    map: &str,
+    script: &str,
+    bundle: &str,
+    shelf: S,
+    gate: &G,
+) -> (Result<Ending, Halt>, S)
+    ensures { RunsPlan (say_serve H.of map.now script.now bundle.now) (S.state shelf)
+        (S.state result.1) result.0 }
+{
+    let mut shelf = shelf;
+    let came = serve::<H, S, G, R>(rt, alloc, map, script, bundle, &mut shelf, gate);
     (came, shelf)
 }
 
@@ -151,7 +169,7 @@ fn carry_out<H: Hash32, S: Shelf, G: Gate, R: Threads + Sync>(
             (came, shelf)
         }
         Command::Serve(map, script, bundle) => {
-            serve::<H, S, G, R>(rt, alloc, *map, *script, *bundle, shelf, gate)
+            serve_on::<H, S, G, R>(rt, alloc, *map, *script, *bundle, shelf, gate)
         }
         Command::CheckAll(digest, script, bundle) => {
             let mut shelf = shelf;
@@ -232,9 +250,9 @@ pub fn run<H: Hash32, S: Shelf, W: Sink, G: Gate, R: Threads + Sync>(
         StaysQuiet (map string_bytes words.now) before after result.0 }
     // Where the files are told, no input that is read whole is read twice; a map that is read page
     // by page takes its pages once, and a large one besides the nodes that the proof opens, or each
-    // node once for `serve` and for the directory of `apply`; `apply`, where the batch may be
-    // applied, takes the pages once more for the copy, and what the changes read of the new file;
-    // and of a proof that `check` judges no piece is read behind the one that fixes a fault.
+    // node once for the directory of `apply`; `apply`, where the batch may be applied, takes the
+    // pages once more for the copy, and what the changes read of the new file; and of a proof that
+    // `check` judges no piece is read behind the one that fixes a fault.
     ensures reads { let before = world (S.state shelf) (W.state out.old) in
         let after = world (S.state result.1) (W.state out.new) in
         ReadsFewWords H.of (map string_bytes words.now) before after }

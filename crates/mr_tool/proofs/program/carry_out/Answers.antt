@@ -98,7 +98,10 @@ returns-in-Make g c =
     c.make-came.ensures
 
 pub returns-in-Serve : goal.returns-in-Serve
-returns-in-Serve g c = as_carried g.H.Hashes.of _ _ _ _ c.serve.result.0 c.in-Serve.is c.serve.ensures
+returns-in-Serve g c =
+    as_plain g.H.Hashes.of _ _ _ _ c.serve_on.result.0 c.in-Serve.is
+    (λ said leads. leads) (λ files n few. few)
+    c.serve_on.ensures
 
 pub returns-in-CheckAll : goal.returns-in-CheckAll
 returns-in-CheckAll g c =
