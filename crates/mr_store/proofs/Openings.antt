@@ -169,7 +169,7 @@ fails_some form hash errors.NoMemory fails = ([], All-nil (λ b. b < 2 ^ 8), tt)
 -- of the bytes that were read, told or not
 module _ (form : Form) (is : IsForm form) (hash : List ℕ → List ℕ) (pages : ℕ) (s : Shelved) (name : List ℕ)
     (some : 1 ≤ pages) (few : pages ≤ page_limit) where
-  as_file : (bytes : List ℕ) → length bytes ≡ pages * form.size → pages_of form pages bytes ≡ file_of form bytes
+  pub as_file : (bytes : List ℕ) → length bytes ≡ pages * form.size → pages_of form pages bytes ≡ file_of form bytes
   as_file bytes size =
       let even = are_whole_pages form.size (length bytes) pages is.some size some few in
       same_file form pages bytes
@@ -424,11 +424,13 @@ module _ (hash : List ℕ → List ℕ) (name room : List ℕ) (l : Layout) (pag
       }
 
 module _ {S H : Type 0} {G : shelves.Ghosts S} {K : hashes.Ghosts H} (hash : List ℕ → List ℕ) where
-  abbrev pub Answered : (n : List ℕ) (l : Layout) (k : ℕ) (s : S) → Result (Paged S H G K) (S × MapErr) → Type 0
-  Answered n l k s r = MatchResult r (IsOpened hash n l k (G.state s))
+  abbrev pub Answered : {A : Type 0} (n : List ℕ) (l : Layout) (k : ℕ) (s : S) →
+      Result (Paged S H G K × A) (S × MapErr) → Type 0
+  Answered n l k s r = MatchResult r (λ x. IsOpened hash n l k (G.state s) x.0)
       (λ x. IsOpeningRefused hash n l k (G.state s) (G.state x.0) x.1)
 
-  pub answered_at : (n n' : List ℕ) (l l' : Layout) (k k' : ℕ) (s s' : S) (r : Result (Paged S H G K) (S × MapErr)) →
+  pub answered_at : {A : Type 0} (n n' : List ℕ) (l l' : Layout) (k k' : ℕ) (s s' : S)
+      (r : Result (Paged S H G K × A) (S × MapErr)) →
       n ≡ n' → l ≡ l' → k ≡ k' → s ≡ s' → Answered n l k s r → Answered n' l' k' s' r
   answered_at n n' l l' k k' s s' r named laid counted shelved a =
       subst (λ m. Answered m l' k' s' r) named (subst (λ m. Answered n m k' s' r) laid

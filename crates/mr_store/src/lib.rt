@@ -13,6 +13,7 @@ mod opening;
 mod paged;
 mod paging;
 mod reading;
+mod record_list;
 mod walk;
 
 pub use cached_file::CachedFile;

@@ -10,13 +10,14 @@ ghost use Rattle.mr_tree.specs.declared.nodes.NodesErr.TheVariants as errors;
 ghost use Rattle.mr_tree.specs.Nodes.{IsTop, MayFetch, HasSomeCause, TellsRefusal, subtrees};
 ghost use Rattle.mr_batch.specs.Directory.{IsDirectoryOf};
 ghost use Rattle.mr_store.specs.private.Walk.{HasSeenNone, StopsWalk, nodes_at};
-ghost use Rattle.mr_store.specs.private.Listing.{directory_entry, ListsAt, GathersDirectory, HasAt, ListsTree, CanListAll};
+ghost use Rattle.mr_store.specs.private.Listing.{directory_entry, ListsAt, ListsMore, ListsNode, GathersDirectory, HasAt, ListsTree, CanListAll};
 ghost use Rattle.mr_store.specs.Stored.{IsListed, IsListedAs};
 
+use crate::record_list::RecordList;
 use crate::walk::{Gather, walk};
 use mr_batch::Directory;
 use mr_geom::Rect;
-use mr_pages::Visited;
+use mr_pages::{Node, Visited};
 use mr_record::{Record, Version};
 use mr_tree::{COUNT_LIMIT, Child, LEAF_LIMIT, NodeView, Nodes, NodesErr, Top};
 use std::alloc::{AllocError, Global};
@@ -36,6 +37,26 @@ fn list_records(all: &mut Vec<(u64, Rect)>, records: &[Record]) -> Result<(), Al
         all.push((one.number, one.rect))?;
     }
     Ok(())
+}
+
+// Lists these records, where they are wanted.
+fn list_wanted(list: &mut RecordList, records: &[Record]) -> Result<(), AllocError>
+    ensures { OnOk result (ListsMore list.old list.new records.now) }
+{
+    if !list.wanted {
+        return Ok(());
+    }
+    list_records(&mut list.entries, records)
+}
+
+// Lists the records of a node, where they are wanted.
+pub(crate) fn list_node(list: &mut RecordList, node: &Node) -> Result<(), AllocError>
+    ensures { OnOk result (ListsNode list.old list.new node.now) }
+{
+    match node {
+        Node::Leaf(records) => list_wanted(list, records.as_slice()),
+        Node::Inner(_) => Ok(()),
+    }
 }
 
 impl Gather for Entries {
@@ -125,7 +146,7 @@ fn collected(alloc: Global, all: Vec<(u64, Rect)>) -> Result<BTreeMap<u64, Rect>
 }
 
 // The same as a directory.
-fn gathered(alloc: Global, all: Vec<(u64, Rect)>) -> Result<Directory, NodesErr>
+pub(crate) fn gathered(alloc: Global, all: Vec<(u64, Rect)>) -> Result<Directory, NodesErr>
     ensures lists { IfOk result (GathersDirectory all.items) }
     ensures memory { IfErr result (λ e. e ≡ errors.NoMemory) }
 {

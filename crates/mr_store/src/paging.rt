@@ -1,18 +1,23 @@
 //! A file of pages on a shelf, of which it is not known yet whether it stands for a map.
 
-ghost use Rattle.std.specs.Prelude.{◌≡◌, ⊤, ℕ, Bool, List, IfOk, OnOk};
+ghost use Rattle.std.specs.Prelude.{◌≡◌, ℕ, Bool, List, IfOk, OnOk};
 ghost use Rattle.std.proofs.Props.{props};
+ghost use Rattle.mr_tree.specs.Tree.{records};
 ghost use Rattle.mr_tree.specs.declared.tree.Tree.{Tree};
 ghost use Rattle.mr_pages.specs.Source.{MayKeep, Stay};
-ghost use Rattle.mr_pages.specs.Gathering.{AreMade, SuitsChild};
+ghost use Rattle.mr_pages.specs.Gathering.{AreMade, SuitsChild, tree_over};
 ghost use Rattle.mr_pages.specs.Walking.{owned};
 ghost use Rattle.mr_tree.specs.Digest.{Scheme};
 ghost use Rattle.mr_tree.specs.View.{children_in};
 ghost use Rattle.mr_store.specs.CachedFile.{entries_of};
+ghost use Rattle.mr_store.specs.declared.record_list.RecordList.{RecordList};
+ghost use Rattle.mr_store.specs.private.Listing.{ListsMore};
 ghost use Rattle.mr_store.specs.private.Paging.{sourced, HoldsPage, IsUnchecked};
 ghost use Rattle.mr_store.specs.Kept.{node_of, PutsNode};
 
 use crate::cached_file::CachedFile;
+use crate::listing::list_node;
+use crate::record_list::RecordList;
 use mr_outside::{Shelf, ShelfErr};
 use mr_pages::{Layout, MapHead, MapRule, Node, Source, head_on, node_on};
 use mr_tree::{Child, Hashes, NodeView};
@@ -20,10 +25,11 @@ use std::alloc::AllocError;
 use std::marker::PhantomData;
 
 /// A file of whole pages, of which page 0 was read and the others are read one by one, and the
-/// nodes of it that are kept.
+/// nodes of it that are kept; and the records that were met, where they are wanted.
 pub(crate) struct Paging<'a, S: Shelf, H: Hashes> {
     pub(crate) file: CachedFile<S>,
     pub(crate) first: &'a [u8],
+    pub(crate) list: RecordList,
     pub(crate) hash: PhantomData<H>,
     ghost paging: { IsUnchecked H.of file first.now } by { Prim.hlevel props },
 }
@@ -33,15 +39,15 @@ impl<S: Shelf, H: Hashes> Source for Paging<'_, S, H> {
 
     type Made = ();
 
-    type Held = ();
+    type Held = RecordList;
 
     ghost state = { λ s. sourced s.file };
 
     ghost keeps = { λ s page. HoldsPage s.file.pages (entries_of s.file) page };
 
-    ghost held = { λ s. tt };
+    ghost held = { λ s. s.list };
 
-    ghost makes = { λ x root before after child made t. ⊤ };
+    ghost makes = { λ x root before after child made t. ListsMore before after (records t) };
 
     fn count(&self) -> u32 {
         self.file.pages
@@ -74,11 +80,11 @@ impl<S: Shelf, H: Hashes> Source for Paging<'_, S, H> {
     fn make(&mut self, child: &Child, node: Node, _below: Vec<()>) -> Result<(), AllocError>
         requires { MayKeep H.of (sourced self.old.file) child.now node }
         ensures same { sourced self.new.file ≡ sourced self.old.file }
-        ensures made { IfOk result (λ m. (x : Scheme) (root : Bool) (before : ⊤) (ts : List Tree) →
-            SuitsChild x root child.now node →
-            AreMade {S = ⊤} (λ s u c one t. ⊤) before tt (children_in (owned node))
-            _below.items ts →
-            ⊤) }
+        ensures made { IfOk result (λ m. (x : Scheme) (root : Bool) (before : RecordList)
+            (ts : List Tree) → SuitsChild x root child.now node →
+            AreMade (λ s u c one t. ListsMore s u (records t)) before self.old.list
+            (children_in (owned node)) _below.items ts →
+            ListsMore before self.new.list (records (tree_over node ts))) }
         ensures kept { OnOk result
             (HoldsPage self.new.file.pages (entries_of self.new.file) child.now.id) }
         ensures puts { OnOk result (PutsNode self.old.file.cache.cap (entries_of self.old.file)
@@ -87,6 +93,7 @@ impl<S: Shelf, H: Hashes> Source for Paging<'_, S, H> {
             (HoldsPage self.new.file.pages (entries_of self.new.file)) }
     {
         let _len = self.file.cache.len();
+        list_node(&mut self.list, &node)?;
         self.file.keep(child, node)
     }
 }

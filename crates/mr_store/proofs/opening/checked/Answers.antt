@@ -1,4 +1,4 @@
-use Rattle.std.proofs.Common.{arith, ap, subst, sym, ◌∙◌}
+use Rattle.std.proofs.Common.{◌≡◌, ℕ, map, arith, ap, subst, sym, ◌∙◌}
 use Rattle.std.specs.Prelude.{IfSome}
 use Rattle.mr_outside.specs.Told.{OfFile}
 use Rattle.mr_pages.specs.declared.error.MapErr.TheVariants as errors
@@ -7,6 +7,13 @@ use Rattle.mr_pages.specs.declared.head.MapHead.{MapHead}
 use Rattle.mr_pages.specs.declared.layout.Layout.{Layout}
 use Rattle.mr_pages.specs.Source.{Origin, SaysHead, IsRootIn}
 use Rattle.mr_pages.proofs.HeadLaws.{form_is}
+use Rattle.mr_geom.specs.Rectangle.{Rectangle}
+use Rattle.std.specs.Global.{Vec}
+use Rattle.mr_tree.specs.Tree.{records}
+use Rattle.mr_store.specs.Stored.{told_bytes, map_on, read_map}
+use Rattle.mr_store.specs.private.Listing.{directory_entry, ListsRecords, ListsSome}
+use Rattle.mr_store.specs.private.Paging.{sourced}
+use Rattle.mr_store.proofs.Recorded.{some_listed, told_listed}
 use Rattle.mr_store.specs.CachedFile.{state_of, name_of, page_form, bytes_of, entries_of, OfBytes}
 use Rattle.mr_store.specs.Opening.{TellsMap, IsOfSome, RefusesFile}
 use Rattle.mr_store.specs.Paged.{stands_for}
@@ -35,7 +42,7 @@ pub returns-in-Ok : goal.returns-in-Ok
 returns-in-Ok g c =
     let s = c.args.paging in
     let f = s.file in
-    let p = c.over.result in
+    let p = c.over.result.0 in
     let e = c.in-Ok.ensures in
     record {
       opened = record {
@@ -57,6 +64,24 @@ returns-in-Ok g c =
         none = c.over.ensures.fetches;
       };
       unrefused = c.over.ensures.refusal;
+      listed = λ wanted none.
+          let told = told_listed (page_form f) c.in-Ok.checked.head s.list c.check.new.pages.list (bytes_of f)
+          c.in-Ok.checked.made wanted none e.made in
+          subst (λ (es : Vec (ℕ × Rectangle)). ListsRecords g.H.Hashes.of p.file p.head es.items)
+          (sym c.over.ensures.list) (record {
+            told = subst (λ (h : MapHead). IfSome (map_on p.file h).tree (λ t.
+                c.check.new.pages.list.entries.items ≡ map directory_entry (records t))) (sym c.over.ensures.head)
+                (subst (λ (o : Origin). IfSome (read_map o.form c.in-Ok.checked.head (told_bytes o.files o.name)).tree
+                (λ t. c.check.new.pages.list.entries.items ≡ map directory_entry (records t)))
+                (sym (ap (λ x. (sourced x).origin) c.over.ensures.file ∙ e.goes.from_)) told);
+            some = subst (λ (o : Origin). ListsSome o.form g.H.Hashes.of p.head c.check.new.pages.list.entries.items)
+                (sym (ap (λ x. (sourced x).origin) c.over.ensures.file ∙ e.goes.from_))
+                (subst (λ (h : MapHead). ListsSome (page_form f) g.H.Hashes.of h
+                c.check.new.pages.list.entries.items) (sym c.over.ensures.head)
+                (some_listed (page_form f) (form_is f.layout f.fits) g.H.Hashes.of f.pages (state_of f) (name_of f)
+                s.paging.some s.paging.few s.list c.check.new.pages.list c.in-Ok.checked wanted none
+                e.of_some_bytes));
+          });
     }
 
 pub returns-in-Err : goal.returns-in-Err
@@ -87,4 +112,5 @@ returns-in-Err g c =
             few = omega (arith, e.goes.few, s.paging.some);
           });
       unrefused = tt;
+      listed = λ wanted none. tt;
     }

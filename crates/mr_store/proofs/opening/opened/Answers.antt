@@ -34,6 +34,7 @@ returns-in-Err g c = record {
         few = omega (arith, c.requires.some);
       });
   unrefused = tt;
+  listed = λ wanted. tt;
 }
 
 pub returns-in-Ok-clause-opened : goal.returns-in-Ok-clause-opened

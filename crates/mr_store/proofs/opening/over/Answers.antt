@@ -5,8 +5,8 @@ use Rattle.mr_store.proofs.Maps.{tells_map_of}
 use Rattle.mr_store.proofs.Openings.{store_of, checked_of}
 use Rattle.mr_store.proofs.opening.over.Goals as goal
 
-pub invariant_of-result : goal.invariant_of-result
-invariant_of-result g c =
+pub invariant_of-paged : goal.invariant_of-paged
+invariant_of-paged g c =
     let s = c.args.paging in
     let f = s.file in
     record {

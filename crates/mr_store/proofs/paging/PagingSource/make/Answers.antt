@@ -1,11 +1,15 @@
 use Rattle.std.proofs.Common.{subst, sym}
 use Rattle.mr_store.specs.CachedFile.{state_of, name_of, page_form, entries_of}
 use Rattle.mr_store.specs.private.Paging.{HoldsPage}
+use Rattle.mr_store.proofs.Recorded.{any_ok, listed_over}
 use Rattle.mr_store.proofs.Sources.{still_paging, keeps_more, unchecked_at}
 use Rattle.mr_store.proofs.paging.PagingSource.make.Goals as goal
 
 pub invariant_of-self : goal.invariant_of-self
-invariant_of-self g c =
+invariant_of-self g c = record { paging = c.args.self.now.paging }
+
+pub invariant_of-self-2 : goal.invariant_of-self-2
+invariant_of-self-2 g c =
     let s = c.args.self.now in
     let f = s.file in
     record {
@@ -14,6 +18,12 @@ invariant_of-self g c =
           c.keep.new.self.cache s.paging c.args.child.now c.args.node (state_of f).faults (state_of f).reads
           c.requires c.keep.result c.keep.ensures.gains c.keep.ensures.same c.keep.ensures.only.cap);
     }
+
+pub returns-clause-made : goal.returns-clause-made
+returns-clause-made g c =
+    any_ok c.keep.result _ (λ m x root before ts suits all.
+    listed_over c.args.node before c.args.self.now.list c.list_node.new.list c.args._below.items ts all
+    c.in_ok-list_node.ensures)
 
 pub returns-clause-stay : goal.returns-clause-stay
 returns-clause-stay g c = λ page held.

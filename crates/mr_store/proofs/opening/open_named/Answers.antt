@@ -6,7 +6,7 @@ use Rattle.mr_pages.specs.PageBytes.{form_of}
 use Rattle.mr_pages.specs.Source.{IsFrontOfFile}
 use Rattle.mr_pages.specs.private.Walks.{IsPaged}
 use Rattle.mr_store.proofs.Openings.{matched, opens_from, refuses_from}
-use Rattle.mr_store.proofs.paged.Paged.open_map.Goals as goal
+use Rattle.mr_store.proofs.opening.open_named.Goals as goal
 
 pub opened-requires-clause-are : goal.opened-requires-clause-are
 opened-requires-clause-are g c κs within =
@@ -35,6 +35,7 @@ returns-in-Err g c = record {
     reads = c.in-Err.ensures.reads;
   };
   unrefused = tt;
+  listed = λ wanted. tt;
 }
 
 pub returns-in-Ok : goal.returns-in-Ok
@@ -49,10 +50,11 @@ returns-in-Ok g c =
     let pages = c.in-Ok.front.pages in
     record {
       opened = matched c.opened.result _ _ _ _
-          (λ p o. opens_from g.H.Hashes.of name room layout pages before middle e.version r.files e.quiet r.more r.one
-          e.large e.front e.paged p o)
+          (λ x o. opens_from g.H.Hashes.of name room layout pages before middle e.version r.files e.quiet r.more r.one
+          e.large e.front e.paged x.0 o)
           (λ x o. refuses_from g.H.Hashes.of name room layout pages before middle e.version r.files e.quiet r.more r.one
           e.large e.front e.paged e.at_most c.are_sized.ensures r.are (g.S.Shelf.state x.0) x.1 o)
           c.opened.ensures.opened;
       unrefused = c.opened.ensures.unrefused;
+      listed = c.opened.ensures.listed;
     }
