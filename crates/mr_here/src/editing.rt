@@ -1,6 +1,6 @@
 //! A map that is changed in memory, on files that are told.
 
-ghost use Rattle.std.specs.Prelude.{◌≡◌, ◌≢◌, All, List, ℕ, Some, OnOk};
+ghost use Rattle.std.specs.Prelude.{◌≡◌, ◌≢◌, All, List, ℕ, Some, IfSome, OnOk};
 ghost use Rattle.mr_tree.specs.Tree.{records};
 ghost use Rattle.mr_tree.specs.declared.tree.Tree.{Tree};
 ghost use Rattle.mr_pages.specs.Law.{map_in};
@@ -20,7 +20,7 @@ use mr_draft::copy_map;
 use mr_edit::EditErr;
 use mr_outside::Shelf;
 use mr_pages::MapErr;
-use mr_store::{Paged, directory};
+use mr_store::Paged;
 use mr_tree::{Hash32, Nodes};
 use std::alloc::Global;
 
@@ -94,15 +94,17 @@ fn change<H: Hash32, S: Shelf>(
 }
 
 // The map after a batch whose layers it may have, and its root; or why the batch may not be
-// applied.
+// applied. The directory is that of the map's records.
 fn apply<H: Hash32, S: Shelf>(
     alloc: Global,
     new: &str,
     paged: Paged<S, H>,
+    dir: Directory,
     batch: &Batch,
 ) -> (Result<[u8; 32], HereErr>, S)
     requires names { name_of paged.file ≢ new.now }
     requires layers { All (IsOfVersion (stands_for paged).version) batch.now.list }
+    requires lists { IfSome (stands_for paged).tree (λ t. IsDirectoryOf dir (records t)) }
     ensures made { (t : Tree) → (stands_for paged).tree ≡ Some t
         → AdmitsBatch H.of new.now paged.head.pages
         (map_in (stands_for paged).version t paged.head.batch) batch.now (S.state result.1).files
@@ -110,14 +112,10 @@ fn apply<H: Hash32, S: Shelf>(
     ensures others { OnOk result.0 (KeepsOthers new.now (shelved paged).files
         (S.state result.1).files) }
 {
-    let mut paged = paged;
     paged.is_map();
-    match directory(alloc, &mut paged) {
-        Err(_) => (Err(HereErr::NoMemory), paged.close()),
-        Ok(dir) => match admit(&dir, paged.top().batch, batch) {
-            Err(fault) => (Err(HereErr::Batch(fault)), paged.close()),
-            Ok(()) => change::<H, S>(alloc, new, paged, dir, batch),
-        },
+    match admit(&dir, paged.top().batch, batch) {
+        Err(fault) => (Err(HereErr::Batch(fault)), paged.close()),
+        Ok(()) => change::<H, S>(alloc, new, paged, dir, batch),
     }
 }
 
@@ -126,10 +124,12 @@ fn judge<H: Hash32, S: Shelf>(
     alloc: Global,
     new: &str,
     paged: Paged<S, H>,
+    dir: Directory,
     batch: &Batch,
 ) -> (Result<[u8; 32], HereErr>, S)
     requires names { name_of paged.file ≢ new.now }
     requires layered { All IsLayered batch.now.list }
+    requires lists { IfSome (stands_for paged).tree (λ t. IsDirectoryOf dir (records t)) }
     ensures made { (t : Tree) → (stands_for paged).tree ≡ Some t
         → JudgesBatch H.of new.now paged.head.pages
         (map_in (stands_for paged).version t paged.head.batch) batch.now (S.state result.1).files
@@ -140,7 +140,7 @@ fn judge<H: Hash32, S: Shelf>(
     if lacks(paged.version(), batch) {
         (Err(HereErr::Layer), paged.close())
     } else {
-        apply::<H, S>(alloc, new, paged, batch)
+        apply::<H, S>(alloc, new, paged, dir, batch)
     }
 }
 
@@ -160,8 +160,8 @@ pub(crate) fn edit<H: Hash32, S: Shelf>(
     ensures others { OnOk result.0 (KeepsOthers new.now (S.state shelf).files
         (S.state result.1).files) }
 {
-    match Paged::<S, H>::open_map(alloc, shelf, old) {
+    match Paged::<S, H>::open_listed(alloc, shelf, old) {
         Err((shelf, error)) => (Err(unopened(&error)), shelf),
-        Ok(paged) => judge::<H, S>(alloc, new, paged, batch),
+        Ok((paged, dir)) => judge::<H, S>(alloc, new, paged, dir, batch),
     }
 }
