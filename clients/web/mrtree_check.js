@@ -853,6 +853,11 @@ function refusalOf({ part, rule, place, found }) {
     return `refused ${name}${rule} at ${place}${found === "" ? "" : ` found ${found}`}`;
 }
 
+/** The line of a pair of numbers, without its line feed. */
+function pairLineOf([one, other]) {
+    return `pair ${one} ${other}`;
+}
+
 // ---- bundles
 
 /** Bytes that come in pieces, and are taken in parts. */
@@ -1220,7 +1225,7 @@ async function checkJoinLines(root, root2, pieces) {
     if (!verdict.accepted) {
         return [2, [refusalOf(verdict)]];
     }
-    return [0, verdict.pairs.map(([a, b]) => `pair ${a} ${b}`)];
+    return [0, verdict.pairs.map(pairLineOf)];
 }
 
 /** Status and lines of `check-all` of a script's bytes and the bundle in these pieces. */
@@ -1311,7 +1316,7 @@ async function main() {
 if (typeof module === "object") {
     const words = { readRoot, readQuery, readWindow, readScript };
     const judges = { Judge, CountJudge, judge, judgeCount, judgeJoin, judgeBundle };
-    const verdicts = { check, checkCount, checkJoin, refusalOf };
+    const verdicts = { check, checkCount, checkJoin, refusalOf, pairLineOf };
     const shown = { recordsOf, lineOf, linesOf, hexOf };
     module.exports = { ...words, ...judges, ...verdicts, ...shown, distance, meet, run };
     if (require.main === module) {

@@ -201,7 +201,8 @@ async function joinsHold(bench) {
     })();
     const told = await joined(ROOT_SEVEN, ROOT_NINE, zeros);
     bench.equal(`${told} ${asked} ${isClosed}`, "frame BadMagic 1 true", "zeros without an end");
-    const { first, second } = await client.checkJoin(ROOT_SEVEN, ROOT_NINE, JOIN);
+    const { pairs, first, second } = await client.checkJoin(ROOT_SEVEN, ROOT_NINE, JOIN);
+    bench.equal(String(pairs.map(client.pairLineOf)), "pair 7 9", "the line of a pair");
     const states = [first, second].map(({ batch, count }) => `${batch} ${count}`);
     bench.equal(String(states), "0 1,0 1", "what a join proof says of both maps");
     const { first: none } = await client.checkJoin(ROOT_SEVEN, ROOT_NONE, JOIN_NONE);

@@ -1,7 +1,8 @@
 "use strict";
 /**
  * The page clients/web/verify.html in headless Chromium: proofs are dropped on it and chosen, and
- * verdict, table, picture and GeoJSON are read from it and compared.
+ * verdict, tables, picture and saved files are read from it and compared. Of examples/vectors it
+ * takes all joins.
  *
  * usage: node page.js [PICTURE]          PICTURE: a file for a picture of the page with the sample.
  */
@@ -13,6 +14,7 @@ const path = require("path");
 const { pathToFileURL } = require("url");
 const { EXAMPLES, WEB, Bench } = require("./bench.js");
 const { Browser, find, pause } = require("./chromium.js");
+const { linesOf, put } = require("./spelled.js");
 const client = require(path.join(WEB, "mrtree_check.js"));
 
 const PLACES = "b136e9ea66645cc4c87feaf0addfecbc0d52bd619bc06f05e004ff35cbfaff04";
@@ -52,6 +54,7 @@ const SEEN = `(() => {
         state: verdict.dataset.state, line: verdict.textContent,
         means: document.querySelector("#means").textContent,
         rows: isShown ? at("#answer tbody tr").map(texts) : null,
+        pairs: isShown ? at("#pairs tbody tr").map(texts) : null,
         drawn: isShown ? ["inner", "leaf", "pruned", "answer", "other", "region"].map(
             (kind) => at("#near ." + kind).length).join(" ") : null,
         shown: isShown ? document.querySelector("#shown").textContent : null,
@@ -62,6 +65,21 @@ const SEEN = `(() => {
 async function seen(browser) {
     await browser.until("document.getElementById('verdict').dataset.state !== 'waiting'");
     return browser.value(SEEN);
+}
+
+/** Says what the proof shows: records, count or join. */
+function ask(browser, kind) {
+    return browser.value(`document.querySelector("#${kind}").click()`);
+}
+
+/** Holds that what is shown of the page is what belongs to such a proof. */
+async function partsHold(bench, browser, kind) {
+    const told = await browser.value(`(() => {
+        const parts = [...document.querySelectorAll("[data-of]")];
+        const isAsRight = (one) => one.hidden !== one.dataset.of.split(" ").includes("${kind}");
+        return parts.length + " " + parts.every(isAsRight);
+    })()`);
+    bench.equal(told, "15 true", `the parts of the page that are shown: ${kind}`);
 }
 
 /** Gives root, query and a file by a drop; answers what the page then shows. */
@@ -157,16 +175,14 @@ async function othersHold(bench, browser, room) {
 
 /** A count proof: how many are inside, and of what; no records and no GeoJSON beside it. */
 async function countsHold(bench, browser) {
-    const ask = (id) => browser.value(`document.querySelector("#${id}").click()`);
     const file = path.join(EXAMPLES, "vectors", "level-2-count.proof");
-    await ask("count");
+    await ask(browser, "count");
     const count = await given(browser, ROOT_POINTS, "window:200,200,800,600", file);
     const line = "accepted: 447 of the map's 2000 records lie inside, at batch 0";
     bench.equal(count.line, line, "a count");
     bench.equal(count.drawn, "3 22 85 159 193 1", "its picture");
     bench.equal(count.shown, "nodes opened: 25; parts inside: 18, apart: 85", "what is told of it");
-    const hidden = "[...document.querySelectorAll('[data-of]')].map((one) => one.hidden).join(' ')";
-    bench.equal(await browser.value(hidden), "true true true true true", "a table of a count");
+    await partsHold(bench, browser, "count");
     const wholes = "document.querySelectorAll('#near .whole').length";
     bench.equal(await browser.value(wholes), 18, "the parts that are inside");
     const other = await given(browser, ROOT_POINTS, "window:200,200,800,601", file);
@@ -178,26 +194,168 @@ async function countsHold(bench, browser) {
     const sample = path.join(EXAMPLES, "places-window.proof");
     const first = await given(browser, PLACES, WINDOW, sample);
     bench.equal(first.line, "refused BadVersion at 4", "a proof of version 1 for a count");
-    await ask("records");
+    await ask(browser, "records");
     const again = await given(browser, PLACES, WINDOW, sample);
     bench.equal(String(again.rows), String(ROWS), "records behind a count");
-    bench.equal(await browser.value(hidden), "false false false false false", "their table");
+    await partsHold(bench, browser, "records");
     const answer = await given(browser, ROOT_POINTS, "window:200,200,800,600", file);
     bench.equal(answer.line, "refused WrongKind at 5", "a count proof for records");
+}
+
+/** Gives both roots and a file by a drop. */
+async function giveJoin(browser, root, root2, file) {
+    await browser.type("#root", root);
+    await browser.type("#root2", root2);
+    await browser.drop(file);
+}
+
+/** The same; answers what the page then shows. */
+async function givenJoin(browser, ...words) {
+    await giveJoin(browser, ...words);
+    return seen(browser);
+}
+
+/** Letters, a batch of 0 and a count. */
+function frontOf(letters, count) {
+    const numbers = Buffer.alloc(16);
+    numbers.writeBigUInt64BE(BigInt(count), 8);
+    return Buffer.concat([Buffer.from(letters), numbers]);
+}
+
+/**
+ * The part of a join that opens all of a map of `leaves` times 16 records on one point, whose
+ * numbers rise by one from `first` on; and the map's root digest.
+ */
+function partOf(first, leaves) {
+    const sha = (bytes) => crypto.createHash("sha256").update(bytes).digest();
+    const number = (value) => {
+        const bytes = Buffer.alloc(8);
+        bytes.writeBigUInt64BE(BigInt(value));
+        return bytes;
+    };
+    const [count, rect, bare] = [16 * leaves, Buffer.alloc(16), Buffer.alloc(18)];
+    const items = Array.from({ length: leaves }, (_, leaf) => {
+        const records = Array.from({ length: 16 }, (_, at) => number(first + 16 * leaf + at));
+        return Buffer.concat([Buffer.from("L\x10"), ...records.flatMap((one) => [one, bare])]);
+    });
+    const entries = items.map((item) => Buffer.concat([rect, number(1), number(16), sha(item)]));
+    const node = Buffer.concat([Buffer.from([0x4e, 1, leaves]), ...entries]);
+    const root = [frontOf("R\x02", count), Buffer.from([1]), rect, number(1), sha(node)];
+    const opened = [Buffer.from([1, 0x4e, leaves]), ...items];
+    const proof = Buffer.concat([frontOf("MRVO\x02J", count), ...opened]);
+    return { proof, root: sha(Buffer.concat(root)).toString("hex") };
+}
+
+/** A join of two maps of which the first has 48 records and the second 640, in a file. */
+function joinOfPoints(file) {
+    const [one, other] = [partOf(5, 3), partOf(1000, 40)];
+    const front = Buffer.from(`4d524a4e01${"00".repeat(20)}`, "hex");
+    front.writeUInt32BE(one.proof.length, 21);
+    fs.writeFileSync(file, Buffer.concat([front, one.proof, other.proof]));
+    return [one.root, other.root];
+}
+
+/** A join of two maps: roots, names and pairs, and what of it is saved. */
+async function joinsHold(bench, browser, room) {
+    const [file, saved] = [path.join(room, "join.proof"), path.join(room, "pairs.txt")];
+    const [root, root2] = joinOfPoints(file);
+    await ask(browser, "join");
+    await partsHold(bench, browser, "join");
+    await browser.type("#root", root);
+    const wanting = await browser.value(SEEN);
+    const isTold = wanting.line.startsWith("Give the second root digest.");
+    bench.holds(isTold && wanting.state === "waiting", `a join of one root: ${wanting.line}`);
+    const told = await givenJoin(browser, root, root2, file);
+    const line = "accepted: 30720 pairs of the first map's 48 records, at batch 0, and the " +
+        "second's 640 records, at batch 0";
+    bench.equal(told.line, line, "a join");
+    const rows = Array.from({ length: 1000 }, (_, at) => [5 + Math.floor(at / 640), at % 640]);
+    const meant = rows.map(([first, second]) => `${first} ${1000 + second}`);
+    bench.equal(String(told.pairs), String(meant), "the first of its pairs");
+    const paired = await browser.value("document.querySelector('#paired').textContent");
+    bench.equal(paired, "the first 1000 of 30720 pairs", "what is told of them");
+    const heads = "[...document.querySelectorAll('#pairs th')].map((th) => th.textContent).join()";
+    bench.equal(await browser.value(heads), "first map,second map", "maps without names");
+    await browser.type("#name1", "<b>plots</b>");
+    await browser.type("#name2", "zones");
+    bench.equal(await browser.value(heads), "<b>plots</b>,zones", "the names of both maps");
+    bench.equal((await browser.value(SEEN)).line, line, "the verdict behind the names");
+    await browser.value("document.querySelector('#keep').click()");
+    const [status, lines] = await client.run(["check-join", root, root2, file]);
+    const text = lines.map((pair) => `${pair}\n`).join("");
+    bench.equal(status, 0, "the same join in Node");
+    bench.holds((await savedText(saved)) === text, "the pairs that are saved");
+    await noJoinsHold(bench, browser, [root, root2, file]);
+    await vectorsHold(bench, browser, room);
+    await ask(browser, "records");
+}
+
+/** Maps in the other order; a join for an answer, and an answer for a join. */
+async function noJoinsHold(bench, browser, [root, root2, file]) {
+    const turned = await givenJoin(browser, root2, root, file);
+    bench.holds(turned.line.startsWith("refused first WrongRoot at "), `turned: ${turned.line}`);
+    const isCleared = turned.pairs === null && turned.means.includes("in the other order");
+    bench.holds(isCleared, `what a join of turned maps means: ${turned.means}`);
+    await ask(browser, "records");
+    const answer = await given(browser, root, "window:0,0,9,9", file);
+    bench.equal(answer.line, "refused BadMagic at 0", "a join for an answer");
+    await ask(browser, "join");
+    const sample = path.join(EXAMPLES, "places-window.proof");
+    const none = await givenJoin(browser, PLACES, PLACES, sample);
+    bench.equal(none.line, "refused frame BadMagic at 0", "an answer for a join");
+}
+
+/** All joins of the vectors: the page says what is said there, or waits where a word is bad. */
+async function vectorsHold(bench, browser, room) {
+    const before = process.cwd();
+    process.chdir(room); // where the vectors' files are written
+    let count = 0;
+    for (const vector of linesOf("vectors.tsv")) {
+        const [command, root, root2, name] = vector.words;
+        put(vector.files, "=");
+        if (command === "check-join" && vector.words.length === 4 && fs.existsSync(name)) {
+            count += 1;
+            await giveJoin(browser, root, root2, path.join(room, name));
+            const told = await (vector.status === 1 ? browser.value(SEEN) : seen(browser));
+            vectorHolds(bench, vector, told);
+        }
+        put(vector.files, ">");
+    }
+    process.chdir(before);
+    bench.holds(count >= 100, `only ${count} joins are given to the page`);
+}
+
+/** What the page shows of a join is what a vector says. */
+function vectorHolds(bench, { number, status, text }, told) {
+    const where = `the join of line ${number}`;
+    bench.equal(told.state, { 0: "accepted", 1: "waiting", 2: "refused" }[status], where);
+    if (status === 0) {
+        const pairs = told.pairs ?? [];
+        bench.equal(pairs.map((pair) => `pair ${pair}\n`).join(""), text, `${where}: the pairs`);
+        const found = pairs.length === 1 ? "1 pair" : `${pairs.length} pairs`;
+        bench.holds(told.line.startsWith(`accepted: ${found}`), `${where}: ${told.line}`);
+    } else {
+        bench.equal(told.pairs, null, `${where}: pairs without an accepted proof`);
+        bench.holds(status === 1 || `${told.line}\n` === text, `${where}: ${told.line}`);
+    }
+}
+
+/** The text of a file that the browser saves, once it is there. */
+async function savedText(file) {
+    for (let turn = 0; turn < 100 && !fs.existsSync(file); turn++) {
+        await pause(100);
+    }
+    return fs.existsSync(file) ? fs.readFileSync(file, "utf8") : "";
 }
 
 /** The answer as GeoJSON, as it is saved. */
 async function geojsonHolds(bench, browser, room) {
     const file = path.join(room, "answer.geojson");
-    await browser.call("Page.setDownloadBehavior", { behavior: "allow", downloadPath: room });
     await given(browser, PLACES, WINDOW, path.join(EXAMPLES, "places-window.proof"));
     await browser.type("#unit", "1e-7");
     await browser.type("#property", "name");
     await browser.value("document.querySelector('#save').click()");
-    for (let turn = 0; turn < 100 && !fs.existsSync(file); turn++) {
-        await pause(100);
-    }
-    bench.equal(fs.existsSync(file) ? fs.readFileSync(file, "utf8") : "", GEOJSON, "the GeoJSON");
+    bench.equal(await savedText(file), GEOJSON, "the GeoJSON");
     const told = await browser.value(`
         [[-5, "10"], [15, "0.1"], [-1, "2.5e-3"], [0, "1e3"], [0, "0"], [0, "x"]].map(
             ([units, unit]) => [units, readUnit(unit)]).map(
@@ -245,10 +403,13 @@ async function main([picture]) {
     try {
         const page = pathToFileURL(path.join(WEB, "verify.html")).href;
         await browser.open(page);
+        await browser.call("Page.setDownloadBehavior", { behavior: "allow", downloadPath: room });
+        await partsHold(bench, browser, "records");
         await sampleHolds(bench, browser);
         await refusalsHold(bench, browser, room);
         await othersHold(bench, browser, room);
         await countsHold(bench, browser);
+        await joinsHold(bench, browser, room);
         await geojsonHolds(bench, browser, room);
         const elsewhere = browser.asked.filter((url) => !/^(file|blob):/.test(url));
         bench.equal(String(elsewhere), "", "addresses that the page asks for");
