@@ -16,7 +16,7 @@ use mr_tree::{Child, Hashes, NodeView, NodesErr};
 use std::alloc::{AllocError, AllocFailed, Global};
 
 /// So many pages of a file on a shelf, how they are laid out, and up to 256 nodes of it that are
-/// kept, each by its page with the level and the digest under which it was read or written.
+/// kept. Each is kept by its page with the level and the digest under which it was read or written.
 pub struct CachedFile<S: Shelf> {
     pub shelf: S,
     pub name: String,

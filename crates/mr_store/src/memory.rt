@@ -30,8 +30,8 @@ impl<S: Shelf, H: Hash32> Paged<S, H> {
     ///
     /// Where the tree is not told, `Page` names besides a node whose rectangle, mask or count is
     /// not the one that its parent tells of, a node with too few entries, or one with a record's
-    /// number that was met before; and the root, where the map has another number of records than
-    /// it tells.
+    /// number that was met before. It names the root, where the map has another number of records
+    /// than it tells.
     pub fn snapshot(&mut self) -> Result<Snapshot<H>, NodesErr>
         ensures kept { Keeps self.old self.new }
         ensures stands { IfOk result (λ p. IsSnapshotOf (stands_for self.old) p.nodes.items p.top) }
