@@ -263,7 +263,7 @@ pub fn audit_join<A: Nodes, B: Nodes>(
         (B.stands second.old) proof.now) }
     // Told or not, two strings that are shown differ and have one hash.
     ensures collides { IfOk result (ShowsCollision A.Hash.of B.Hash.of) }
-    // No rule on a flag of version 1 or a squared radius is broken in a part, since there is none.
+    // No rule on a flag or a squared radius is broken in a part, since there is none.
     ensures rules { IfOk result BreaksNoFlag }
     // No more nodes of either map are fetched than accepted bytes open, and none for bytes that are
     // refused: by the verdict against the root digests of what `top` says, and where the trees are

@@ -135,7 +135,7 @@ pub fn check_join<H: Hashes>(
     ensures frame { ReadsJust proof.now }
     ensures parts { ReadsParts (record { of = H.of; root = first.now })
         (record { of = H.of; root = second.now }) proof.now }
-    // No rule on a flag of version 1 or a squared radius is broken in a part, since there is none.
+    // No rule on a flag or a squared radius is broken in a part, since there is none.
     ensures rules { (f : faults.JoinFault) → join_verdict (record { of = H.of; root = first.now })
         (record { of = H.of; root = second.now }) proof.now ≡ Err f → MayBreakJoin f }
     // What accepted bytes are worth: they are the honest proof of the two maps with these roots,

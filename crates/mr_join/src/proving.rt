@@ -264,15 +264,15 @@ fn rect_of(top: &Top) -> Option<Rect>
     }
 }
 
-/// Writes the proof of the join of two maps of version 2: where both trees are told, the bytes are
+/// Writes the proof of the join of two maps of version 2. Where both trees are told, the bytes are
 /// `join_proof` of them, which a client accepts, and no more nodes are fetched of either map than
 /// its part opens.
 ///
-/// The first map's proof is made first, and kept with the records that it gives; the second map is
+/// The first map's proof is made first, and kept with the records that it gives. The second map is
 /// asked for those that meet one of them, and its proof goes out as it is made. After a refusal
 /// some front of the proof was taken. It is answered as want of memory too where a tree is not told
-/// and its own proof is refused, and where the first map's proof has 2^32 bytes or more, which is
-/// of no tree that is told.
+/// and its own proof is refused. So it is where the first map's proof has 2^32 bytes or more, which
+/// is of no tree that is told.
 pub fn prove_join<A: Nodes, B: Nodes, W: Sink>(
     alloc: Global,
     first: &mut A,

@@ -1,5 +1,5 @@
 -- What a command comes to: its status, what it prints and what it writes.
-use Rattle.std.specs.Prelude.{◌≡◌, ◌⊎◌, ⊤, ℕ, ◌+◌, ◌≤◌, max, false, List, ◌++◌, Option, Some, None, IfSome, option_map}
+use Rattle.std.specs.Prelude.{◌≡◌, ◌⊎◌, ⊤, ℕ, ◌+◌, ◌≤◌, max, false, List, ◌++◌, Option, Some, None, IsSomeAnd, option_map}
 use Rattle.std.specs.FinMap as map
 use Rattle.mr_outside.specs.Files.{Files}
 use Rattle.mr_outside.specs.Told.{OfFiles}
@@ -85,7 +85,7 @@ StaysClean was (Some content) before after = ⊤
 -- what recovery would leave is what it would have left before, or the content
 abbrev pub MayRestore : (map journal : List ℕ) → (was : Image) → Option Content → Files → Type 0
 MayRestore map journal was content files = (restored_in map journal files ≡ restored was)
-    ⊎ IfSome content (λ made. IsWholly made (restored_in map journal files))
+    ⊎ IsSomeAnd content (λ made. IsWholly made (restored_in map journal files))
 
 pub record Outcome : Type 0 where
   pub status : Status

@@ -75,9 +75,9 @@ fn part_refused_line(alloc: Global, map: &str, fault: &Fault) -> Result<String, 
     Ok(line)
 }
 
-/// The line on a join's proof that is refused: `refused frame RULE at PLACE`; of the proof of one
-/// of the two maps `refused first RULE at PLACE` or `refused second RULE at PLACE`, and for another
-/// root digest the one that was found.
+/// The line on a join's proof that is refused: `refused frame RULE at PLACE`. Of the proof of one
+/// of the two maps it is `refused first RULE at PLACE` or `refused second RULE at PLACE`, and for
+/// another root digest the one that was found.
 #[tactic(auto, unfolding(crate::specs::Joins::join_refused_line))]
 pub fn join_refused_line(alloc: Global, fault: &JoinFault) -> Result<String, AllocError>
     ensures { IfOk result (λ line. string_bytes line ≡ line_of_refusal fault.now) }

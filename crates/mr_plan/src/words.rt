@@ -36,7 +36,7 @@ pub enum Command<'a> {
     /// the third one, and print its root digest. The new file is as long as the old one at least.
     Apply(&'a str, &'a str, &'a str),
     /// Apply the batch in the second file to the map in the first one, in its own file, and print
-    /// its root digest, so that a crash at any moment leaves the map as it was or after the batch.
+    /// its root digest. A crash at any moment leaves the map as it was or after the batch.
     /// A journal stands beside the map, in a file whose name is the map's with `.journal` behind.
     ApplyHere(&'a str, &'a str),
     /// Finish a change of the map in a file that a crash cut short, by its journal, and print
@@ -70,11 +70,11 @@ pub enum Command<'a> {
     /// two. Both have to be of version 2.
     AuditJoin(&'a str, &'a str, &'a str),
     /// Write the proofs for the queries of the script in the second file, on the map in the first
-    /// one, to the third one as a bundle, and print how many they are and the bundle's length.
+    /// one, to the third one as a bundle. Print how many they are and the bundle's length.
     Serve(&'a str, &'a str, &'a str),
     /// Print the verdict on each part of the bundle in the second file, against a root digest and
-    /// for the query at its place in the script in the first one, and how many were accepted,
-    /// refused and missing.
+    /// for the query at its place in the script in the first one. Then print how many were
+    /// accepted, refused and missing.
     CheckAll([u8; 32], &'a str, &'a str),
     /// Write so many generated records, from 0 to 2^20, to a file, and print how many they are. The
     /// second number is the seed.
