@@ -1,9 +1,8 @@
 -- `apply` on a map that is opened page by page: its batch, and the whole of it.
-use Rattle.std.proofs.Common.{◌≡◌, ℕ, ◌+◌, ◌≤◌, ltb, List, length, refl, sym, ap, subst, ◌∙◌, inl, inr, arith}
-use Rattle.std.specs.Prelude.{max, if◌then◌else◌, Option, Some, None, IfSome, IsSome, Result, Ok, Err}
+use Rattle.std.proofs.Common.{◌≡◌, ℕ, ◌+◌, ◌≤◌, List, length, refl, sym, ap, subst, ◌∙◌, inl, inr, arith}
+use Rattle.std.specs.Prelude.{Option, Some, None, IfSome, IsSome, Result, Ok, Err}
 use Rattle.std.specs.Global.{Vec}
 use Rattle.std.specs.String.{string_bytes}
-use Rattle.std.proofs.lemmas.Bool.{cases_Bool, ltb-false}
 use Rattle.mr_outside.specs.Files.{Files, file}
 use Rattle.mr_outside.specs.State.{Shelved}
 use Rattle.mr_outside.specs.declared.shelf.Shelf as shelves
@@ -14,25 +13,21 @@ use Rattle.mr_record.specs.declared.text_fault.TextErr.{TextErr}
 use Rattle.mr_record.specs.declared.text_fault.TextErr.TheVariants as texts
 use Rattle.mr_record.specs.declared.text_fault.TextFault.{TextFault}
 use Rattle.mr_record.specs.declared.version.Version.{Version}
-use Rattle.mr_tree.specs.Nodes.{MapModel, HasSomeCause, subtrees}
+use Rattle.mr_tree.specs.Nodes.{MapModel}
 use Rattle.mr_tree.specs.Tree.{records}
 use Rattle.mr_tree.specs.WellFormed.{WellFormed}
 use Rattle.mr_tree.specs.declared.hash.Hashes as hashes
-use Rattle.mr_tree.specs.declared.nodes.NodesErr.{NodesErr}
 use Rattle.mr_tree.specs.declared.tree.Tree.{Tree}
 use Rattle.mr_pages.specs.File.{version_of}
 use Rattle.mr_pages.specs.Law.{IsMapFile, map_in}
-use Rattle.mr_pages.specs.Opening.{pages_in, of_nodes}
+use Rattle.mr_pages.specs.Opening.{pages_in}
 use Rattle.mr_pages.specs.PageBytes.{form_of}
 use Rattle.mr_pages.specs.declared.error.MapErr.{MapErr}
 use Rattle.mr_pages.specs.declared.head.MapHead.{MapHead}
 use Rattle.mr_pages.specs.declared.opening.Opened.{Opened}
-use Rattle.mr_store.specs.private.Laws.{keeps_stands}
 use Rattle.mr_store.specs.CachedFile.{name_of, page_form, OfBytes}
-use Rattle.mr_store.specs.Kept.{room}
 use Rattle.mr_store.specs.Opening.{OpensMap, RefusesMap, page_total}
-use Rattle.mr_outside.specs.Faults.{last_count}
-use Rattle.mr_store.specs.Paged.{ReadsFew as FewFetches, IsSameMap, Keeps, shelved, stands_for}
+use Rattle.mr_store.specs.Paged.{IsSameMap, shelved, stands_for}
 use Rattle.mr_store.specs.Stored.{IsMapOf, read_map, told_bytes}
 use Rattle.mr_store.specs.declared.paged.Paged.{Paged}
 use Rattle.mr_edit.specs.Reads.{reads_along}
@@ -45,8 +40,8 @@ use Rattle.mr_batch.specs.declared.admission.BatchFault.{BatchFault}
 use Rattle.mr_batch.proofs.Replaying.{numbers_of}
 use Rattle.mr_plan.specs.First.{pages_by}
 use Rattle.mr_command.specs.private.Applying.{MayApply, ComesBehind, IsFewOfCopy, IsFewOfChanges, IsFewOfText, IsFewOfFile}
-use Rattle.mr_command.specs.Counting.{nodes_listed, pieces_of, AllowsApply, IsFewApplied, IsFewOfBatch, ReadsWithinPlan}
-use Rattle.mr_command.specs.Ending.{RunsPlan, ComesAsSaid, AreJudged, BlamesOutside, Came, EndsPlan, IsEndingOrHalt, GivesUpPlan, NoneFalls, printed_of}
+use Rattle.mr_command.specs.Counting.{pieces_of, AllowsApply, IsFewApplied, IsFewOfBatch, ReadsWithinPlan}
+use Rattle.mr_command.specs.Ending.{ComesAsSaid, AreJudged, BlamesOutside, Came, EndsPlan, IsEndingOrHalt, GivesUpPlan, NoneFalls, printed_of}
 use Rattle.mr_command.specs.private.Steps.{map_at, ComesBut, with_reads, GoesOn, ReadsInput, SaysRefusal}
 use Rattle.mr_command.specs.private.Inputs.{ReadsValue, SaysText}
 use Rattle.mr_plan.specs.Lines.{bad_batch_line, bad_text_line}
@@ -61,30 +56,19 @@ use Rattle.mr_plan.specs.declared.status.Status.TheVariants.{BadBatch, BadText}
 use Rattle.mr_command.proofs.Audits.{reads_both, reads_but, says_unread, untold_from}
 use Rattle.mr_command.proofs.Batches.{says_applied}
 use Rattle.mr_command.proofs.Counting.{OnceFrom, few_stopped, taken_none}
-use Rattle.mr_command.proofs.Drafts.{batch_in, by_some, at_some, halts_but, behind_given, behind_halted}
+use Rattle.mr_command.proofs.Drafts.{batch_in, by_some, at_some, behind_given, behind_halted}
 use Rattle.mr_command.proofs.Going.{judged_needs}
 use Rattle.mr_command.proofs.Inputs.{goes_needed, says_bytes}
-use Rattle.mr_command.proofs.Pages.{HasMap, at_input, few_refused, few_there, file_has, files_told, has_map, pages_all, refused_blamed, refused_told, told_on, was_opened, with_same}
+use Rattle.mr_command.proofs.Pages.{HasMap, at_input, few_refused, few_there, file_has, files_told, has_map, pages_all, refused_blamed, refused_told, told_on, was_opened}
 use Rattle.mr_command.proofs.Plans.{stays}
-use Rattle.mr_command.proofs.Rereading.{comes_told, comes_untold, fetch_blamed, fetch_stopped, says_refused}
-
--- what is read for a walk that fetches so many nodes
-few_walked : (r r' f f' n : ℕ) → f ≡ 0 → FewFetches r f r' f' → r' ≤ max r last_count → f' ≤ f + n → r' ≤ r + n
-few_walked r r' f f' n none few most bound = elim few [
-  | inl each ↦ omega (arith, each, bound, none)
-  | inr last ↦ omega (arith, last, most, bound, none)
-]
+use Rattle.mr_command.proofs.Rereading.{comes_told, comes_untold, says_refused}
 
 -- ---- a batch for the map
 
 module _ {S H : Type 0} {G : shelves.Ghosts S} {K : hashes.Ghosts H} (hash : List ℕ → List ℕ)
-    (map new batch : List ℕ) (p p' : Paged S H G K) (b : Changes) (kept : Keeps p p') (none : p.fetches ≡ 0)
-    (fetched : IfSome (stands_for p).tree (λ t. p'.fetches ≤ p.fetches + length (subtrees t))) where
+    (map new batch : List ℕ) (p : Paged S H G K) (b : Changes) where
   abbrev before : Shelved
   before = shelved p
-
-  abbrev mid : Shelved
-  mid = shelved p'
 
   abbrev standing : MapModel
   standing = stands_for p
@@ -102,49 +86,15 @@ module _ {S H : Type 0} {G : shelves.Ghosts S} {K : hashes.Ghosts H} (hash : Lis
   abbrev few_of_batch : Shelved → Tree → Type 0
   few_of_batch after = IsFewOfChanges p.head.pages p.head.batch b before.reads after.reads
 
-  counts_listed : NoneFalls before mid
-  counts_listed = record { faults = kept.faults; reads = kept.reads }
+  -- nothing is read for what the batch is asked of the directory
+  counts_asked : NoneFalls before before
+  counts_asked = record { faults = omega arith; reads = omega arith }
 
-  -- what the directory reads
-  listed : (t : Tree) → standing.tree ≡ Some t → mid.reads ≤ before.reads + nodes_listed p.head.pages t
-  listed t told = elim (cases_Bool (ltb (room + 1) p.head.pages)) [
-    | inl large ↦ omega (
-      arith,
-      few_walked before.reads mid.reads p.fetches p'.fetches (length (subtrees t)) none kept.few kept.most
-          (at_some standing.tree t (λ t. p'.fetches ≤ p.fetches + length (subtrees t)) told fetched),
-      ap (λ b. if b then length (subtrees t) else 0) large,
-    )
-    | inr small ↦ omega (
-      arith,
-      kept.still (files_told p (subst IsSome (sym told) refl)) (ltb-false (room + 1) p.head.pages small),
-    )
-  ]
-
-  few_listed : IfSome standing.tree (few_of_batch mid)
-  few_listed = by_some standing.tree (few_of_batch mid)
-      (λ t told. (nodes_listed p.head.pages t, listed t told, inl (omega arith)))
-
-  -- a node was not fetched
-  pub unlisted : (e : NodesErr) (result : Result Ending Halt) → HasSomeCause standing before.faults mid.faults e
-      → SaysRefusal map (of_nodes e) result
-      → ComesBehind applies_batch standing (λ m. comes (said_of_batch m)) (few_of_batch mid) before mid result
-  unlisted e result cause says = record {
-    counts = counts_listed;
-    told = by_some standing.tree (λ t. ComesBut (comes (said_of_batch (map_at standing t))) before mid result)
-        (λ t told.
-        let stop = fetch_stopped map standing t e before mid result told cause says in
-        subst (ComesBut (comes (said_of_batch (map_at standing t))) before mid) (sym stop.is)
-        (halts_but (said_of_batch (map_at standing t)) before mid stop.halt counts_listed stop.stops
-        (stays (said_of_batch (map_at standing t)).written before.files mid.files kept.files)));
-    untold = λ none.
-        says_refused hash applies_batch map (λ o is. inl is) before mid kept.files (of_nodes e) result
-        (fetch_blamed hash standing e before mid cause) says;
-    few_read = few_listed;
-  }
+  few_asked : IfSome standing.tree (few_of_batch before)
+  few_asked = by_some standing.tree (few_of_batch before) (λ t told. (0, omega arith, inl refl))
 
   module _ (well : (t : Tree) → standing.tree ≡ Some t → WellFormed t) (dir : DirectoryEntries)
-      (lists : IfSome standing.tree (λ t. IsDirectoryOf dir (records t))) (quiet : mid.faults ≡ before.faults)
-      (held : ℕ)
+      (lists : IfSome standing.tree (λ t. IsDirectoryOf dir (records t))) (held : ℕ)
       (held_is : held ≡ standing.batch) where
     numbers : (t : Tree) → standing.tree ≡ Some t → HaveNumbers dir (records t)
     numbers t told =
@@ -156,9 +106,9 @@ module _ {S H : Type 0} {G : shelves.Ghosts S} {K : hashes.Ghosts H} (hash : Lis
         → batch_of_text standing.version text ≡ Ok b → ((rs : List Record) × HaveNumbers dir rs)
         → ((rs : List Record) → HaveNumbers dir rs → batch_fault rs held b ≡ Some fault)
         → IsEndingOrHalt (ends BadBatch (bad_batch_line fault)) result
-        → ComesBehind applies_batch standing (λ m. comes (said_of_batch m)) (few_of_batch mid) before mid result
+        → ComesBehind applies_batch standing (λ m. comes (said_of_batch m)) (few_of_batch before) before before result
     unadmitted text fault result are is some exact gives =
-        behind_given applies_batch standing said_of_batch (few_of_batch mid) before mid counts_listed few_listed
+        behind_given applies_batch standing said_of_batch (few_of_batch before) before before counts_asked few_asked
         (ends BadBatch (bad_batch_line fault)) result
         refl
         (λ t told. ap (say_admitted standing.version hash new p.head.pages t b)
@@ -169,7 +119,7 @@ module _ {S H : Type 0} {G : shelves.Ghosts S} {K : hashes.Ghosts H} (hash : Lis
           are,
           (b, is, (some.0, held, (fault, exact some.0 some.1, refl))),
         )))))
-        kept.files quiet gives
+        refl refl gives
 
     -- it may
     admissible : ((rs : List Record) → HaveNumbers dir rs → IsAdmissible rs held b) → (t : Tree)
@@ -178,61 +128,35 @@ module _ {S H : Type 0} {G : shelves.Ghosts S} {K : hashes.Ghosts H} (hash : Lis
     admissible fine t told = subst (λ n. IsAdmissible (records t) n b) held_is (fine (records t) (numbers t told))
 
     pub may_apply : ((rs : List Record) → HaveNumbers dir rs → IsAdmissible rs held b)
-        → IfSome (stands_for p').tree (MayApply dir p'.head.batch b)
+        → IfSome standing.tree (MayApply dir p.head.batch b)
     may_apply fine =
-        subst (λ (st : MapModel). IfSome st.tree (MayApply dir p'.head.batch b))
-        (sym (keeps_stands p p' kept))
-        (by_some standing.tree (MayApply dir p'.head.batch b) (λ t told. record {
+        by_some standing.tree (MayApply dir p.head.batch b) (λ t told. record {
           directory = at_some standing.tree t (λ t. IsDirectoryOf dir (records t)) told lists;
-          admissible = subst (λ n. IsAdmissible (records t) n b)
-              (batch_is ∙ ap (λ (x : MapHead). x.batch) (sym kept.head))
-              (admissible fine t told);
-        }))
+          admissible = subst (λ n. IsAdmissible (records t) n b) batch_is (admissible fine t told);
+        })
 
     pub admitted : ((rs : List Record) → HaveNumbers dir rs → IsAdmissible rs held b) → (after : Shelved)
         (result : Result Ending Halt)
-        → ComesBehind applies_batch (stands_for p')
-        (λ m. comes (say_changed m.version hash new p'.head.pages m.tree b))
-        (IsFewOfCopy p'.head.pages b mid.reads after.reads) mid after result
+        → ComesBehind applies_batch standing
+        (λ m. comes (say_changed m.version hash new p.head.pages m.tree b))
+        (IsFewOfCopy p.head.pages b before.reads after.reads) before after result
         → ComesBehind applies_batch standing (λ m. comes (said_of_batch m)) (few_of_batch after) before after result
     admitted fine after result on = record {
-      counts = record {
-        faults = omega (arith, kept.faults, on.counts.faults);
-        reads = omega (arith, kept.reads, on.counts.reads);
-      };
+      counts = on.counts;
       told = by_some standing.tree (λ t. ComesBut (comes (said_of_batch (map_at standing t))) before after result)
           (λ t told.
-          let own : ComesBut (comes (say_changed standing.version hash new p.head.pages t b)) mid after result =
-          at_some standing.tree t
-          (λ t. ComesBut (comes (say_changed standing.version hash new p.head.pages t b)) mid after result) told
-          same.told in
           subst (λ o. ComesBut (comes o) before after result)
           (sym (says_applied hash new p.head.pages (map_at standing t) b (admissible fine t told)))
-          (subst (λ w. RunsPlan (comes (say_changed standing.version hash new p.head.pages t b)) w after result)
-          (with_same after.reads before mid kept.files quiet) own));
-      untold = λ none.
-          untold_from applies_batch before mid after result kept.files quiet (on.untold (kept.files ∙ none));
+          (at_some standing.tree t
+          (λ t. ComesBut (comes (say_changed standing.version hash new p.head.pages t b)) before after result) told
+          on.told));
+      untold = on.untold;
       few_read = by_some standing.tree (few_of_batch after) (λ t told. (
-        nodes_listed p.head.pages t + p.head.pages + reads_along t b.list,
-        omega (
-          arith,
-          listed t told,
-          at_some standing.tree t (IsFewOfCopy p.head.pages b mid.reads after.reads) told same.few_read,
-        ),
+        p.head.pages + reads_along t b.list,
+        at_some standing.tree t (IsFewOfCopy p.head.pages b before.reads after.reads) told on.few_read,
         inr (subst (λ n. IsAdmissible (records t) n b) batch_is (admissible fine t told), omega arith),
       ));
     }
-      where
-        same : ComesBehind applies_batch standing (λ m. comes (say_changed m.version hash new p.head.pages m.tree b))
-            (IsFewOfCopy p.head.pages b mid.reads after.reads) mid after result
-        same =
-            subst (λ (st : MapModel). ComesBehind applies_batch st
-            (λ m. comes (say_changed m.version hash new p.head.pages m.tree b))
-            (IsFewOfCopy p.head.pages b mid.reads after.reads) mid after result)
-            (keeps_stands p p' kept)
-            (subst (λ (x : MapHead). ComesBehind applies_batch (stands_for p')
-            (λ m. comes (say_changed m.version hash new x.pages m.tree b))
-            (IsFewOfCopy x.pages b mid.reads after.reads) mid after result) kept.head on)
 
 -- ---- the text of a batch
 
@@ -313,6 +237,12 @@ module _ {S H : Type 0} {G : shelves.Ghosts S} {K : hashes.Ghosts H} (hash : Lis
   -- what goes by the version of the map goes by it afterwards
   pub version_same : (P : Version → Type 0) → P standing_of_file.version → P (stands_for p').version
   version_same P has = subst (λ (st : MapModel). P st.version) (sym stands_same) has
+
+  -- so does what goes by its records
+  pub listed_same : (dir : DirectoryEntries) → IfSome standing_of_file.tree (λ t. IsDirectoryOf dir (records t))
+      → IfSome (stands_for p').tree (λ t. IsDirectoryOf dir (records t))
+  listed_same dir lists =
+      subst (λ (st : MapModel). IfSome st.tree (λ t. IsDirectoryOf dir (records t))) (sym stands_same) lists
 
   abbrev applies_file : Outcome → Type 0
   applies_file = MaySayApply hash map batch new

@@ -1,13 +1,12 @@
 -- How many reads a command takes over files that are told: an input that is read whole takes its
 -- pieces once, a map its pages once, and the nodes that are fetched beside; and of `apply` the map
 -- its pages once more for the copy, and what the changes read.
-use Rattle.std.specs.Prelude.{◌≡◌, ◌⊎◌, ⊤, false, ℕ, ◌+◌, ◌-◌, ◌*◌, ◌≤◌, ◌<◌, nat_lt, if◌then◌else◌, List, length, take, Option, Some, None, MatchOption, Ok}
+use Rattle.std.specs.Prelude.{◌≡◌, ◌⊎◌, ⊤, false, ℕ, ◌+◌, ◌-◌, ◌*◌, ◌≤◌, ◌<◌, List, length, take, Option, Some, None, MatchOption, Ok}
 use Rattle.mr_outside.specs.Files.{Files, file}
 use Rattle.mr_outside.specs.Reading.{piece_count}
 use Rattle.mr_outside.specs.State.{Shelved}
 use Rattle.mr_outside.specs.Told.{OfFiles}
 use Rattle.mr_tree.specs.Digest.{Scheme, by}
-use Rattle.mr_tree.specs.Nodes.{subtrees}
 use Rattle.mr_tree.specs.Tree.{records}
 use Rattle.mr_tree.specs.declared.tree.Tree.{Tree}
 use Rattle.mr_record.specs.declared.version.Version.{Version}
@@ -83,16 +82,11 @@ IsFewBeside hash opened_nodes bytes proof n = (n ≤ pages_in bytes)
     × (n ≤ pages_in bytes + pieces_of proof
     + opened_beside opened_nodes (by (version_of bytes) hash) t batch proof))))
 
--- what the directory of a map in so many pages reads again: each node once, where it is large
-abbrev pub nodes_listed : (pages : ℕ) → Tree → ℕ
-nodes_listed pages t = if nat_lt (room + 1) pages then length (subtrees t) else 0
-
--- behind a batch: what the directory reads; and where the batch may be applied, each page once more
--- for the copy, and what its changes read
+-- behind a batch: nothing, unless it may be applied; and then each page once more for the copy, and
+-- what its changes read
 abbrev pub IsFewBehind : (pages : ℕ) → Tree → (held : ℕ) → Changes → ℕ → Type 0
-IsFewBehind pages t held batch n = (n ≤ nodes_listed pages t)
-    ⊎ (IsAdmissible (records t) held batch
-    × (n ≤ nodes_listed pages t + pages + reads_along t batch.list))
+IsFewBehind pages t held batch n = (n ≡ 0)
+    ⊎ (IsAdmissible (records t) held batch × (n ≤ pages + reads_along t batch.list))
 
 -- behind the pieces of a batch: nothing, unless its text has no fault in the map's version
 abbrev pub IsFewOfBatch : Version → (pages : ℕ) → Tree → (held : ℕ) → Input → ℕ → Type 0

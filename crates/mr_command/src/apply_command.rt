@@ -2,8 +2,10 @@
 
 ghost use Rattle.std.specs.Prelude.{◌≡◌, ◌≢◌, List, ℕ, All, IfSome, Ok};
 ghost use Rattle.mr_batch.specs.BatchText.{batch_of_text};
+ghost use Rattle.mr_batch.specs.Directory.{IsDirectoryOf};
 ghost use Rattle.mr_edit.specs.Replayed.{IsOfVersion};
 ghost use Rattle.mr_record.specs.private.Bytes.{AreBytes};
+ghost use Rattle.mr_tree.specs.Tree.{records};
 ghost use Rattle.mr_store.specs.CachedFile.{name_of};
 ghost use Rattle.mr_store.specs.Paged.{IsSameMap, shelved, stands_for};
 ghost use Rattle.mr_command.specs.private.Applying.{of_copy, of_edit, SaysSealed, MayApply, ComesBehind, IsFewOfCopy, IsFewOfChanges, IsFewOfFile};
@@ -18,9 +20,8 @@ ghost use Rattle.mr_plan.specs.Say.{ends, say_batch, say_change, say_changed};
 
 use crate::audit_command::needed_beside;
 use crate::ending::{Ending, Halt, Step};
-use crate::fetching::unfetched;
 use crate::input::bad_text;
-use crate::opening::{is_word, open_paged, unopened};
+use crate::opening::{is_word, unopened};
 use crate::saving::say_root;
 use mr_batch::{Batch, BatchFault, Directory, admit, read_batch_of};
 use mr_draft::copy_map;
@@ -28,7 +29,7 @@ use mr_edit::EditErr;
 use mr_outside::Shelf;
 use mr_pages::MapErr;
 use mr_plan::{Status, bad_batch_line};
-use mr_store::{Paged, directory};
+use mr_store::Paged;
 use mr_tree::{Hash32, Nodes};
 use std::alloc::Global;
 
@@ -111,16 +112,18 @@ fn change<H: Hash32, S: Shelf>(
     }
 }
 
-// The map after a batch, and its root; or why the batch may not be applied.
+// The map after a batch, and its root; or why the batch may not be applied. The directory is that
+// of the map's records.
 fn apply_batch<H: Hash32, S: Shelf>(
     alloc: Global,
     map: &str,
     new: &str,
     paged: Paged<S, H>,
+    dir: Directory,
     batch: &Batch,
 ) -> (Result<Ending, Halt>, S)
     requires names { name_of paged.file ≢ new.now }
-    requires none { paged.fetches ≡ 0 }
+    requires lists { IfSome (stands_for paged).tree (λ t. IsDirectoryOf dir (records t)) }
     requires text { (text : List ℕ) × AreBytes text
         × (batch_of_text (stands_for paged).version text ≡ Ok batch.now) }
     ensures { (name : List ℕ) → ComesBehind (MaySayApply H.of map.now name new.now)
@@ -128,14 +131,10 @@ fn apply_batch<H: Hash32, S: Shelf>(
         (IsFewOfChanges paged.head.pages paged.head.batch batch.now (shelved paged).reads
         (S.state result.1).reads) (shelved paged) (S.state result.1) result.0 }
 {
-    let mut paged = paged;
     paged.is_map();
-    match directory(alloc, &mut paged) {
-        Err(error) => (unfetched(alloc, map, &error), paged.close()),
-        Ok(dir) => match admit(&dir, paged.top().batch, batch) {
-            Err(fault) => (bad_batch(alloc, &fault), paged.close()),
-            Ok(()) => change::<H, S>(alloc, map, new, paged, dir, batch),
-        },
+    match admit(&dir, paged.top().batch, batch) {
+        Err(fault) => (bad_batch(alloc, &fault), paged.close()),
+        Ok(()) => change::<H, S>(alloc, map, new, paged, dir, batch),
     }
 }
 
@@ -149,7 +148,6 @@ fn batch_beside<H: Hash32, S: Shelf>(
     ensures reads { ReadsValue (batch_of_text (stands_for paged.old).version) name.now
         (shelved paged.old) (shelved paged.new) result }
     ensures same { IsSameMap paged.old paged.new }
-    ensures fetches { paged.new.fetches ≡ paged.old.fetches }
 {
     let version = paged.version();
     let text = needed_beside::<H, S>(alloc, name, paged)?;
@@ -166,9 +164,10 @@ fn apply_file<H: Hash32, S: Shelf>(
     batch: &str,
     new: &str,
     paged: Paged<S, H>,
+    dir: Directory,
 ) -> (Result<Ending, Halt>, S)
     requires names { name_of paged.file ≢ new.now }
-    requires none { paged.fetches ≡ 0 }
+    requires lists { IfSome (stands_for paged).tree (λ t. IsDirectoryOf dir (records t)) }
     ensures { let s = stands_for paged in let before = shelved paged in
         ComesBehind (MaySayApply H.of map.now batch.now new.now) s
         (say_change H.of batch.now new.now paged.head.pages)
@@ -177,14 +176,14 @@ fn apply_file<H: Hash32, S: Shelf>(
 {
     let mut paged = paged;
     match batch_beside::<H, S>(alloc, batch, &mut paged) {
-        Ok(changes) => apply_batch::<H, S>(alloc, map, new, paged, &changes),
+        Ok(changes) => apply_batch::<H, S>(alloc, map, new, paged, dir, &changes),
         Err(came) => (came, paged.close()),
     }
 }
 
 /// The map in a file after the batch in another one, written to a third one in its version. The
-/// pages of the map are read once, and the batch behind them, whose lines are of the map's version;
-/// then the directory of the map's records is made, and the changes are made on a copy of its file.
+/// pages of the map are read once, with which the directory of its records is made, and the batch
+/// behind them, whose lines are of the map's version; the changes are made on a copy of its file.
 /// The new file has another name than the old one. The shelf is handed back.
 pub fn apply<H: Hash32, S: Shelf>(
     alloc: Global,
@@ -197,8 +196,8 @@ pub fn apply<H: Hash32, S: Shelf>(
     ensures { IsCarriedOut H.of (commands.Apply old.entry batch.entry new.entry) (S.state shelf)
         (S.state result.1) result.0 }
 {
-    match open_paged::<H, S>(alloc, old, shelf) {
-        Err(ended) => ended,
-        Ok(paged) => apply_file::<H, S>(alloc, old, batch, new, paged),
+    match Paged::<S, H>::open_listed(alloc, shelf, old) {
+        Err((shelf, error)) => (unopened(alloc, old, &error), shelf),
+        Ok((paged, dir)) => apply_file::<H, S>(alloc, old, batch, new, paged, dir),
     }
 }

@@ -8,12 +8,12 @@ sized g = (g.met.H.Hashes g.world.𝓛 g.world.𝓜 g.world.𝓡 ((λ s x. x), (
 
 pub returns-in-Err : goal.returns-in-Err
 returns-in-Err g c =
-    let is = c.in-Err.ensures in
     unopened_so g.H.Hashes.of (sized g) c.args.old.now c.args.batch.now c.args.new.now
-    (g.S.Shelf.state c.args.shelf) (g.S.Shelf.state c.in-Err.ended.1) is.error c.in-Err.ended.0 is.refuses is.says
+    (g.S.Shelf.state c.args.shelf) (g.S.Shelf.state c.in-Err.shelf) c.in-Err.error c.unopened.result
+    c.in-Err.ensures.opened c.unopened.ensures
 
 pub returns-in-Ok : goal.returns-in-Ok
 returns-in-Ok g c =
     opened_so g.H.Hashes.of (sized g) c.args.old.now c.args.batch.now c.args.new.now
-    (g.S.Shelf.state c.args.shelf) c.in-Ok.paged (g.S.Shelf.state c.apply_file.result.1) c.in-Ok.ensures
+    (g.S.Shelf.state c.args.shelf) c.in-Ok.paged (g.S.Shelf.state c.apply_file.result.1) c.in-Ok.ensures.opened
     c.apply_file.result.0 c.apply_file.ensures

@@ -5,7 +5,7 @@ use Rattle.mr_store.specs.Paged.{shelved, stands_for}
 use Rattle.mr_command.specs.private.Applying.{ComesBehind, IsFewOfFile}
 use Rattle.mr_plan.specs.Untold.{MaySayApply}
 use Rattle.mr_plan.specs.Say.{say_change}
-use Rattle.mr_command.proofs.Applied.{file_read_as, file_ended, version_same}
+use Rattle.mr_command.proofs.Applied.{file_read_as, file_ended, listed_same, version_same}
 use Rattle.mr_command.proofs.apply_command.apply_file.Goals as goal
 
 pub apply_batch-requires-clause-text : goal.apply_batch-requires-clause-text
@@ -19,6 +19,11 @@ apply_batch-requires-clause-text g c κs within =
       version_same g.H.Hashes.of c.args.map.now c.args.batch.now c.args.new.now paged later is.same
           (λ v. batch_of_text v read.0.items ≡ Ok c.in-Ok.changes) read.2,
     )
+
+pub apply_batch-requires-clause-lists : goal.apply_batch-requires-clause-lists
+apply_batch-requires-clause-lists g c κs within =
+    listed_same g.H.Hashes.of c.args.map.now c.args.batch.now c.args.new.now c.args.paged c.batch_beside.new.paged
+    c.in-Ok.ensures.same c.args.dir c.requires.lists
 
 pub returns-in-Ok : goal.returns-in-Ok
 returns-in-Ok g c =
