@@ -11,3 +11,5 @@ pub mod Groups
 pub mod Standing
 pub mod Contents
 pub mod Apart
+pub mod Remains
+pub mod Shares

@@ -1,16 +1,19 @@
 //! The nodes of a level: leaves over records, and inner nodes over the level below.
 
-ghost use Rattle.std.specs.Prelude.{◌≡◌, ◌≤◌, ◌<◌, ◌^◌, length, map, OnOk, IfOk, Some};
+ghost use Rattle.std.specs.Prelude.{◌≡◌, ◌≤◌, ◌<◌, ◌^◌, ℕ, length, map, slice_index_or, OnOk, IfOk, Some};
 ghost use Rattle.std.specs.Global.{Vec as list};
-ghost use Rattle.std.specs.Borrow.{Bor};
+ghost use Rattle.std.specs.List.{flat_map, range_with_len};
+ghost use Rattle.std.specs.List.Sorted.{IsPermutation};
 ghost use Rattle.mr_record.specs.declared.record.Record as types;
 ghost use Rattle.mr_geom.specs.Rectangle.{union_of};
 ghost use Rattle.mr_tree.specs.Tree.{rect};
 ghost use Rattle.mr_tree.specs.declared.tree.Tree.TheVariants as variants;
 ghost use Rattle.mr_pack.specs.Pack.{leaves_of, level_above, placed_record, placed_nodes};
 ghost use Rattle.mr_pack.specs.declared.node.Node.{Node as node};
-ghost use Rattle.mr_pack.specs.private.Views.{record_value, with_tree};
+ghost use Rattle.mr_pack.specs.private.Remains.{picked};
+ghost use Rattle.mr_pack.specs.private.Views.{with_item, with_tree};
 
+use crate::gathering::{take, whole};
 use crate::grouping::group;
 use crate::node::Node;
 use crate::placed::{Placed, place};
@@ -20,23 +23,15 @@ use mr_record::Record;
 use mr_tree::{INNER_LIMIT, LEAF_LIMIT, Tree, bounds_of};
 use std::alloc::{AllocError, Global};
 
-// Copies of some records.
-fn copies(alloc: Global, records: &[&Record]) -> Result<Vec<Record>, AllocError>
-    ensures { IfOk result (λ v. v.items ≡ map (λ r. r.now) records.now) }
+// A leaf with some records.
+fn leaf(records: Vec<Record>) -> Node
+    ensures { result.tree ≡ variants.Leaf records.items }
 {
-    records.iter().map(|record| **record).collect(alloc)
-}
-
-// A leaf with copies of some records.
-fn leaf(alloc: Global, group: &[&Record]) -> Result<Node, AllocError>
-    ensures { IfOk result (λ n. n.tree ≡ variants.Leaf (map (λ r. r.now) group.now)) }
-{
-    let records = copies(alloc, group)?;
     let bounds = bounds_of(&records);
-    Ok(Node {
+    Node {
         bounds,
         tree: Tree::Leaf(Items::of(records)),
-    })
+    }
 }
 
 // The rectangle round some nodes.
@@ -70,38 +65,52 @@ fn inner(alloc: Global, nodes: Vec<Node>) -> Result<Node, AllocError>
     })
 }
 
-// The entries of some records.
-fn record_entries(alloc: Global, records: &[Record]) -> Result<Vec<Placed<&Record>>, AllocError>
-    ensures { IfOk result (λ v. map record_value v.items ≡ map placed_record records.now) }
+// The entries of some records, where the item of each is its place among them.
+fn record_entries(alloc: Global, records: &[Record]) -> Result<Vec<Placed<usize>>, AllocError>
+    ensures numbers { IfOk result (λ v. map (λ e. e.item) v.items
+        ≡ range_with_len 0 (length records.now)) }
+    ensures placed { IfOk result (λ v. (d : types.Record)
+        → map (with_item (λ i. slice_index_or records.now i d)) v.items
+        ≡ map placed_record records.now) }
 {
     let mut entries = Vec::with_capacity(alloc, records.len())?;
     for record in records {
-        entries.push(place(Some(record.rect), record.number, record))?;
+        let number = entries.len();
+        entries.push(place(Some(record.rect), record.number, number))?;
     }
     Ok(entries)
 }
 
-// A leaf of each group.
-fn leaves_of_groups(alloc: Global, groups: &[Vec<&Record>]) -> Result<Vec<Node>, AllocError>
-    ensures { IfOk result (λ v. map (λ (n : node). n.tree) v.items
-        ≡ map (λ (g : list (Bor types.Record)). variants.Leaf
-        (map (λ (r : Bor types.Record). r.now) g.items)) groups.now) }
+// A leaf of each group. Its records are taken out of the list, which gives back its memory
+// meanwhile.
+fn leaves_of_groups(
+    alloc: Global,
+    records: Vec<Record>,
+    groups: &[Vec<usize>],
+) -> Result<Vec<Node>, AllocError>
+    requires { IsPermutation (range_with_len 0 (length records.items))
+        (flat_map (λ (g : list ℕ). g.items) groups.now) }
+    ensures len { IfOk result (λ v. length v.items ≡ length groups.now) }
+    ensures leaves { IfOk result (λ v. (d : types.Record) → map (λ (n : node). n.tree) v.items
+        ≡ map (λ (g : list ℕ). variants.Leaf (picked records.items d g.items)) groups.now) }
 {
     let mut leaves = Vec::with_capacity(alloc, groups.len())?;
+    let mut remains = whole(alloc, records)?;
     for group in groups {
-        leaves.push(leaf(alloc, group)?)?;
+        let taken = take(alloc, &mut remains, group)?;
+        leaves.push(leaf(taken))?;
     }
     Ok(leaves)
 }
 
 // The leaves over some records.
-pub(crate) fn leaves(alloc: Global, records: &[Record]) -> Result<Vec<Node>, AllocError>
-    requires { length records.now ≤ 2 ^ 20 }
-    ensures { IfOk result (λ v. map (λ (n : node). n.tree) v.items ≡ leaves_of records.now) }
+pub(crate) fn leaves(alloc: Global, records: Vec<Record>) -> Result<Vec<Node>, AllocError>
+    requires { length records.items ≤ 2 ^ 20 }
+    ensures { IfOk result (λ v. map (λ (n : node). n.tree) v.items ≡ leaves_of records.items) }
 {
-    let entries = record_entries(alloc, records)?;
+    let entries = record_entries(alloc, &records)?;
     let groups = group(alloc, entries, LEAF_LIMIT as usize)?;
-    leaves_of_groups(alloc, &groups)
+    leaves_of_groups(alloc, records, &groups)
 }
 
 // The entries of some nodes.

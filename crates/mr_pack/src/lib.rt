@@ -2,6 +2,7 @@
 //! of sort-tile-recursive packing, Leutenegger, Lopez and Edgington 1997).
 #![tactic(auto)]
 
+mod gathering;
 mod grouping;
 mod joined;
 mod level;

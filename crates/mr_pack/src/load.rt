@@ -67,9 +67,9 @@ fn root(alloc: Global, mut level: Vec<Node>) -> Result<Tree, AllocError>
 }
 
 // The tree of some records.
-fn packed(alloc: Global, list: &[Record]) -> Result<Tree, AllocError>
-    requires { length list.now ≤ 2 ^ 20 }
-    ensures { IfOk result (λ t. t ≡ pack list.now) }
+fn packed(alloc: Global, list: Vec<Record>) -> Result<Tree, AllocError>
+    requires { length list.items ≤ 2 ^ 20 }
+    ensures { IfOk result (λ t. t ≡ pack list.items) }
 {
     let level = leaves(alloc, list)?;
     root(alloc, level)
@@ -100,7 +100,7 @@ pub fn pack_distinct(alloc: Global, list: Vec<Record>) -> Result<Tree, AllocErro
     ensures same_records { IfOk result (λ t. IsPermutation list.items (records t)) }
 {
     are_records(&list);
-    packed(alloc, &list)
+    packed(alloc, list)
 }
 
 /// As `pack_distinct`, and gives what is said of the tree's leaves in version 1, left to right.

@@ -12,7 +12,7 @@ root-requires c =
       arith,
       length-map c.in_ok-level.level.items (λ (n : Node). n.tree),
       ap length c.in_ok-level.ensures,
-      length_of_leaves c.args.list.now,
+      length_of_leaves c.args.list.items,
       c.requires,
     )
 
