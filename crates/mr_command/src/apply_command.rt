@@ -182,9 +182,9 @@ fn apply_file<H: Hash32, S: Shelf>(
 }
 
 /// The map in a file after the batch in another one, written to a third one in its version. The
-/// pages of the map are read once, with which the directory of its records is made, and the batch
-/// behind them, whose lines are of the map's version; the changes are made on a copy of its file.
-/// The new file has another name than the old one. The shelf is handed back.
+/// pages of the map are read once, and the directory of its records is made of them. The batch is
+/// read behind them, whose lines are of the map's version. The changes are made on a copy of its
+/// file. The new file has another name than the old one. The shelf is handed back.
 pub fn apply<H: Hash32, S: Shelf>(
     alloc: Global,
     old: &str,

@@ -63,9 +63,9 @@ fn count_proof<N: Nodes>(alloc: Global, nodes: &mut N, inside: &Inside) -> Resul
     }
 }
 
-/// The proof of how many records of the map in a file lie inside the window of a query and are on
-/// one of the layers that it asks for, written to another file, where the map is of version 2. The
-/// shelf is handed back.
+/// Writes a proof of how many records of the map in a file lie inside the window of a query and are
+/// on one of the layers that it asks for. It goes to another file, where the map is of version 2.
+/// The shelf is handed back.
 pub fn count<H: Hash32, S: Shelf>(
     alloc: Global,
     map: &str,

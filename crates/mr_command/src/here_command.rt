@@ -113,9 +113,8 @@ fn apply_there<H: Hash32, S: Shelf>(
 }
 
 /// Applies the batch in a file to the map in another one, in its own file, by the journal beside
-/// it, so that a crash at any moment leaves the map as it was or after the batch. The lines of the
-/// batch are of the map's version, and it is read before anything is written. The shelf is handed
-/// back.
+/// it. So a crash at any moment leaves the map as it was or after the batch. The lines of the batch
+/// are of the map's version, and it is read before anything is written. The shelf is handed back.
 pub fn apply_in_place<H: Hash32, S: Shelf>(
     alloc: Global,
     map: &str,

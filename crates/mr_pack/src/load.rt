@@ -148,10 +148,10 @@ pub fn pack_joined_distinct<H: Hash32, G: Gate, R: Threads + Sync>(
 
 /// Packs at most 2^20 records into a tree with as few nodes on each level as there can be, where a
 /// leaf holds up to 16 records and an inner node up to 64 nodes. The entries of a level are put
-/// into vertical slices by the middles of their rectangles, each slice is sorted from below to
-/// above, and the whole is cut into even groups (sort-tile-recursive packing, Leutenegger, Lopez
-/// and Edgington 1997). Equal middles are decided by the number of a record, and among nodes by
-/// their position.
+/// into vertical slices by the middles of their rectangles, and each slice is sorted from below to
+/// above. The whole is cut into even groups (sort-tile-recursive packing, Leutenegger, Lopez and
+/// Edgington 1997). Equal middles are decided by the number of a record, and among nodes by their
+/// position.
 pub fn pack(alloc: Global, list: Vec<Record>) -> Result<Tree, PackErr>
     requires few { length list.items ≤ 2 ^ 20 }
     requires layers { All (HasLayer Two) list.items }
@@ -170,10 +170,9 @@ pub fn pack(alloc: Global, list: Vec<Record>) -> Result<Tree, PackErr>
 }
 
 /// Packs at most 2^20 records as `pack` does, and gives the root digest of the map beside the tree,
-/// at batch 0. The leaves are hashed in joined halves (`mr_fork_join`): piece `i` is the leaf at
-/// place
-/// `i` from the left, counted from 0, and the gate is told the last 8 bytes of its digest as a
-/// big-endian number. No answer depends on the gate.
+/// at batch 0. The leaves are hashed in joined halves (`mr_fork_join`). Piece `i` is the leaf at
+/// place `i` from the left, counted from 0, and the gate is told the last 8 bytes of its digest as
+/// a big-endian number. No answer depends on the gate.
 pub fn pack_joined<H: Hash32, G: Gate, R: Threads + Sync>(
     rt: &R,
     alloc: Global,

@@ -221,7 +221,7 @@ fn answered<H: Hash32, S: Shelf, W: Sink, G: Gate, R: Threads + Sync>(
 ///
 /// Inputs are read from the shelf by name, and all that is printed goes to the sink. Where a map of
 /// version 1 is made of records, the digests of its leaves are computed in joined halves, and the
-/// gate is passed before and after each leaf; so are the queries of a script proved and the parts
+/// gate is passed before and after each leaf. So are the queries of a script proved and the parts
 /// of a bundle checked, each a piece.
 pub fn run<H: Hash32, S: Shelf, W: Sink, G: Gate, R: Threads + Sync>(
     rt: &R,
@@ -248,11 +248,11 @@ pub fn run<H: Hash32, S: Shelf, W: Sink, G: Gate, R: Threads + Sync>(
     ensures quiet { let before = world (S.state shelf) (W.state out.old) in
         let after = world (S.state result.1) (W.state out.new) in
         StaysQuiet (map string_bytes words.now) before after result.0 }
-    // Where the files are told, no input that is read whole is read twice; a map that is read page
-    // by page takes its pages once, and a large one besides the nodes that the proof opens, or each
-    // node once for the directory of `apply`; `apply`, where the batch may be applied, takes the
-    // pages once more for the copy, and what the changes read of the new file; and of a proof that
-    // `check` judges no piece is read behind the one that fixes a fault.
+    // Where the files are told, no input that is read whole is read twice. A map that is read page
+    // by page takes its pages once, and a large one besides the nodes that the proof opens.
+    // `apply`, where the batch may be applied, takes the pages once more for the copy, and what the
+    // changes read of the new file. Of a proof that `check` judges no piece is read behind the one
+    // that fixes a fault.
     ensures reads { let before = world (S.state shelf) (W.state out.old) in
         let after = world (S.state result.1) (W.state out.new) in
         ReadsFewWords H.of (map string_bytes words.now) before after }
