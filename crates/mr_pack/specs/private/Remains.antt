@@ -6,7 +6,8 @@ use Rattle.std.specs.Prelude.{ℕ, ◌≡◌, ◌<◌, List, length, slice_index
 pub record IsIndexed (count : ℕ) (numbers places : List ℕ) : Type 0 where
   pub as_many : length numbers ≡ count
   pub inside : (k : ℕ) → k < length numbers → slice_index_or numbers k 0 < length places
-  pub found : (k : ℕ) → k < length numbers → slice_index_or places (slice_index_or numbers k 0) 0 ≡ k
+  pub found : (k : ℕ) → k < length numbers →
+      slice_index_or places (slice_index_or numbers k 0) 0 ≡ k
 
 -- the item at each place is the one of the whole list that has its number
 abbrev pub AreNumbered : {T : Type 0} → (whole items : List T) → (numbers : List ℕ) → Type 0
