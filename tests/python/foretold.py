@@ -508,9 +508,9 @@ def reads_of(words: List[str], files: said.Files, meant: said.Meant) -> Tuple[in
     place = re.match(rb"refused [A-Za-z]+ at ([0-9]+)", meant.ended[1])
     if words[0] == "check" and place:
         return (int(place[1]) // PIECE + 1,) * 2
-    is_kept = words[0] in ("prove", "apply", "count") and meant.ended[0] != 10
-    map_ = files.get(words[1], b"") if is_kept else b""
-    pages = len(map_) // page_size(map_)
+    is_kept = words[0] in ("prove", "count") and meant.ended[0] != 10
+    map_ = files.get(words[1], b"") if is_kept or words[0] == "apply" else b""
+    pages = len(map_) // page_size(map_) if is_kept else 0
     again = pages - 1 if pages > KEPT + 1 else 0
     most = count + again
     if words[0] == "apply" and meant.made is not None:

@@ -1,6 +1,6 @@
 //! Maps whose file has other bytes when its pages are read again, or is gone then: what `apply`
-//! says of it, while it lists the records of a large map, and while it changes the copy of a small
-//! one. Under the exclusive or of all bytes, so that nodes differ that have one digest.
+//! says of it, while it changes the copy of a map. Under the exclusive or of all bytes, so that nodes
+//! differ that have one digest.
 
 ghost use Rattle.std.specs.Prelude.{◌≡◌, OnOk, OnErr};
 ghost use Rattle.mr_outside.specs.Faults.{next_count};
@@ -222,7 +222,7 @@ const LARGE: Scene<'static> = Scene {
 // Record 15 at (15,0), as it stands in a leaf.
 const FIFTEEN: &[u8] = b"\0\0\0\0\0\0\0\x0f\0\0\0\x0f\0\0\0\0\0\0\0\x0f\0\0\0\0\0";
 
-const LISTED: &[Case<'static>] = &[
+const LARGE_COPIED: &[Case<'static>] = &[
     Case {
         name: "another digest",
         edits: &[(12_297, b"\x02")],
@@ -238,13 +238,6 @@ const LISTED: &[Case<'static>] = &[
         says: "bad map page 3 Page\n",
     },
     Case {
-        name: "another rectangle where nothing changes",
-        edits: &[(16_397, b"\x0f"), (16_405, b"\x0f")],
-        gone: "none",
-        status: BadMap,
-        says: "bad map page 4 Page\n",
-    },
-    Case {
         name: "five records of fifteen",
         edits: &[
             (12_289, b"\x05\x01"),
@@ -255,25 +248,11 @@ const LISTED: &[Case<'static>] = &[
         status: BadMap,
         says: "bad map page 3 Page\n",
     },
-    Case {
-        name: "a number that was met before",
-        edits: &[(12_422, b"\x01"), (12_440, b"\x07")],
-        gone: "none",
-        status: BadMap,
-        says: "bad map page 3 Page\n",
-    },
-    Case {
-        name: "a record less",
-        edits: &[(12_289, b"\x0e\x0f"), (12_615, FIFTEEN), (12_640, &[0; 25])],
-        gone: "none",
-        status: BadMap,
-        says: "bad map page 1 Page\n",
-    },
 ];
 
 #[test]
-fn a_large_map_that_turns_is_not_listed(rt: HostRuntime) {
-    all_hold(&rt, first_unsaid(&rt, rt.alloc(), &LARGE, LISTED));
+fn a_large_map_that_turns_while_it_is_copied(rt: HostRuntime) {
+    all_hold(&rt, first_unsaid(&rt, rt.alloc(), &LARGE, LARGE_COPIED));
 }
 
 // The same map in version 2, each record on layer 0: page 2 is an inner node, whose first entries
@@ -286,7 +265,7 @@ const LARGE2: Scene<'static> = Scene {
     after: 321,
 };
 
-const LISTED2: &[Case<'static>] = &[
+const LARGE_COPIED2: &[Case<'static>] = &[
     Case {
         name: "an entry with another mask",
         edits: &[(16_414, b"\x03")],
@@ -332,8 +311,8 @@ const LISTED2: &[Case<'static>] = &[
 ];
 
 #[test]
-fn a_large_map_of_version_2_that_turns_is_not_listed(rt: HostRuntime) {
-    all_hold(&rt, first_unsaid(&rt, rt.alloc(), &LARGE2, LISTED2));
+fn a_large_map_of_version_2_that_turns_while_it_is_copied(rt: HostRuntime) {
+    all_hold(&rt, first_unsaid(&rt, rt.alloc(), &LARGE2, LARGE_COPIED2));
 }
 
 // A leaf of 16 records was split: page 1 has the records 1 to 11, page 2 the others, page 3 is the
