@@ -1,6 +1,6 @@
 //! Maps whose file has other bytes when its pages are read again, or is gone then: what `apply`
-//! says of it, while it changes the copy of a map. Under the exclusive or of all bytes, so that nodes
-//! differ that have one digest.
+//! says of it, while it changes the copy of a map. Under the exclusive or of all bytes, so that
+//! nodes differ that have one digest.
 
 ghost use Rattle.std.specs.Prelude.{◌≡◌, OnOk, OnErr};
 ghost use Rattle.mr_outside.specs.Faults.{next_count};
