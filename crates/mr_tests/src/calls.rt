@@ -215,7 +215,7 @@ const LARGE_CALLS: &[Made<'static>] = &[
     },
     Made {
         words: "apply m b n",
-        calls: "size m\nread_at m\nsize b\nread_at b\nread_at m\ncreate n\nappend n\nread_at m\n\
+        calls: "size m\nread_at m\nsize b\nread_at b\ncreate n\nappend n\nread_at m\n\
             append n\nread_at m\nappend n\nread_at m\nappend n\nread_at m\nappend n\n\
             read_at m\nappend n\nread_at m\nappend n\nread_at m\nappend n\nread_at m\n\
             append n\nread_at m\nappend n\nread_at m\nappend n\nread_at m\nappend n\n\
