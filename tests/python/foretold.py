@@ -3,8 +3,8 @@
 What comes of a command is that of said.py, by docs/FORMATS.md, under the hash function of the table. Calls that fail
 are foretold from the course of a command's calls, as the rows name them. A text or a proof is asked for its size and
 read by pieces, a map page by page; what a command makes is then made, written and synced, a map's page 0 last. A map
-of version 1 goes to its file at once. One of version 2 goes there child by child of the root, behind zeros for page 0
-and the root, and the root's page before page 0. Of what is written in a call that fails half is there. Of `apply` the
+goes to its file child by child of the root, behind zeros for page 0 and the root, and the root's page before page 0.
+One without an inner node goes there at once. Of what is written in a call that fails half is there. Of `apply` the
 calls between the copy of OLD and the first sync are not foretold one by one. Whichever they are, a file that they
 leave is Unsealed, or is of a bad Size just where a page was being added. That comes about as often as the file has
 pages more than OLD. Half a page of version 2 is a whole one of version 1, in which a file without page 0 is read: so
@@ -149,9 +149,9 @@ def made_of(words: List[str]) -> str:
 
 def saves(made: bytes) -> List[Call]:
     """The calls by which the file of a map is made, behind the one that `makes` it."""
-    version, page, (tree, _) = said.version_of(made), page_size(made), said.read_map(made)
+    page, (tree, _) = page_size(made), said.read_map(made)
     calls, end = [], len(made)
-    if version == 1 or tree is None or tree.is_leaf:
+    if tree is None or tree.is_leaf:
         calls.append(Call("adds", bytes(page) + made[page:]))
     else:
         begins = [child.page * page for child in tree.entries]

@@ -119,11 +119,11 @@ BOUNDS = (
     # the tree of 65,536 records, and copies of half of them
     Bound("list m", 5000, 26 * 10**6),
     Bound("list k", 5000, 26 * 10**6),
-    # the records, and their tree; of version 1 `build` holds all pages, of version 2 those below one child of the root
+    # the records, and their tree; then the tree, and the pages below one child of the root
     Bound("root w", 9100, 34 * 10**6),
     Bound("root2 t", 9000, 335 * 10**5),
     Bound("demo 20000 1", 5500, 11 * 10**6),
-    Bound("build e w", 9500, 53 * 10**6),
+    Bound("build e w", 9500, 21 * 10**6),
     Bound("build2 e t", 9500, 335 * 10**5),
     # the tree, and the pages below one child of the root
     Bound("upgrade m n", 5300, 175 * 10**5),

@@ -78,8 +78,8 @@ fn check_all(dir: &Directory, count: usize, held: u64, batch: &Batch) -> Result<
 }
 
 /// Whether the batch may be applied to a map with the directory's records at the held batch, and
-/// else the first cause why not: its number is not one more than the held one, or the first of its
-/// changes that may not be made in its turn. Takes no memory.
+/// else the first cause why not. The first is that its number is not one more than the held one,
+/// and each later one a change that may not be made in its turn. Takes no memory.
 pub fn admit(dir: &Directory, held: u64, batch: &Batch) -> Result<(), BatchFault>
     ensures exact { (rs : List types.Record) → HaveNumbers dir.now rs
         → MatchResult result (λ _. batch_fault rs held batch.now ≡ None)

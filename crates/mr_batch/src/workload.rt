@@ -104,7 +104,7 @@ fn record_of(number: u64, word: u64) -> Record
     }
 }
 
-/// `n` records, numbered from 1, each of one word of SplitMix64 whose state begins as `start`: the
+/// `n` records, numbered from 1, each of one word of SplitMix64 whose state begins as `start`. The
 /// upper half of the word gives the sides from left to right, the lower half those from low to
 /// high. Lower corners lie within 1,000,000 map units of 0, and no rectangle is wider or higher
 /// than 63. The payload is the 8 bytes of the word, the highest first. The only error is want of
@@ -142,10 +142,10 @@ fn shape_of(place: u32, word: u64) -> Shape
     }
 }
 
-/// `n` queries, each of one word of SplitMix64 whose state begins as `start`: the first, and each
-/// second one after it, is a square window of 20,000 map units a side, the others ask for the 10
-/// nearest records, and all of them are of all layers. The upper half of the word gives x, the
-/// lower half y, both within 1,000,000 map units of 0. The only error is want of memory.
+/// `n` queries, each of one word of SplitMix64 whose state begins as `start`. The first, and each
+/// second one after it, is a square window of 20,000 map units a side. The others ask for the 10
+/// nearest records. All of them are of all layers. The upper half of the word gives x, the lower
+/// half y, both within 1,000,000 map units of 0. The only error is want of memory.
 pub fn generate_queries(alloc: Global, n: u32, start: u64) -> Result<Vec<Query>, AllocError>
     requires { n ≤ 65536 }
     ensures exact { IfOk result (λ v. v.items ≡ generated_queries n start) }

@@ -98,8 +98,8 @@ fn pair<'a>(
 }
 
 /// The verdicts on the parts of a bundle, against a root digest: at place `i` that on part `i`
-/// against query `i`. The parts are checked in joined halves, as `in_halves` says; whoever checks
-/// part `i` passes `gate.enter(i)` before it, and `gate.leave(i, number)` behind it, with the
+/// against query `i`. The parts are checked in joined halves, as `in_halves` says. Whoever checks
+/// part `i` passes `gate.enter(i)` before it. Behind it comes `gate.leave(i, number)`, with the
 /// number of the records answered, or the place of the fault. It refuses for want of memory alone.
 pub fn check_all<H: Hash32, G: Gate, R: Threads + Sync>(
     rt: &R,

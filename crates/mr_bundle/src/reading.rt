@@ -74,7 +74,7 @@ fn cut_parts(alloc: Global, bytes: &[u8], queries: usize) -> Result<Parts, Alloc
 }
 
 /// The parts of a bundle for so many queries. Part `i` is whole where four bytes of length and as
-/// many bytes as they say are there; the first part that is not breaks the bundle, and that part
+/// many bytes as they say are there. The first part that is not breaks the bundle, and that part
 /// and all later ones are missing. Bytes that are left behind the last part break it too. So a
 /// bundle that is not broken is the one spelling of the proofs that its parts hold, and one that is
 /// begins with that of its whole parts, up to where it breaks. It refuses for want of memory alone.

@@ -39,7 +39,7 @@ fn answered_by<H: Hashes>(
 }
 
 /// The records that the proof proves to be the answer to the query on the map with this root
-/// digest: those of a window in rising number; or the nearest, by rising distance, and of one
+/// digest. Those of a window stand in rising number, the nearest by rising distance, and of one
 /// distance by rising number.
 ///
 /// A proof that proves nothing is refused with the first rule that it breaks. The proof is read

@@ -18,8 +18,9 @@ use mr_query::{Query, is_query};
 use mr_tree::Hashes;
 use std::alloc::{AllocError, Global};
 
-/// Judges a proof for one query against one root digest, as its bytes come in pieces of any size: a
-/// `Verifier` for the query's question, which says what is kept and how contracts speak of it.
+/// Judges a proof for one query against one root digest, as its bytes come in pieces of any size.
+/// It is a `Verifier` for the query's question, which says what is kept and how contracts speak of
+/// it.
 #[derive(Drop)]
 pub struct Judge<H: Hashes> {
     query: Query,
@@ -44,9 +45,9 @@ impl<H: Hashes> Judge<H> {
     }
 
     /// Takes the next piece of the proof, up to the first record in reach of the query that it
-    /// completes, or to the first fault that no further byte changes, which each later call answers
-    /// again. It takes no memory. The records that are found are proved to be nothing yet: what
-    /// they are worth is said by `end`.
+    /// completes, or to the first fault that no further byte changes. Each later call answers that
+    /// fault again. It takes no memory. The records that are found are proved to be nothing yet:
+    /// what they are worth is said by `end`.
     pub fn feed(&mut self, piece: &[u8]) -> Fed
         ensures taken { TakesFrom (length piece.now) result }
         ensures stands { (root : List ℕ) (q : queries.Query) (bytes : List ℕ)

@@ -28,8 +28,8 @@ use std::alloc::{AllocError, Global};
 /// Reads a proof against one root digest, as its bytes come in pieces of any size. What the proof
 /// has to show is given with each call, the same each time: of a call with another nothing is said.
 /// It keeps a hasher, a rectangle, a mask and a count for each open node, of which there are at
-/// most eight, four numbers that count what was read, the record that was read last, and at most
-/// the 200 bytes of the field that is under way.
+/// most eight. Besides it keeps four numbers that count what was read, the record that was read
+/// last, and at most the 200 bytes of the field that is under way.
 ///
 /// It does not keep the bytes. Contracts go by a relation: a verifier stands for the bytes that it
 /// was fed, and what they say of the bytes so far holds for each string that it stands for.
@@ -113,9 +113,9 @@ impl<H: Hashes> Verifier<H> {
     }
 
     /// Takes the next piece of the proof, up to the first record that is not left out and that it
-    /// completes, or to the first fault that no further byte changes, which each later call answers
-    /// again. It takes no memory. The records that are found are proved to be nothing yet: what
-    /// they are worth is said by `end`.
+    /// completes, or to the first fault that no further byte changes. Each later call answers that
+    /// fault again. It takes no memory. The records that are found are proved to be nothing yet:
+    /// what they are worth is said by `end`.
     pub fn feed<A: AsQuestion>(&mut self, q: &A, piece: &[u8]) -> Fed
         ensures taken { TakesFrom (length piece.now) result }
         ensures stands { (root : List ℕ) (bytes : List ℕ)

@@ -184,8 +184,8 @@ fn finding_of(question_finding: QuestionFinding, q: &Query) -> Result<Finding, A
 /// honest proof of the answer to the query, or show a collision.
 ///
 /// The proof is checked as a client checks it, against the root digest of the map. Bytes that are
-/// accepted are then compared with the map: of the strings that stand at one place and differ, a
-/// node's before its children's and children's from left to right, the first two have one hash.
+/// accepted are then compared with the map. Of the strings that stand at one place and differ the
+/// first two have one hash: a node's come before its children's, and children's from left to right.
 /// Those of the map are in its version and those of the proof in the proof's, so that a map and a
 /// proof of two versions differ at their roots.
 ///

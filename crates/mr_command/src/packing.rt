@@ -3,8 +3,9 @@
 ghost use Rattle.std.specs.Prelude.{◌≡◌, IfOk};
 ghost use Rattle.mr_record.specs.RecordText.{IsRecordList};
 ghost use Rattle.mr_tree.specs.Digest.{by, root as root_digest};
+ghost use Rattle.mr_tree.specs.Leaves.{leaf_entries};
 ghost use Rattle.mr_tree.specs.WellFormed.{WellFormed, HasLayers};
-ghost use Rattle.mr_pages.specs.Leaves.{leaf_entries, KnowsFirst};
+ghost use Rattle.mr_pages.specs.Leaves.{KnowsFirst};
 ghost use Rattle.mr_pack.specs.Pack.{pack as tree_of};
 
 use mr_outside::Gate;

@@ -3,8 +3,9 @@
 ghost use Rattle.std.specs.Prelude.{◌≡◌, length, IfOk};
 ghost use Rattle.std.specs.String.{string_bytes};
 ghost use Rattle.mr_tree.specs.Digest.{by, root as root_digest};
+ghost use Rattle.mr_tree.specs.Leaves.{leaf_entries};
 ghost use Rattle.mr_tree.specs.WellFormed.{WellFormed, HasLayers};
-ghost use Rattle.mr_pages.specs.Leaves.{leaf_entries, KnowsFirst};
+ghost use Rattle.mr_pages.specs.Leaves.{KnowsFirst};
 ghost use Rattle.mr_command.specs.Ending.{IsEndingOrHalt, RunsPlan};
 ghost use Rattle.mr_command.specs.private.Steps.{SavesFile, done_of};
 ghost use Rattle.mr_plan.specs.Lines.{digest_line as line_on};

@@ -13,9 +13,9 @@ use std::alloc::AllocError;
 #[derive(Clone, Copy)]
 pub enum EditErr {
     /// A page that was read is not what its parent says, or a page that is written or freed lies
-    /// outside the file. Or the file would grow past its last page, the root would rise too high,
-    /// an entry would count more records than a map has, or the root is one that no map of so many
-    /// records has. Or a record that is to go out is not there.
+    /// outside the file. Or the file would grow past its last page, or the root would rise too
+    /// high. Or an entry would count more records than a map has, or the root is one that no map of
+    /// so many records has. Or a record that is to go out is not there.
     Map(MapFault),
     Missing,
     Fault,

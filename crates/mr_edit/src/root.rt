@@ -123,9 +123,9 @@ fn put_below<F: PageFile>(
 /// Puts a record into a map with this root, and answers its root then.
 ///
 /// Where the pages are not told, `Page` blames besides a node whose rectangle, mask or count is not
-/// the one that its entry tells of, or one with too few entries; and the root, or page 0 where
-/// there is none, where it would rise too high, an entry would count more records than a map has,
-/// or the file would grow past its last page.
+/// the one that its entry tells of, or one with too few entries. It blames the root, or page 0
+/// where there is none, where it would rise too high, an entry would count more records than a map
+/// has, or the file would grow past its last page.
 pub fn insert<F: PageFile>(
     alloc: Global,
     pager: &mut Pager<F>,

@@ -3,25 +3,25 @@
 //! of the program's writers.
 //!
 //! - `| TEXT` is a line of a text with its line feed, `text TEXT` the same without one, and in both
-//!   `..` stands for 62 zeros; `hex DIGITS` are bytes, `zeros N` so many zeros.
-//! - `points N` are the lines of the records I at (I,0) for I from 1 to N, `places FIRST N` those
-//!   of N records from this number on, scattered over the plane, with a byte of payload each, and
-//!   `overlapping FIRST N` those of as many, the odd ones all at (10000,10000), and the even ones
-//!   scattered, 15,000 wide and high. `places2` are the lines of version 2 of `places`, each on a
-//!   layer by its column. `times N TEXT` is N times the line `| TEXT`.
-//! - `added FIRST N` are changes of a batch that add those; `removed FIRST N STEP OF` remove N
-//!   records: of the numbers from 1 to OF in steps, those from the place FIRST on; by `renewed I N`
-//!   record I goes and comes N times; by `mixed FIRST` 250 times a record of 3,000 goes and another
+//!   `..` stands for 62 zeros. `hex DIGITS` are bytes, `zeros N` so many zeros.
+//! - `points N` are the lines of the records I at (I,0) for I from 1 to N. `places FIRST N` are
+//!   those of N records from this number on, scattered over the plane, with a byte of payload each.
+//!   `overlapping FIRST N` are those of as many, the odd ones all at (10000,10000), and the even
+//!   ones scattered, 15,000 wide and high. `places2` are the lines of version 2 of `places`, each
+//!   on a layer by its column. `times N TEXT` is N times the line `| TEXT`.
+//! - `added FIRST N` are changes of a batch that add those. `removed FIRST N STEP OF` remove N
+//!   records: of the numbers from 1 to OF in steps, those from the place FIRST on. By `renewed I N`
+//!   record I goes and comes N times. By `mixed FIRST` 250 times a record of 3,000 goes and another
 //!   comes.
 //! - `window` and `nearest` are the head of a proof (batch, count; a flag and the radius that
-//!   follows a flag of 1; level), `leaf` begins an opened leaf or the page of one (count), and each
-//!   `record LINE` is one in it; `node` begins an opened inner node (count), `pruned` is a pruned
+//!   follows a flag of 1; level). `leaf` begins an opened leaf or the page of one (count), and each
+//!   `record LINE` is one in it. `node` begins an opened inner node (count), `pruned` is a pruned
 //!   one (rectangle, digest).
-//! - `map` is the head of a map file (level, batch, count, pages, root page, rectangle, digest),
+//! - `map` is the head of a map file (level, batch, count, pages, root page, rectangle, digest).
 //!   `inner` begins an inner node's page (level, count), `child` is a child on it (page, rectangle,
-//!   digest); `seal` fills the first page with zeros up to its seal, `fill` any page to its end.
+//!   digest). `seal` fills the first page with zeros up to its seal, `fill` any page to its end.
 //! - `map2` is that head in version 2 (with a mask in front of the digest), `child2` such a child
-//!   (with a mask and a count there), `pruned2` such a pruned node (with both there too), and
+//!   (with a mask and a count there), `pruned2` such a pruned node (with both there too).
 //!   `window2`, `nearest2`, `record2`, `seal2` and `fill2` are those of version 2. `count2` is the
 //!   head of a count proof, which there is in version 2 alone, and `join2` that of one of the two
 //!   proofs in a join's proof. `joined` begins that, where it has a rectangle (rectangle, length of

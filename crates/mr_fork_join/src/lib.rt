@@ -1,5 +1,5 @@
 //! Work on the pieces of a list, in halves that threads may do at once. This is the only crate of
-//! the program that starts threads, and it does so by `join` alone: there is no lock, no channel
+//! the program that starts threads, and it does so by `join` alone. There is no lock, no channel
 //! and no atomic, so no half can see a step of the other.
 //!
 //! What is promised: the answer is that of one thread, piece by piece, in the order of the pieces,

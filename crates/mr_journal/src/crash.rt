@@ -60,8 +60,8 @@ fn garbled(alloc: Global, trace: &Trace) -> Result<Vec<u8>, AllocError>
     Ok(all)
 }
 
-/// One of the things that a crash may have left of an area: with 0 what was synced, with 2 what was
-/// written with 4f at every place that is not synced, and else what was written.
+/// One of the things that a crash may have left of an area. With 0 that is what was synced, with 2
+/// what was written with 4f at every place that is not synced, and else what was written.
 pub(crate) fn pick_of(alloc: Global, trace: Trace, pick: u64) -> Result<Vec<u8>, AllocError>
     ensures { IfOk result (λ v. IsPicked pick (trace_of trace) v.items) }
 {

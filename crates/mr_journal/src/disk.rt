@@ -48,9 +48,9 @@ impl<T: Drop> From<AllocFailed<T>> for DiskErr {
 
 /// A map and its journal on a disk that may crash at any moment.
 ///
-/// What a disk has not synced may be lost or torn: since an area's last sync that answered Ok each
-/// range that a write touched and the part past the old end may hold any bytes, and the length is
-/// any from the old to the greatest since.
+/// What a disk has not synced may be lost or torn. Since an area's last sync that answered Ok each
+/// range that a write touched, and the part past the old end, may hold any bytes. The length is any
+/// from the old to the greatest since.
 pub trait Disk {
     /// The contents where they are told, whether it is told what a crash may leave, and the counts.
     ghost state: { Self → DiskState };

@@ -55,7 +55,8 @@ pub trait Shelf {
         ensures reads { (state self.new).reads ≡ (state self.old).reads };
 
     /// Copies bytes of the file, from the place `at` on, to the front of `into`, and answers how
-    /// many: as many as there are and as `into` has room for, so none at or past the file's end.
+    /// many. These are as many as there are and as `into` has room for, so none at or past the
+    /// file's end.
     fn read_at(&mut self, name: &str, at: u64, into: &mut [u8]) -> Result<usize, ShelfErr>
         ensures fills { IfOk result (λ n. FillsFront into.old into.new n) }
         ensures gives { IfOk result (λ n. OfFile (state self.old).files name.now ⊥

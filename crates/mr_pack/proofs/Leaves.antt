@@ -1,7 +1,7 @@
--- The leaves of a tree and their entries at each kind of node.
-use Rattle.std.proofs.Common.{arith, ◌≡◌, ◌≤◌, ◌<◌, ℕ, ◌+◌, ◌++◌, List, [], ◌∷◌, map, take, drop, length, get_or, refl, sym, ap, subst, ◌∙◌}
+-- The leaves of the first children of a node and their entries, and what they hold.
+use Rattle.std.proofs.Common.{arith, ◌≡◌, ◌≤◌, ◌<◌, ℕ, ◌+◌, ◌++◌, List, [], ◌∷◌, map, take, drop, length, get_or, sym, ap, subst, ◌∙◌}
 use Rattle.std.specs.List.{flat_map, AllByRecursion}
-use Rattle.std.proofs.lemmas.List.{map-append, length-map, length-append, drop_more, flat_map_more, take_more, take_all}
+use Rattle.std.proofs.lemmas.List.{length-map, length-append, drop_more, flat_map_more, take_more, take_all}
 use Rattle.std.proofs.Math.Seq.{take-append_seam, drop-append_seam}
 use Rattle.std.proofs.lemmas.List.Folds.{flat_map-map}
 use Rattle.mr_record.specs.declared.record.Record.{Record}
@@ -10,34 +10,13 @@ use Rattle.std.proofs.lemmas.List.Elements.{All-from_recursion}
 use Rattle.mr_tree.specs.Tree.{records}
 use Rattle.mr_tree.proofs.Equations.{records-Leaf, records-Inner}
 use Rattle.mr_tree.specs.Digest.{Scheme}
+use Rattle.mr_tree.specs.Leaves.{leaves, leaf_entry, leaf_entries}
 use Rattle.mr_tree.specs.declared.entry.Entry.{Entry}
 use Rattle.mr_tree.specs.private.Slim.{IsSlim, IsSlimNode}
 use Rattle.mr_tree.specs.declared.tree.Tree.{Tree}
 use Rattle.mr_tree.specs.declared.tree.Tree.TheVariants as tree
-use Rattle.mr_tree.proofs.Folds.{fold-Empty, fold-Leaf, fold-Inner}
+use Rattle.mr_tree.proofs.Leaves.{leaves-Empty, leaves-Leaf, leaves-Inner}
 use Rattle.mr_tree.proofs.Induction.{tree_induction, here-Leaf, every_child}
-use Rattle.mr_pack.specs.Leaves.{leaves_step, leaves, leaf_entry, leaf_entries}
-
-pub leaves-Empty : leaves tree.Empty ≡ []
-leaves-Empty = fold-Empty (List (List Record)) leaves_step
-
-pub leaves-Leaf : (rs : List Record) → leaves (tree.Leaf rs) ≡ rs ∷ []
-leaves-Leaf = fold-Leaf (List (List Record)) leaves_step
-
-pub leaves-Inner : (ts : List Tree) → leaves (tree.Inner ts) ≡ flat_map (λ list. list) (map leaves ts)
-leaves-Inner = fold-Inner (List (List Record)) leaves_step
-
-pub leaves_below : (ts : List Tree) → leaves (tree.Inner ts) ≡ flat_map leaves ts
-leaves_below ts = leaves-Inner ts ∙ flat_map-map (λ list. list) leaves ts
-
-each_of : (s : Scheme) (ts : List Tree) → map (leaf_entry s) (flat_map leaves ts) ≡ flat_map (leaf_entries s) ts
-each_of s [] = refl
-each_of s (t ∷ ts) =
-    map-append (leaf_entry s) (leaves t) (flat_map leaves ts) ∙ ap (λ xs. leaf_entries s t ++ xs) (each_of s ts)
-
-pub leaf_entries-Inner : (s : Scheme) (ts : List Tree) →
-    leaf_entries s (tree.Inner ts) ≡ flat_map (leaf_entries s) ts
-leaf_entries-Inner s ts = ap (map (leaf_entry s)) (leaves_below ts) ∙ each_of s ts
 
 -- The leaves of the children so far, and those of one more.
 
@@ -53,13 +32,13 @@ pub gathered_all : (before all : List (List Record)) (t : Tree) (ts items : List
     all ≡ before ++ leaves t
 gathered_all before all t ts items n so_far end same is =
     so_far ∙ (λ j. before ++ flat_map leaves ((take_all n items end ∙ same) j))
-    ∙ ap (λ xs. before ++ xs) (sym (leaves_below ts) ∙ ap leaves (sym is))
+    ∙ ap (λ xs. before ++ xs) (sym (leaves-Inner ts) ∙ ap leaves (sym is))
 
 pub counted_none : (t : Tree) (ts items : List Tree) → items ≡ ts → t ≡ tree.Inner ts →
     0 + length (flat_map leaves (drop 0 items)) ≡ length (leaves t)
 counted_none t ts items same is =
     let none : 0 + length (flat_map leaves (drop 0 items)) ≡ length (flat_map leaves (drop 0 items)) = omega arith in
-    none ∙ ap (λ xs. length (flat_map leaves xs)) same ∙ ap length (sym (leaves_below ts) ∙ ap leaves (sym is))
+    none ∙ ap (λ xs. length (flat_map leaves xs)) same ∙ ap length (sym (leaves-Inner ts) ∙ ap leaves (sym is))
 
 pub counted_more : (sum n all : ℕ) (ts : List Tree) (i : ℕ) (one : Tree) →
     sum + length (flat_map leaves (drop i ts)) ≡ all → n ≡ length (leaves one) → one ≡ get_or ts i one →
@@ -136,7 +115,7 @@ pub leaves_small : (t : Tree) → IsSlim t → AllByRecursion IsSmall (leaves t)
 leaves_small = tree_induction HasSmallLeaves
     (λ slim. subst (AllByRecursion IsSmall) (sym leaves-Empty) tt)
     (λ rs slim. subst (AllByRecursion IsSmall) (sym (leaves-Leaf rs)) (here-Leaf IsSlimNode rs slim, tt))
-    (λ ts below slim. subst (AllByRecursion IsSmall) (sym (leaves_below ts))
+    (λ ts below slim. subst (AllByRecursion IsSmall) (sym (leaves-Inner ts))
     (all_small ts below (every_child IsSlimNode ts slim)))
 
 -- What holds of each record holds in each leaf.
@@ -168,7 +147,7 @@ leaves_have P = tree_induction (HoldsInLeaves P)
     (λ all. subst (AllByRecursion (λ (rs : List Record). All P rs)) (sym leaves-Empty) tt)
     (λ rs all. subst (AllByRecursion (λ (us : List Record). All P us)) (sym (leaves-Leaf rs))
     (All-from_recursion P rs (subst (AllByRecursion P) (records-Leaf rs) all), tt))
-    (λ ts below all. subst (AllByRecursion (λ (rs : List Record). All P rs)) (sym (leaves_below ts))
+    (λ ts below all. subst (AllByRecursion (λ (rs : List Record). All P rs)) (sym (leaves-Inner ts))
     (all_have P ts below (subst (AllByRecursion P) (records-Inner ts ∙ flat_map-map (λ list. list) records ts) all)))
 
 pub both_of : {X : Type 0} (P Q : X → Type 0) (xs : List X) → AllByRecursion P xs → AllByRecursion Q xs →

@@ -1,7 +1,6 @@
 pub mod Cuts
 pub mod Entries
 pub mod HalfFull
-pub mod Leaves
 pub mod Least
 pub mod Pack
 pub mod Repeats

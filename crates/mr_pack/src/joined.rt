@@ -12,7 +12,7 @@ ghost use Rattle.mr_tree.specs.Digest.{by, entry, root};
 ghost use Rattle.mr_tree.specs.private.Slim.{IsSlim};
 ghost use Rattle.mr_tree.specs.WellFormed.{WellFormed, HasOneLevel};
 ghost use Rattle.mr_tree.specs.declared.tree.Tree.TheFolds.{every-Tree};
-ghost use Rattle.mr_pack.specs.Leaves.{leaves as leaves_in, leaf_entry as entry_of_leaf, leaf_entries};
+ghost use Rattle.mr_tree.specs.Leaves.{leaves as leaves_in, leaf_entry as entry_of_leaf, leaf_entries};
 
 use mr_fork_join::{Work, in_halves};
 use mr_outside::Gate;

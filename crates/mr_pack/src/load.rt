@@ -9,7 +9,7 @@ ghost use Rattle.mr_tree.specs.Digest.{by, root as root_in};
 ghost use Rattle.mr_tree.specs.Tree.{records};
 ghost use Rattle.mr_tree.specs.WellFormed.{WellFormed};
 ghost use Rattle.mr_pack.specs.HalfFull.{IsHalfFullBelow};
-ghost use Rattle.mr_pack.specs.Leaves.{leaf_entries};
+ghost use Rattle.mr_tree.specs.Leaves.{leaf_entries};
 ghost use Rattle.mr_pack.specs.Pack.{root_above, pack};
 ghost use Rattle.mr_pack.specs.Twice.{IsPackCause};
 ghost use Rattle.mr_pack.specs.declared.load.PackErr.TheVariants as errors;

@@ -1,30 +1,18 @@
--- The entries of a tree's leaves at each kind of node, and those that are left behind some children.
-use Rattle.std.proofs.Common.{◌≡◌, ℕ, ◌+◌, ◌<◌, List, [], ◌∷◌, ◌++◌, length, map, take, drop, get_or, sym, ap, ◌∙◌, append_assoc, length-append, append-nil, inl, inr}
+-- The entries of a tree's leaves that are known, and those that are left behind some children.
+use Rattle.std.proofs.Common.{◌≡◌, ℕ, ◌+◌, ◌<◌, List, [], ◌∷◌, ◌++◌, length, take, drop, get_or, sym, ap, ◌∙◌, append_assoc, length-append, append-nil, inl, inr}
 use Rattle.std.specs.List.{flat_map}
 use Rattle.std.proofs.Math.Seq.{drop-nil, drop-append_seam, take-length}
 use Rattle.std.proofs.lemmas.List.{drop-drop, drop_more, take_more, take-append-drop}
 use Rattle.std.proofs.lemmas.List.Concat.{flat_map-append}
-use Rattle.std.proofs.lemmas.List.Folds.{flat_map-map}
 use Rattle.mr_record.specs.declared.record.Record.{Record}
 use Rattle.mr_tree.specs.Digest.{Scheme, entry_step}
+use Rattle.mr_tree.specs.Leaves.{leaf_entries}
 use Rattle.mr_tree.specs.declared.entry.Entry.{Entry}
 use Rattle.mr_tree.specs.declared.tree.Tree.{Tree}
 use Rattle.mr_tree.specs.declared.tree.Tree.TheVariants as tree
 use Rattle.mr_tree.specs.declared.tree.Tree.TheOpen as node
-use Rattle.mr_tree.proofs.Folds.{fold-Empty, fold-Leaf, fold-Inner}
-use Rattle.mr_pages.specs.Leaves.{leaf_entries_step, leaf_entries, KnowsFirst}
-
-pub leaf_entries-Empty : (s : Scheme) → leaf_entries s tree.Empty ≡ []
-leaf_entries-Empty s = fold-Empty (List Entry) (leaf_entries_step s)
-
-pub leaf_entries-Leaf : (s : Scheme) (rs : List Record) →
-    leaf_entries s (tree.Leaf rs) ≡ entry_step s (node.Leaf rs) ∷ []
-leaf_entries-Leaf s rs = fold-Leaf (List Entry) (leaf_entries_step s) rs
-
-pub leaf_entries-Inner : (s : Scheme) (ts : List Tree) →
-    leaf_entries s (tree.Inner ts) ≡ flat_map (leaf_entries s) ts
-leaf_entries-Inner s ts =
-    fold-Inner (List Entry) (leaf_entries_step s) ts ∙ flat_map-map (λ list. list) (leaf_entries s) ts
+use Rattle.mr_tree.proofs.Leaves.{leaf_entries-Leaf, leaf_entries-Inner}
+use Rattle.mr_pages.specs.Leaves.{KnowsFirst}
 
 -- all are known, or none
 pub known_whole : (entries known : List Entry) → known ≡ entries → KnowsFirst entries known

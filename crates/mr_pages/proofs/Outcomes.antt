@@ -8,7 +8,7 @@ use Rattle.mr_pages.specs.declared.error.MapErr.TheVariants as errors
 use Rattle.mr_pages.specs.declared.visited.Visited.{Visited}
 use Rattle.mr_pages.specs.Page.{Link, Node, Head}
 use Rattle.mr_pages.specs.File.{File}
-use Rattle.mr_pages.specs.Faults.{has, Visit, walk, walk_faults, reached, all_records, numbers_of, chain, mapfault, first_of}
+use Rattle.mr_pages.specs.Faults.{Visit, walk, walk_faults, reached, all_records, numbers_of, chain, first_of}
 use Rattle.mr_pages.specs.Walking.{Saw}
 use Rattle.mr_pages.specs.private.Walks.{Passed}
 use Rattle.mr_pages.specs.Source.{Sourced, IfNotFailed, AllKept}

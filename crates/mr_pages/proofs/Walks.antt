@@ -12,7 +12,7 @@ use Rattle.mr_pages.specs.declared.visited.Visited.{Visited}
 use Rattle.mr_tree.specs.declared.child.Child.{Child}
 use Rattle.mr_pages.specs.Page.{Link, Node}
 use Rattle.mr_pages.specs.Stands as placed
-use Rattle.mr_pages.specs.Stands.{Placed, Row, tree_of, trees_of}
+use Rattle.mr_pages.specs.Stands.{Placed, tree_of, trees_of}
 use Rattle.mr_pages.specs.private.Spelled.{row, place}
 use Rattle.mr_pages.specs.Faults.{fault_if, has, repeats, found, children, Visit, records_in, visit, visits, reached, all_records, numbers_of, node_faults, visit_faults, walk_faults, first_of}
 use Rattle.mr_pages.specs.Walking.{child_link, enter_faults, Saw}

@@ -1,6 +1,6 @@
 -- What is known of the pages of a file while they are read one by one, and what a walk over them
 -- leaves.
-use Rattle.std.specs.Prelude.{◌≡◌, ⊤, ◌⊎◌, ℕ, ◌+◌, ◌*◌, ◌<◌, ◌≤◌, take, true, not, List, [], length, All, count_by, slice_index_or, drop, ◌∷◌, false, Option, Some, None, option_map, IfSome, IfOk, OnOk, Result, Ok, Err, IsErrOf}
+use Rattle.std.specs.Prelude.{◌≡◌, ⊤, ◌⊎◌, ℕ, ◌+◌, ◌*◌, ◌<◌, ◌≤◌, take, true, not, List, length, All, count_by, slice_index_or, drop, false, Option, Some, None, IfSome, IfOk, OnOk, Result, Ok, Err, IsErrOf}
 use Rattle.mr_outside.specs.Faults.{Rose}
 use Rattle.mr_outside.specs.Files.{Files, file}
 use Rattle.mr_record.specs.private.Bytes.{AreBytes}
@@ -20,7 +20,7 @@ use Rattle.mr_pages.specs.Page.{Link, Form, IsHead}
 use Rattle.mr_pages.specs.File.{File, page_at, pages_of, version_of}
 use Rattle.mr_record.specs.declared.version.Version.{Version}
 use Rattle.mr_pages.specs.Faults.{has, reached, walk, mapfault}
-use Rattle.mr_pages.specs.Walking.{child_link, page_node, owned, head_of}
+use Rattle.mr_pages.specs.Walking.{page_node, owned, head_of}
 use Rattle.mr_pages.specs.declared.checking.Checked.{Checked}
 use Rattle.mr_tree.specs.Digest.{Scheme, by}
 

@@ -87,8 +87,8 @@ pub fn has_fill(view: &NodeView, root: bool) -> bool
 }
 
 /// Whether a node that was fetched has the rectangle, the mask and, unless it is the root, the
-/// count that are said of it, and as many entries as it has to, as a root or below it. Its digest
-/// is not looked at.
+/// count that are said of it. Besides, whether it has as many entries as it has to, as a root or
+/// below it. Its digest is not looked at.
 pub fn is_fit(version: Version, view: &NodeView, said: &Child, root: bool) -> bool
     requires { All HasCount (children_in view.now) }
     ensures { result ≡ fits_entry version root said.now view.now }

@@ -1,18 +1,19 @@
 //! Making the file of a map, up to its page 0.
 
-ghost use Rattle.std.specs.Prelude.{◌≡◌, ◌+◌, ◌≤◌, ◌++◌, ℕ, List, [], ◌∷◌, length, replicate, IfOk, OnOk, MatchResult};
+ghost use Rattle.std.specs.Prelude.{◌≡◌, ◌+◌, ◌≤◌, ◌++◌, ℕ, List, [], ◌∷◌, length, drop, replicate, IfOk, OnOk, MatchResult};
 ghost use Rattle.mr_outside.specs.State.{Shelved};
 ghost use Rattle.mr_tree.specs.Digest.{by};
+ghost use Rattle.mr_tree.specs.Leaves.{leaf_entries};
 ghost use Rattle.mr_tree.specs.Limits.{count_limit};
 ghost use Rattle.mr_tree.specs.Tree.{records};
 ghost use Rattle.mr_tree.specs.View.{AreTold, size};
 ghost use Rattle.mr_tree.specs.WellFormed.{WellFormed, HasLayers};
 ghost use Rattle.mr_tree.specs.declared.tree.Tree.TheVariants.{Inner};
-ghost use Rattle.mr_pages.specs.Leaves.{leaf_entries, KnowsFirst};
+ghost use Rattle.mr_pages.specs.Leaves.{KnowsFirst};
 ghost use Rattle.mr_pages.specs.Making.{HasMade, GivesUpFile, RowMade, HasMadePages};
 ghost use Rattle.mr_pages.specs.Page.{page_limit};
 ghost use Rattle.mr_pages.specs.PageBytes.{form_of, node_page, IsLayout};
-ghost use Rattle.mr_pages.specs.private.Putting.{CanBePut, IsImage, IsPut};
+ghost use Rattle.mr_pages.specs.private.Putting.{CanBePut, IsImage, IsPut, left};
 ghost use Rattle.mr_pages.specs.Saved.{numbered};
 ghost use Rattle.mr_pages.specs.Stands.{pages_of};
 ghost use Rattle.mr_pages.specs.Walking.{page_node};
@@ -21,7 +22,6 @@ use crate::layout::Layout;
 use crate::page::put_node;
 use crate::putting::{LeavesLeft, child_on, page_behind, put_tree, show_children};
 use mr_outside::{Shelf, ShelfErr};
-use mr_record::Version;
 use mr_tree::{Child, Entry, Hashes, NodeView, Tree};
 use std::alloc::{AllocError, Global};
 
@@ -83,7 +83,8 @@ fn begin<S: Shelf>(shelf: &mut S, name: &str, bytes: &[u8]) -> Result<(), ShelfE
 }
 
 // Adds the pages of the tree's nodes to the file, and answers what is to be said of the tree. The
-// pages are left in the vector, and the view is only worked with.
+// entries of its leaves are taken from those that are left, if they are known. The pages are left
+// in the vector, and the view is only worked with.
 fn add_tree<H: Hashes, S: Shelf>(
     alloc: Global,
     layout: Layout,
@@ -91,6 +92,7 @@ fn add_tree<H: Hashes, S: Shelf>(
     name: &str,
     tree: &Tree,
     page: u32,
+    leaves: &mut LeavesLeft<'_>,
     view: &mut NodeView,
     pages: &mut Vec<u8>,
 ) -> Result<Child, ShelfErr>
@@ -99,8 +101,11 @@ fn add_tree<H: Hashes, S: Shelf>(
     requires layers { HasLayers layout.version tree.now }
     requires few { length (records tree.now) ≤ count_limit }
     requires room { page + length (pages_of (numbered tree.now page)) ≤ page_limit }
+    requires known { KnowsFirst (leaf_entries (by layout.version H.of) tree.now) (left leaves.old) }
     ensures put { IfOk result (λ child.
         IsPut (form_of layout) H.of tree.now page [] pages.new.items child) }
+    ensures left { OnOk result (left leaves.new
+        ≡ drop (length (leaf_entries (by layout.version H.of) tree.now)) (left leaves.old)) }
     ensures made { (before : Shelved) (held behind : List ℕ)
         → HasMade name.now held before (S.state shelf.old)
         → held ≡ replicate layout.size 0 ++ behind
@@ -109,8 +114,7 @@ fn add_tree<H: Hashes, S: Shelf>(
         (GivesUpFile layout.size name.now before (S.state shelf.new)) }
 {
     pages.clear();
-    let mut none = LeavesLeft { entries: &[] };
-    let child = put_tree::<H>(alloc, layout, tree, page, &mut none, view, pages)?;
+    let child = put_tree::<H>(alloc, layout, tree, page, leaves, view, pages)?;
     shelf.append(name, pages)?;
     Ok(child)
 }
@@ -132,11 +136,14 @@ fn make_row<H: Hashes, S: Shelf>(
     shelf: &mut S,
     name: &str,
     children: &[Tree],
+    leaves: &[Entry],
     view: &mut NodeView,
 ) -> Result<(Vec<Child>, u32), ShelfErr>
     requires layout { IsLayout layout }
     requires well { WellFormed (Inner children.now) }
     requires layers { HasLayers layout.version (Inner children.now) }
+    requires known { KnowsFirst (leaf_entries (by layout.version H.of) (Inner children.now))
+        leaves.now }
     ensures { MatchResult result
         (λ r. RowMade (form_of layout) H.of children.now (length children.now) name.now
         (S.state shelf.old) (S.state shelf.new) r.0.items r.1)
@@ -146,33 +153,39 @@ fn make_row<H: Hashes, S: Shelf>(
     begin(shelf, name, &front)?;
     let mut pages = Vec::new(alloc);
     let mut links = Vec::new(alloc);
+    let mut left = LeavesLeft { entries: leaves };
     let mut next = 2;
     for child in children {
-        let link = add_tree::<H, S>(alloc, layout, shelf, name, child, next, view, &mut pages)?;
+        let link = add_tree::<H, S>(
+            alloc, layout, shelf, name, child, next, &mut left, view, &mut pages,
+        )?;
         add_link(&mut links, link)?;
         next = page_behind(layout, next, 0, &pages);
     }
     Ok((links, next))
 }
 
-// Makes the file of a map whose root is an inner node.
+// Makes the file of a map whose root is an inner node. The entries of its leaves may be known.
 fn make_inner<H: Hashes, S: Shelf>(
     alloc: Global,
     layout: Layout,
     shelf: &mut S,
     name: &str,
     children: &[Tree],
+    leaves: &[Entry],
 ) -> Result<(Option<Child>, u32), ShelfErr>
     requires layout { IsLayout layout }
     requires well { WellFormed (Inner children.now) }
     requires layers { HasLayers layout.version (Inner children.now) }
+    requires known { KnowsFirst (leaf_entries (by layout.version H.of) (Inner children.now))
+        leaves.now }
     ensures { MatchResult result
         (λ r. HasMadePages (form_of layout) H.of (Inner children.now) name.now (S.state shelf.old)
         (S.state shelf.new) r.0 r.1)
         (GivesUpFile layout.size name.now (S.state shelf.old) (S.state shelf.new)) }
 {
     let mut view = NodeView::new();
-    let (links, pages) = make_row::<H, S>(alloc, layout, shelf, name, children, &mut view)?;
+    let (links, pages) = make_row::<H, S>(alloc, layout, shelf, name, children, leaves, &mut view)?;
     show_children(layout.version, &mut view, &links);
     let page = page_of_view(alloc, layout, &view)?;
     shelf.write_at(name, layout.size as u64, &page)?;
@@ -203,34 +216,10 @@ fn make_at_once<H: Hashes, S: Shelf>(
     Ok((root, (pages.len() / layout.size) as u32))
 }
 
-// Makes the file of a map, of whose pages no more are held than those below one child of the root.
-fn make_in_pieces<H: Hashes, S: Shelf>(
-    alloc: Global,
-    layout: Layout,
-    shelf: &mut S,
-    name: &str,
-    tree: &Tree,
-) -> Result<(Option<Child>, u32), ShelfErr>
-    requires layout { IsLayout layout }
-    requires well { WellFormed tree.now }
-    requires layers { HasLayers layout.version tree.now }
-    ensures { MatchResult result
-        (λ r. HasMadePages (form_of layout) H.of tree.now name.now (S.state shelf.old)
-        (S.state shelf.new) r.0 r.1)
-        (GivesUpFile layout.size name.now (S.state shelf.old) (S.state shelf.new)) }
-{
-    match tree {
-        Tree::Inner(children) => {
-            make_inner::<H, S>(alloc, layout, shelf, name, children.as_slice())
-        }
-        _ => make_at_once::<H, S>(alloc, layout, shelf, name, tree, &[]),
-    }
-}
-
 /// Makes the file of a map, with zeros in place of page 0. Answers what page 0 is to say of the
-/// root, and how many pages there are. In version 1 all pages are added at once, with the root's in
-/// front, and a leaf whose entry is known is not hashed; in version 2, whose pages are twice as
-/// large, those below one child after the other.
+/// root, and how many pages there are. The pages below one child of the root are added after those
+/// below the other, so that no more are held at once. A map without an inner node has two pages at
+/// most, which are added at once. A leaf whose entry is known is not hashed.
 pub fn make_nodes<H: Hashes, S: Shelf>(
     alloc: Global,
     layout: Layout,
@@ -248,8 +237,10 @@ pub fn make_nodes<H: Hashes, S: Shelf>(
         (S.state shelf.new) r.0 r.1)
         (GivesUpFile layout.size name.now (S.state shelf.old) (S.state shelf.new)) }
 {
-    match layout.version {
-        Version::One => make_at_once::<H, S>(alloc, layout, shelf, name, tree, leaves),
-        Version::Two => make_in_pieces::<H, S>(alloc, layout, shelf, name, tree),
+    match tree {
+        Tree::Inner(children) => {
+            make_inner::<H, S>(alloc, layout, shelf, name, children.as_slice(), leaves)
+        }
+        _ => make_at_once::<H, S>(alloc, layout, shelf, name, tree, leaves),
     }
 }

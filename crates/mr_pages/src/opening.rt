@@ -113,8 +113,8 @@ fn open_named<H: Hashes, S: Shelf, W: Whole<H>>(
 ///
 /// Page 0 is read once, with as much behind it as a page of version 2 takes, and each other page at
 /// most once more; nothing is kept of a page but its node. The file's length is what `size` gives,
-/// and what a read gives short counts as zeros. A file is read in version 2
-/// where its byte 4 is 2, else in version 1; one that is smaller than any page is not read at all.
+/// and what a read gives short counts as zeros. A file is read in version 2 where its byte 4 is 2,
+/// else in version 1; one that is smaller than any page is not read at all.
 pub fn open_plain<H: Hash32, S: Shelf>(
     alloc: Global,
     shelf: &mut S,

@@ -2,6 +2,7 @@
 
 ghost use Rattle.std.specs.Prelude.{◌≡◌, ℕ, ◌+◌, ◌*◌, ◌≤◌, [], ◌∷◌, ◌++◌, length, take, drop, replicate, All, IsSome, IfOk, OnOk};
 ghost use Rattle.mr_tree.specs.Digest.{by};
+ghost use Rattle.mr_tree.specs.Leaves.{leaf_entries};
 ghost use Rattle.mr_tree.specs.Limits.{count_limit};
 ghost use Rattle.mr_tree.specs.Tree.{records};
 ghost use Rattle.mr_tree.specs.WellFormed.{HasLayers};
@@ -12,7 +13,7 @@ ghost use Rattle.mr_pages.specs.PageBytes.{node_page, form_of, IsLayout};
 ghost use Rattle.mr_pages.specs.Stands.{pages_of};
 ghost use Rattle.mr_pages.specs.Walking.{child_link, page_node};
 ghost use Rattle.mr_pages.specs.Saved.{numbered};
-ghost use Rattle.mr_pages.specs.Leaves.{leaf_entries, KnowsFirst};
+ghost use Rattle.mr_pages.specs.Leaves.{KnowsFirst};
 ghost use Rattle.mr_pages.specs.private.Putting.{AreSiblings, CanBePut, IsPut, left};
 
 use crate::judging::entry_on;

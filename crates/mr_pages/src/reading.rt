@@ -40,7 +40,7 @@ fn is_page(layout: Layout, _bytes: &[u8])
     ensures { IsPage (form_of layout) _bytes.now }
 {}
 
-/// Which version a file of this size is of, by what stands in its front, which is read at once and
+/// Which version a file of this size is of, by what stands in its front. That is read at once and
 /// left in the room: as much of it as a page of either version takes.
 pub fn read_front<S: Shelf>(
     shelf: &mut S,

@@ -3,10 +3,11 @@
 ghost use Rattle.std.specs.Prelude.{◌≡◌, ◌≤◌, length, option_map, IfOk, OnOk};
 ghost use Rattle.mr_outside.specs.Told.{OfFile};
 ghost use Rattle.mr_tree.specs.Digest.{by, root};
+ghost use Rattle.mr_tree.specs.Leaves.{leaf_entries};
 ghost use Rattle.mr_tree.specs.WellFormed.{WellFormed, HasLayers};
 ghost use Rattle.mr_record.specs.declared.version.Version.TheVariants.{One};
 ghost use Rattle.mr_pages.specs.PageBytes.{form_of, form_by, first_form, second_form, layout_by, root_level, IsLayout};
-ghost use Rattle.mr_pages.specs.Leaves.{leaf_entries, KnowsFirst};
+ghost use Rattle.mr_pages.specs.Leaves.{KnowsFirst};
 ghost use Rattle.mr_pages.specs.Stands.{StandsForTree};
 ghost use Rattle.mr_pages.specs.Walking.{child_link, head_of};
 ghost use Rattle.mr_outside.specs.Files.{with_file, overwritten};
@@ -93,7 +94,7 @@ fn save_named<H: Hashes, S: Shelf>(
 
 /// Makes a file that stands for the map with this tree at this batch, in this version, and answers
 /// the map's root digest. What is said of the tree's leaves may be given, left to right. A leaf is
-/// then not hashed in version 1; in version 2 all are.
+/// then not hashed.
 ///
 /// The nodes stand in preorder from page 1 on, and no page is free. Page 0 is zeros until all
 /// others are synced, so that a file whose writing was refused half way is no map.

@@ -60,9 +60,9 @@ pub fn honest_is_accepted<H: Hashes>(q: &Query)
     is_query(q);
 }
 
-/// Does nothing: it is there for proofs, which learn what accepted bytes are worth and that all
-/// bytes but the honest proof are refused or show a collision, and that the honest proof shows
-/// none, whatever the version of the map.
+/// Does nothing: it is there for proofs, which learn what accepted bytes are worth, whatever the
+/// version of the map. All bytes but the honest proof are refused or show a collision, and the
+/// honest proof shows none.
 pub fn accepted_is_honest<H: Hashes>(q: &Query, _bytes: &[u8])
     requires { IsAskable q.now }
     ensures headline { (v : Version) → Headline (by v H.of) q.now _bytes.now }

@@ -122,10 +122,10 @@ fn leaf(version: Version, records: &[Record]) -> Buffer<LEAF_BYTES>
     bytes
 }
 
-/// Writes one item of a proof of this version: a pruned part or a leaf whole, and of an inner node
-/// the tag and the number of its children, from 1 to 64, whose items are to be written next. A leaf
-/// has at least one record, whose layers are not written in version 1; in version 2 a pruned part
-/// has 1 to 2^20 records. After a refusal some front of the bytes was taken.
+/// Writes one item of a proof of this version. A pruned part or a leaf is written whole, and of an
+/// inner node the tag and the number of its children, from 1 to 64, whose items are to be written
+/// next. A leaf has at least one record, whose layers are not written in version 1; in version 2 a
+/// pruned part has 1 to 2^20 records. After a refusal some front of the bytes was taken.
 pub fn write_item<W: Sink>(out: &mut W, version: Version, item: &Item) -> Result<(), SinkErr>
     requires { FitsItem version item.now }
     ensures whole { OnOk result (TakesBytes (W.state out.old) (W.state out.new)

@@ -171,8 +171,8 @@ pub fn prove_window<N: Nodes, W: Sink>(
 
 /// Writes the proof of the answer to the query: that of the cut which opens just the nodes that are
 /// in reach of it. A query with a mask needs a map of version 2. Where the tree is told, the bytes
-/// are `proof` of it, which a client accepts with the answer of a scan, and no more nodes are
-/// fetched than the cut opens, or twice as many for nearest records.
+/// are `proof` of it, which a client accepts with the answer of a scan. No more nodes are fetched
+/// then than the cut opens, or twice as many for nearest records.
 ///
 /// The radius of nearest records is found first, by a search that keeps the nodes it has met and as
 /// many distances as records are asked for. Then the nodes are walked depth first, as

@@ -104,9 +104,9 @@ fn answer_shape(records: &mut Vec<Record>, shape: &Shape) -> Result<(), AllocErr
     }
 }
 
-/// The answer to the query among those of these records that are on a layer that it asks for: for a
-/// window those that it meets, in rising number, of which equal ones keep their order; or the
-/// nearest, as `rank` has them.
+/// The answer to the query among those of these records that are on a layer that it asks for. For a
+/// window these are those that it meets, in rising number, of which equal ones keep their order; or
+/// the nearest, as `rank` has them.
 pub fn answer(records: Vec<Record>, q: &Query) -> Result<Vec<Record>, AllocError>
     ensures { IfOk result (λ v. v.items ≡ scan records.items q.now) }
 {

@@ -2,7 +2,7 @@
 //! story it is not asked what is left of a file that it makes or changes and does not speak of.
 //!
 //! By an item `each call fails: at least N` a row is run over real files too, with each call on
-//! files and on the output failing in turn, of which its one run makes so many.
+//! files and on the output failing in turn. Its one run makes so many of them.
 
 use crate::each_call::holds;
 use crate::lines::{begins, bytes_at, group_at, item, key_at};

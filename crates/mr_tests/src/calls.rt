@@ -31,9 +31,9 @@ const SMALL: &[File<'static>] = &[
     ("a", "| 7 0 0 0 0 -"),
 ];
 
-// The pages of a map of version 1 are appended at once. One of version 2 is written child by child
-// of its root, behind zeros for page 0 and the root's page, and then the latter. All is synced
-// before page 0 is written over its zeros, and again after. A batch is applied to a copy of the
+// A map is written child by child of its root, behind zeros for page 0 and the root's page, and
+// then the latter. One without an inner node is appended at once. All is synced before page 0 is
+// written over its zeros, and again after. A batch is applied to a copy of the
 // pages, which is made sixteen pages at a time. Where it is applied in place, the files are synced;
 // the journal gets its gate, its body, and its gate anew, is synced behind each of these, and then
 // come the pages, a sync, and the gate once more.
@@ -45,7 +45,8 @@ const CALLS: &[Made<'static>] = &[
     },
     Made {
         words: "build m r",
-        calls: "size r\nread_at r\ncreate m\nappend m\nsync m\nwrite_at m\nsync m\n",
+        calls: "size r\nread_at r\ncreate m\nappend m\nappend m\nappend m\nwrite_at m\nsync m\n\
+            write_at m\nsync m\n",
         pieces: 2,
     },
     Made {
@@ -205,7 +206,7 @@ const LARGE_CALLS: &[Made<'static>] = &[
     },
     Made {
         words: "build m r",
-        calls: "size r\nread_at r\ncreate m\nappend m\nsync m\nwrite_at m\nsync m\n",
+        calls: "size r\nread_at r\ncreate m\nappend m\nwrite_at m\nsync m\nwrite_at m\nsync m\n",
         pieces: 313,
     },
     Made {

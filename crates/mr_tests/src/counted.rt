@@ -1,5 +1,5 @@
 //! Counts beside a scan, in windows that are drawn, with masks and without, on a map of three
-//! levels in version 2, in which each record is on the layer of its column: each is proved, checked
+//! levels in version 2, in which each record is on the layer of its column. Each is proved, checked
 //! and audited. The root is from a program of another language.
 
 ghost use Rattle.std.specs.Prelude.{◌<◌};

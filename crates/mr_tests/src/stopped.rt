@@ -1,5 +1,5 @@
 //! Batches that are applied in place and stop after each call on the disk, or of which each call
-//! fails, on maps of three levels in both versions: what a crash leaves is recovered as the map
+//! fails, on maps of three levels in both versions. What a crash leaves is recovered as the map
 //! before the batch, or as the one after it, which `apply` makes.
 
 ghost use Rattle.std.specs.Prelude.{All, IfOk, IfSome};

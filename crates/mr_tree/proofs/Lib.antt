@@ -2,6 +2,7 @@ pub mod Induction
 pub mod Folds
 pub mod Masks
 pub mod Equations
+pub mod Leaves
 pub mod Told
 pub mod Below
 pub mod Gathered

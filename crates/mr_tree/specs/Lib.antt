@@ -3,6 +3,7 @@ pub mod Limits
 pub mod Tree
 pub mod WellFormed
 pub mod Digest
+pub mod Leaves
 pub mod Hash
 pub mod View
 pub mod HasHashed

@@ -8,8 +8,8 @@ use mr_geom::Rect;
 use mr_record::Record;
 
 /// What an inner node holds of a child: where it is found (a page, or a place in a list), its
-/// level, the least rectangle round its records, in map units, the mask of their layers and their
-/// number, both 0 in version 1, and its digest.
+/// level, the least rectangle round its records, in map units, and its digest. Besides, the mask of
+/// their layers and their number, both 0 in version 1.
 #[derive(Clone, Copy, Debug)]
 pub struct Child {
     pub id: u32,

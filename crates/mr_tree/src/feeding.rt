@@ -79,7 +79,7 @@ fn filled_root(version: Version, batch: u64, count: u64, root: &Entry) -> Buffer
 }
 
 /// The bytes that the root digest of a map is of, in this version, from its batch, the count of its
-/// records and the entry of its root node, which does not matter where there are no records.
+/// records and the entry of its root node. Where there are no records that entry does not matter.
 pub fn root_encoded(version: Version, batch: u64, count: u64, root: &Entry) -> Buffer<ROOT_LIMIT>
     ensures { result ≡ root_preimage version batch count root.now }
 {

@@ -1,6 +1,6 @@
-//! A map's file that is changed in place by its journal: the calls on the files in their order, a
-//! journal that is found open, and a batch that is stopped after each call on the disk, or of which
-//! each call fails. Roots are under the exclusive or of all bytes.
+//! A map's file that is changed in place by its journal. Asked are the calls on the files in their
+//! order, a journal that is found open, and a batch that is stopped after each call on the disk, or
+//! of which each call fails. Roots are under the exclusive or of all bytes.
 
 ghost use Rattle.std.specs.Prelude.{◌≡◌, true, All, IfSome, OnOk, OnErr};
 ghost use Rattle.mr_record.specs.declared.version.Version.TheVariants.{One};

@@ -1,6 +1,6 @@
-//! Insertion and removal at their limits, over pages that are in no file: below a root that may not
-//! rise, where no page may be added, and where an entry would count more records than a map has.
-//! The page of the root is blamed.
+//! Insertion and removal at their limits, over pages that are in no file. They are asked for below
+//! a root that may not rise, where no page may be added, and where an entry would count more
+//! records than a map has. The page of the root is blamed.
 
 ghost use Rattle.std.specs.Prelude.{◌≡◌, ◌≤◌, ◌<◌, ◌+◌, ⊤, None, All, IfSome, true};
 ghost use Rattle.mr_record.specs.Record.{HasLayer};

@@ -1,6 +1,7 @@
 use Rattle.std.proofs.Common.{sym, subst}
 use Rattle.mr_tree.specs.Digest.{by}
-use Rattle.mr_pages.specs.Leaves.{leaf_entries, KnowsFirst}
+use Rattle.mr_tree.specs.Leaves.{leaf_entries}
+use Rattle.mr_pages.specs.Leaves.{KnowsFirst}
 use Rattle.mr_command.specs.Ending.{RunsPlan}
 use Rattle.mr_plan.specs.Plan.{comes}
 use Rattle.mr_plan.specs.Say.{say_map}

@@ -16,8 +16,9 @@ use Rattle.mr_tree.proofs.Equations.{level-Inner, level_over-Inner, entry-Inner,
 use Rattle.mr_tree.proofs.Told.{count_told}
 use Rattle.mr_tree.proofs.Gathered.{pieces_more, inner_gathered}
 use Rattle.mr_tree.proofs.Induction.{here-Inner, every_child}
-use Rattle.mr_pack.specs.Leaves.{leaf_entries}
-use Rattle.mr_pack.proofs.Leaves.{leaf_entries-Inner, child_fits, child_front, child_back}
+use Rattle.mr_tree.specs.Leaves.{leaf_entries}
+use Rattle.mr_tree.proofs.Leaves.{leaf_entries-Inner}
+use Rattle.mr_pack.proofs.Leaves.{child_fits, child_front, child_back}
 use Rattle.mr_pack.proofs.joined.+entry_over.Goals as goal
 
 pub overflow_cast-as_slice : goal.overflow_cast-as_slice

@@ -5,7 +5,7 @@ use Rattle.mr_tree.specs.Tree.{level}
 use Rattle.mr_tree.specs.Digest.{by, entry, inner_tag}
 use Rattle.mr_tree.specs.HasHashed.{HasHashed, of_entry}
 use Rattle.mr_tree.specs.declared.tree.Tree.{Tree}
-use Rattle.mr_pack.specs.Leaves.{leaf_entries}
+use Rattle.mr_tree.specs.Leaves.{leaf_entries}
 use Rattle.mr_pack.proofs.joined.+entry_over.Given as goal
 
 abbrev pub decreases-entry_over : goal.decreases-entry_over

@@ -10,7 +10,7 @@ use Rattle.mr_tree.specs.Tree.{records}
 use Rattle.mr_record.specs.declared.version.Version.TheVariants.{One, Two}
 use Rattle.mr_tree.specs.Digest.{by}
 use Rattle.mr_tree.proofs.Slim.{slim_tree}
-use Rattle.mr_pack.specs.Leaves.{leaves, leaf_entry}
+use Rattle.mr_tree.specs.Leaves.{leaves, leaf_entry}
 use Rattle.mr_pack.proofs.Leaves.{leaves_small, leaves_have, both_of, recursion_from_map}
 use Rattle.mr_pack.proofs.Orders.{if_ok}
 use Rattle.mr_pack.proofs.joined.first_leaves.Goals as goal

@@ -5,9 +5,10 @@ use Rattle.mr_outside.specs.Writing.{IsChanged}
 use Rattle.mr_record.specs.declared.version.Version.{Version}
 use Rattle.mr_record.specs.declared.version.Version.TheVariants.{One, Two}
 use Rattle.mr_tree.specs.Digest.{by, root}
+use Rattle.mr_tree.specs.Leaves.{leaf_entries}
 use Rattle.mr_tree.specs.WellFormed.{HasLayers}
 use Rattle.mr_pages.specs.declared.layout.Layout.{Layout}
-use Rattle.mr_pages.specs.Leaves.{leaf_entries, KnowsFirst}
+use Rattle.mr_pages.specs.Leaves.{KnowsFirst}
 use Rattle.mr_pages.specs.PageBytes.{form_of, form_by, layout_by}
 use Rattle.mr_pages.specs.Saved.{saved, MayStand, LeavesFile}
 use Rattle.mr_pages.specs.Stands.{StandsForTree}

@@ -1,10 +1,13 @@
 use Rattle.std.proofs.Common.{◌∙◌, sym, subst, ap}
 use Rattle.std.specs.Prelude.{MatchResult}
+use Rattle.mr_tree.specs.Digest.{by}
+use Rattle.mr_tree.specs.Leaves.{leaf_entries}
 use Rattle.mr_tree.specs.WellFormed.{WellFormed, HasLayers}
 use Rattle.mr_tree.specs.declared.tree.Tree.TheVariants as tree
+use Rattle.mr_pages.specs.Leaves.{KnowsFirst}
 use Rattle.mr_pages.specs.Making.{GivesUpFile, HasMadePages}
 use Rattle.mr_pages.specs.PageBytes.{form_of}
-use Rattle.mr_pages.proofs.making.make_in_pieces.Goals as goal
+use Rattle.mr_pages.proofs.making.make_nodes.Goals as goal
 
 pub make_inner-requires-clause-well : goal.make_inner-requires-clause-well
 make_inner-requires-clause-well g c =
@@ -13,6 +16,11 @@ make_inner-requires-clause-well g c =
 pub make_inner-requires-clause-layers : goal.make_inner-requires-clause-layers
 make_inner-requires-clause-layers g c =
     subst (HasLayers c.args.layout.version) (c.in-Inner.is ∙ ap tree.Inner (sym c.as_slice.ensures)) c.requires.layers
+
+pub make_inner-requires-clause-known : goal.make_inner-requires-clause-known
+make_inner-requires-clause-known g c =
+    subst (λ t. KnowsFirst (leaf_entries (by c.args.layout.version g.H.Hashes.of) t) c.args.leaves.now)
+    (c.in-Inner.is ∙ ap tree.Inner (sym c.as_slice.ensures)) c.requires.known
 
 pub returns-in-Inner : goal.returns-in-Inner
 returns-in-Inner g c =
