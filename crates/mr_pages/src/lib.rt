@@ -6,6 +6,7 @@ mod checking;
 mod copying;
 mod error;
 mod file_pages;
+mod flags;
 mod head;
 mod judging;
 mod layout;

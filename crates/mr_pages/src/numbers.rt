@@ -1,30 +1,35 @@
 //! Numbers that were met.
 
-ghost use Rattle.std.specs.Prelude.{◌≡◌, ◌≢◌, ◌≤◌, [], IfOk};
+ghost use Rattle.std.specs.Prelude.{◌≡◌, ◌≢◌, ◌≤◌, ◌^◌, [], length, IfOk};
 ghost use Rattle.mr_pages.specs.private.Places.{number_in_place};
 ghost use Rattle.mr_pages.specs.private.Numbers.{count_kept, Met, MeetsNumber};
 
+use crate::flags::Flags;
 use crate::table::Table;
 use std::alloc::{AllocError, Global};
 use std::collections::BTreeSet;
 
 /// Numbers that were met.
 ///
-/// A number is put at its place in the table where that is empty. Where another stands there, it
-/// goes to the others, and so does 0: what the table has room for is met without a search.
+/// Each of the least numbers has a flag. Another is put at its place in the table where that is
+/// empty. Where one stands there, it goes to the others: what the flags and the table have room for
+/// is met without a search.
 #[derive(Drop)]
 pub struct Numbers {
+    flags: Flags,
     table: Table,
     others: BTreeSet<u64>,
 }
 
 impl Numbers {
-    /// No numbers, with a table of this many places.
+    /// No numbers, with this many flags and a table of as many places.
     pub fn new(alloc: Global, places: usize) -> Result<Numbers, AllocError>
-        requires { 1 ≤ places }
+        requires some { 1 ≤ places }
+        requires few { places ≤ 2 ^ 20 }
         ensures { IfOk result (λ s. Met s []) }
     {
         Ok(Numbers {
+            flags: Flags::new(alloc, places)?,
             table: Table::new(alloc, places)?,
             others: BTreeSet::new(alloc),
         })
@@ -34,8 +39,8 @@ impl Numbers {
     pub fn meet(&mut self, n: u64) -> Result<bool, AllocError>
         ensures { IfOk result (λ old. MeetsNumber self.old n old self.new) }
     {
-        if n == 0 {
-            return self.meet_other(n);
+        if n < self.flags.len() as u64 {
+            return Ok(self.flags.set(n as usize));
         }
         let found = self.table.at(n);
         if found == n {
@@ -48,8 +53,9 @@ impl Numbers {
         self.meet_other(n)
     }
 
-    // Meets a number that does not go into the table.
+    // Meets a number that has no flag and does not go into the table.
     fn meet_other(&mut self, n: u64) -> Result<bool, AllocError>
+        requires high { length self.old.flags.flags.items ≤ n }
         requires apart { n ≢ 0 → number_in_place self.old.table.places.items n ≢ n }
         requires taken { n ≢ 0 → number_in_place self.old.table.places.items n ≢ 0 }
         ensures { IfOk result (λ old. MeetsNumber self.old n old self.new) }
@@ -61,6 +67,6 @@ impl Numbers {
     pub fn count(&self) -> u64
         ensures { result ≡ count_kept self.now }
     {
-        self.table.taken() as u64 + self.others.len() as u64
+        self.flags.count() as u64 + self.table.taken() as u64 + self.others.len() as u64
     }
 }

@@ -10,12 +10,14 @@ use std::alloc::{AllocError, Global};
 pub struct Table {
     places: Vec<u64>,
     ghost some: { 1 ≤ vec_len places },
+    ghost few: { vec_len places ≤ 2 ^ 20 },
 }
 
 impl Table {
     /// A table of this many places, all empty.
     pub fn new(alloc: Global, places: usize) -> Result<Table, AllocError>
-        requires { 1 ≤ places }
+        requires some { 1 ≤ places }
+        requires few { places ≤ 2 ^ 20 }
         ensures { IfOk result (λ t. t.places.items ≡ replicate places 0) }
     {
         Ok(Table {
@@ -49,7 +51,7 @@ impl Table {
     /// How many places are taken.
     pub fn taken(&self) -> usize
         ensures count { result ≡ taken_of self.now.places.items }
-        ensures small { result < 2 ^ 63 }
+        ensures small { result ≤ 2 ^ 20 }
     {
         taken(&self.places)
     }

@@ -17,3 +17,7 @@ is_taken n = not (n == 0)
 -- how many places are taken
 abbrev pub taken_of : List ℕ → ℕ
 taken_of places = count_by is_taken places
+
+-- how many flags are set
+abbrev pub flagged_of : List Bool → ℕ
+flagged_of flags = count_by (λ b. b) flags

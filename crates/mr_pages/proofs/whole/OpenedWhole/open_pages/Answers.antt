@@ -7,7 +7,6 @@ use Rattle.mr_pages.specs.Gathering.{MakesTree}
 use Rattle.mr_pages.specs.PageBytes.{form_of}
 use Rattle.mr_pages.proofs.HeadLaws.{form_is}
 use Rattle.mr_pages.proofs.Answered.{told_err, told_ok, some_err, some_ok, tree_made}
-use Rattle.mr_pages.proofs.whole.OpenedWhole.open_pages.Given
 use Rattle.mr_pages.proofs.whole.OpenedWhole.open_pages.Goals as goal
 
 pub returns-in_err-checked-clause-told : goal.returns-in_err-checked-clause-told
