@@ -119,12 +119,12 @@ BOUNDS = (
     # the tree of 65,536 records, and copies of half of them
     Bound("list m", 5000, 26 * 10**6),
     Bound("list k", 5000, 26 * 10**6),
-    # the records, and their tree; then the tree, and the pages below one child of the root
-    Bound("root w", 9100, 34 * 10**6),
-    Bound("root2 t", 9000, 335 * 10**5),
+    # the records, of which the tree takes one after the other; then the tree, and the pages below one child of the root
+    Bound("root w", 9100, 21 * 10**6),
+    Bound("root2 t", 9000, 21 * 10**6),
     Bound("demo 20000 1", 5500, 11 * 10**6),
     Bound("build e w", 9500, 21 * 10**6),
-    Bound("build2 e t", 9500, 335 * 10**5),
+    Bound("build2 e t", 9500, 21 * 10**6),
     # the tree, and the pages below one child of the root
     Bound("upgrade m n", 5300, 175 * 10**5),
     Bound("upgrade k n", 5300, 175 * 10**5),
@@ -135,30 +135,30 @@ BOUNDS = (
     # the records, the nodes and a part of the proof
     Bound("audit l %s p" % ALL, 2800, 99 * 10**5),
     # the proofs, of 13.3 million bytes, each in no more room than it has bytes, and of the bundle a part
-    Bound("serve s q u", 3000, 155 * 10**5),
+    Bound("serve s q u", 2700, 150 * 10**5),
     # each proof is judged once
     Bound("check-all $s q u", 3500, 150 * 10**6),
     # with masks, in version 2: as above
     Bound("prove k %s z" % NEAREST, 7000, 21 * 10**5),
     Bound("check $k %s%s y" % (ALL, ON_ALL), 40, 17 * 10**6),
     Bound("audit k %s%s y" % (ALL, ON_ALL), 9700, 22 * 10**6),
-    Bound("serve k layered v", 14500, 57 * 10**6),
+    Bound("serve k layered v", 5500, 54 * 10**6),
     Bound("check-all $k layered v", 480, 240 * 10**6),
     # the nodes that are kept, and the proof; the proof, and the records that it shows; these, and the nodes
     Bound("count k %s z" % COUNTED, 9500, 37 * 10**5),
     Bound("check-count $k %s z" % COUNTED, 45, 126 * 10**5),
     Bound("audit-count k %s z" % COUNTED, 9800, 137 * 10**5),
     # both trees; the records that the proof shows, in two orders, and the pairs; all of these
-    Bound("join k j z", 9700, 50 * 10**6),
+    Bound("join k j z", 5300, 50 * 10**6),
     Bound("check-join $k $j z", 170000, 30 * 10**6),
     Bound("audit-join k j z", 180000, 57 * 10**6),
     # the nodes that are kept, and the directory of the records
-    Bound("apply m b n", 16000, 51 * 10**5),
-    Bound("apply k b n", 16000, 51 * 10**5),
+    Bound("apply m b n", 11200, 51 * 10**5),
+    Bound("apply k b n", 11200, 51 * 10**5),
     # the map and the new one, and the directory of its records: less than three times the map's 17,047,552 bytes, and
     # of version 2 twice as much as that
-    Bound("apply-here h b", 15500, 39 * 10**6),
-    Bound("apply-here g b", 16000, 78 * 10**6),
+    Bound("apply-here h b", 11200, 40 * 10**6),
+    Bound("apply-here g b", 11200, 78 * 10**6),
     # the journal
     Bound("recover o", 29, 8 * 10**5),
     Bound("recover f", 29, 15 * 10**5),
