@@ -1,5 +1,5 @@
 -- What a cache of node pages holds.
-use Rattle.std.specs.Prelude.{◌≡◌, ◌≢◌, ℕ, ◌<◌, ◌≤◌, ◌⊎◌, Bool, true, false, List, length, All, Contains, Some, IsSome, IsSomeAnd, nat_eq}
+use Rattle.std.specs.Prelude.{◌≡◌, ◌≢◌, ℕ, ◌<◌, ◌≤◌, ◌⊎◌, ◌+◌, Bool, true, false, List, length, All, Contains, Some, IsSome, IsSomeAnd, nat_eq, nat_le}
 use Rattle.std.specs.Map.{lookup}
 use Rattle.lru.specs.LruCache.{lru_cache, promoted, put_entries}
 use Rattle.mr_tree.specs.Digest.{Scheme}
@@ -7,6 +7,7 @@ use Rattle.mr_tree.specs.View.{Node, AreTold, children_in, level_of, preimage_of
 use Rattle.mr_tree.specs.Snapshot.{HasShape}
 use Rattle.mr_tree.specs.declared.child.Child.{Child}
 use Rattle.mr_pages.specs.declared.node.Node as owned_type
+use Rattle.mr_pages.specs.declared.node.Node.TheVariants as owned_node
 use Rattle.mr_pages.specs.Walking.{owned}
 use Rattle.mr_store.specs.declared.cached_node.CachedNode.{CachedNode}
 
@@ -16,6 +17,12 @@ node_of = owned
 -- the most pages besides page 0 that are all kept
 abbrev pub room : ℕ
 room = 256
+
+-- whether a node of a file of so many pages is kept as its pages are judged: an inner node always,
+-- and a leaf where there is room for all nodes
+abbrev pub keeps_opened : (pages : ℕ) → owned_type.Node → Bool
+keeps_opened pages (owned_node.Inner children) = true
+keeps_opened pages (owned_node.Leaf records) = nat_le pages (room + 1)
 
 -- the pages with what is kept of them
 abbrev pub CacheEntries : Type 0

@@ -14,7 +14,7 @@ use std::alloc::{AllocError, Global};
 use std::num::NonZeroUsize;
 
 // The node pages that are kept.
-const ROOM: usize = 256;
+pub(crate) const ROOM: usize = 256;
 
 // A cache of node pages in which none is kept yet.
 pub(crate) fn empty_cache(alloc: Global) -> Result<LruCache<u32, CachedNode>, AllocError>

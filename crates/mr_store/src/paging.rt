@@ -1,6 +1,6 @@
 //! A file of pages on a shelf, of which it is not known yet whether it stands for a map.
 
-ghost use Rattle.std.specs.Prelude.{◌≡◌, ℕ, Bool, List, IfOk, OnOk};
+ghost use Rattle.std.specs.Prelude.{◌≡◌, ℕ, Bool, true, false, List, IfOk, OnOk};
 ghost use Rattle.std.proofs.Props.{props};
 ghost use Rattle.mr_tree.specs.Tree.{records};
 ghost use Rattle.mr_tree.specs.declared.tree.Tree.{Tree};
@@ -13,8 +13,9 @@ ghost use Rattle.mr_store.specs.CachedFile.{entries_of};
 ghost use Rattle.mr_store.specs.declared.record_list.RecordList.{RecordList};
 ghost use Rattle.mr_store.specs.private.Listing.{ListsMore};
 ghost use Rattle.mr_store.specs.private.Paging.{sourced, HoldsPage, IsUnchecked};
-ghost use Rattle.mr_store.specs.Kept.{node_of, PutsNode};
+ghost use Rattle.mr_store.specs.Kept.{node_of, keeps_opened, PutsNode};
 
+use crate::cache::ROOM;
 use crate::cached_file::CachedFile;
 use crate::listing::list_node;
 use crate::record_list::RecordList;
@@ -25,13 +26,25 @@ use std::alloc::AllocError;
 use std::marker::PhantomData;
 
 /// A file of whole pages, of which page 0 was read and the others are read one by one, and the
-/// nodes of it that are kept; and the records that were met, where they are wanted.
+/// nodes of it that are kept: the inner ones, and the leaves where there is room for all nodes; and
+/// the records that were met, where they are wanted.
 pub(crate) struct Paging<'a, S: Shelf, H: Hashes> {
     pub(crate) file: CachedFile<S>,
     pub(crate) first: &'a [u8],
     pub(crate) list: RecordList,
     pub(crate) hash: PhantomData<H>,
     ghost paging: { IsUnchecked H.of file first.now } by { Prim.hlevel props },
+}
+
+// Whether a node of a file of so many pages is kept as its pages are judged: an inner node always,
+// and a leaf where there is room for all nodes.
+fn is_kept(pages: u32, node: &Node) -> bool
+    ensures { result ≡ keeps_opened pages node.now }
+{
+    match node {
+        Node::Inner(_) => true,
+        Node::Leaf(_) => pages as usize <= ROOM + 1,
+    }
 }
 
 impl<S: Shelf, H: Hashes> Source for Paging<'_, S, H> {
@@ -87,13 +100,20 @@ impl<S: Shelf, H: Hashes> Source for Paging<'_, S, H> {
             ListsMore before self.new.list (records (tree_over node ts))) }
         ensures kept { OnOk result
             (HoldsPage self.new.file.pages (entries_of self.new.file) child.now.id) }
-        ensures puts { OnOk result (PutsNode self.old.file.cache.cap (entries_of self.old.file)
+        ensures puts { keeps_opened self.old.file.pages node ≡ true →
+            OnOk result (PutsNode self.old.file.cache.cap (entries_of self.old.file)
             (entries_of self.new.file) child.now (node_of node)) }
+        // A leaf of a larger file is not kept.
+        ensures passes { keeps_opened self.old.file.pages node ≡ false →
+            entries_of self.new.file ≡ entries_of self.old.file }
         ensures stay { Stay (HoldsPage self.old.file.pages (entries_of self.old.file))
             (HoldsPage self.new.file.pages (entries_of self.new.file)) }
     {
         let _len = self.file.cache.len();
         list_node(&mut self.list, &node)?;
+        if !is_kept(self.file.pages, &node) {
+            return Ok(());
+        }
         self.file.keep(child, node)
     }
 }

@@ -33,3 +33,8 @@ returns-clause-stay g c = λ page held.
     (keeps_more (page_form f) g.H.Hashes.of (state_of f).files (name_of f) f.pages s.first.now f.cache
     c.keep.new.self.cache s.paging c.args.child.now c.args.node (state_of f).faults (state_of f).reads c.requires
     c.keep.result c.len-len.ensures.valid c.keep.ensures.gains c.keep.ensures.same page held)
+
+pub returns-then-not-is_kept-clause-made : goal.returns-then-not-is_kept-clause-made
+returns-then-not-is_kept-clause-made g c = λ x root before ts suits all.
+    listed_over c.args.node before c.args.self.now.list c.list_node.new.list c.args._below.items ts all
+    c.in_ok-list_node.ensures
