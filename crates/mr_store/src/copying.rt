@@ -5,8 +5,10 @@ ghost use Rattle.mr_tree.specs.Nodes.{HasSomeCause, IsTop, TellsRefusal, subtree
 ghost use Rattle.mr_tree.specs.Snapshot.{AreLinked, IsPlaced, snapshot_model, tree_of};
 ghost use Rattle.mr_tree.specs.declared.nodes.NodesErr.TheVariants as errors;
 ghost use Rattle.mr_pages.specs.private.Copying.{IsPut};
+ghost use Rattle.mr_store.specs.Blamed.{StopsAt};
 ghost use Rattle.mr_store.specs.Stored.{IsSaid, IsSnapshotOf};
 
+use crate::listing::fits;
 use crate::walk::{Gather, walk};
 use mr_outside::Items;
 use mr_pages::{Visited, put_stored};
@@ -65,6 +67,8 @@ fn copied_from<N: Nodes>(
     ensures answered { TellsRefusal (λ e. e) (N.refusal nodes.old) (N.refusal nodes.new) result }
     ensures cause { IfErr result (HasSomeCause (N.stands nodes.old)
         (N.faults nodes.old) (N.faults nodes.new)) }
+    ensures blames { IfErr result (StopsAt N.Hash.of (N.stands nodes.old) top.now.root
+        (N.refusal nodes.new)) }
 {
     let mut seen = Visited::new(alloc, pages)?;
     let mut into = Copies {
@@ -81,9 +85,7 @@ fn copied_from<N: Nodes>(
         &mut seen,
         &mut into,
     )?;
-    if seen.numbers.count() != top.count {
-        return Err(NodesErr::Page { page: root.id });
-    }
+    fits(root, seen.numbers.count(), top.count)?;
     Ok(Snapshot::over(
         into.nodes,
         Top {
@@ -116,6 +118,8 @@ pub(crate) fn copied<N: Nodes>(
     ensures answered { TellsRefusal (λ e. e) (N.refusal nodes.old) (N.refusal nodes.new) result }
     ensures cause { IfErr result (HasSomeCause (N.stands nodes.old)
         (N.faults nodes.old) (N.faults nodes.new)) }
+    ensures blames { IfErr result (StopsAt N.Hash.of (N.stands nodes.old) top.now.root
+        (N.refusal nodes.new)) }
 {
     match &top.root {
         None => Ok(Snapshot::over(

@@ -1,6 +1,6 @@
 //! The directory of a map whose nodes are fetched one by one.
 
-ghost use Rattle.std.specs.Prelude.{◌≡◌, ◌≢◌, OnErr, ◌+◌, ◌≤◌, ◌++◌, [], map, IfOk, IfErr, OnOk, IfSome, IsSome, length};
+ghost use Rattle.std.specs.Prelude.{◌≡◌, ◌≢◌, OnErr, ◌+◌, ◌≤◌, ◌++◌, [], map, Some, IfOk, IfErr, OnOk, IfSome, IsSome, length};
 ghost use Rattle.std.specs.BTreeMap.{IsFromIterResult};
 ghost use Rattle.std.specs.Ordering.{nat_cmp};
 ghost use Rattle.mr_record.specs.Version.{told};
@@ -9,6 +9,7 @@ ghost use Rattle.mr_tree.specs.Tree.{records as records_in};
 ghost use Rattle.mr_tree.specs.declared.nodes.NodesErr.TheVariants as errors;
 ghost use Rattle.mr_tree.specs.Nodes.{IsTop, MayFetch, HasSomeCause, TellsRefusal, subtrees};
 ghost use Rattle.mr_batch.specs.Directory.{IsDirectoryOf};
+ghost use Rattle.mr_store.specs.Blamed.{StopsAt, StopsMap};
 ghost use Rattle.mr_store.specs.private.Walk.{HasSeenNone, StopsWalk, nodes_at};
 ghost use Rattle.mr_store.specs.private.Listing.{directory_entry, ListsAt, ListsMore, ListsNode, GathersDirectory, HasAt, ListsTree, CanListAll};
 ghost use Rattle.mr_store.specs.Stored.{IsListed, IsListedAs};
@@ -92,7 +93,7 @@ fn room(alloc: Global, count: u64) -> Result<Vec<(u64, Rect)>, NodesErr>
 }
 
 // Refuses the root, where other than so many records were met.
-fn fits(root: &Child, met: u64, count: u64) -> Result<(), NodesErr>
+pub(crate) fn fits(root: &Child, met: u64, count: u64) -> Result<(), NodesErr>
     ensures fits { OnOk result (met ≡ count) }
     ensures other { OnErr result (met ≢ count) }
     ensures blames { IfErr result (λ e. e ≡ errors.Page root.now.id) }
@@ -125,6 +126,8 @@ fn listed<N: Nodes>(
     ensures answered { TellsRefusal (λ e. e) (N.refusal nodes.old) (N.refusal nodes.new) result }
     ensures cause { IfErr result (StopsWalk (N.stands nodes.old) (N.faults nodes.old)
         (N.faults nodes.new) (CanListAll (N.stands nodes.old) root.now count)) }
+    ensures blames { IfErr result (StopsAt N.Hash.of (N.stands nodes.old) (Some root.now)
+        (N.refusal nodes.new)) }
 {
     let mut seen = unseen(alloc, count)?;
     let mut into = Entries {
@@ -174,6 +177,8 @@ fn list_all<N: Nodes>(
     ensures answered { TellsRefusal (λ e. e) (N.refusal nodes.old) (N.refusal nodes.new) result }
     ensures cause { IfErr result (StopsWalk (N.stands nodes.old) (N.faults nodes.old)
         (N.faults nodes.new) (CanListAll (N.stands nodes.old) root.now count)) }
+    ensures blames { IfErr result (StopsAt N.Hash.of (N.stands nodes.old) (Some root.now)
+        (N.refusal nodes.new)) }
 {
     let all = listed(alloc, version, nodes, root, count)?;
     gathered(alloc, all)
@@ -201,6 +206,8 @@ fn directory_as<N: Nodes>(alloc: Global, nodes: &mut N, top: &Top) -> Result<Dir
     ensures answered { TellsRefusal (λ e. e) (N.refusal nodes.old) (N.refusal nodes.new) result }
     ensures cause { IfErr result (HasSomeCause (N.stands nodes.old)
         (N.faults nodes.old) (N.faults nodes.new)) }
+    ensures blames { IfErr result (StopsAt N.Hash.of (N.stands nodes.old) top.now.root
+        (N.refusal nodes.new)) }
 {
     match &top.root {
         None => empty(alloc),
@@ -231,6 +238,9 @@ pub fn directory<N: Nodes>(alloc: Global, nodes: &mut N) -> Result<Directory, No
     ensures answered { TellsRefusal (λ e. e) (N.refusal nodes.old) (N.refusal nodes.new) result }
     ensures cause { IfErr result (HasSomeCause (N.stands nodes.old)
         (N.faults nodes.old) (N.faults nodes.new)) }
+    // Told or not, what stops it is what a fetch refused, or a node that the walk came to.
+    ensures blames { IfErr result (StopsMap N.Hash.of (N.stands nodes.old)
+        (N.refusal nodes.new)) }
 {
     let top = nodes.top();
     directory_as(alloc, nodes, &top)

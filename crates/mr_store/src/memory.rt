@@ -3,6 +3,7 @@
 ghost use Rattle.std.specs.Prelude.{◌≡◌, ◌≤◌, ◌+◌, length, IfOk, IfErr, IfSome, OnOk};
 ghost use Rattle.mr_tree.specs.Nodes.{HasSomeCause, TellsRefusal, subtrees};
 ghost use Rattle.mr_tree.specs.Snapshot.{snapshot_model, tree_of};
+ghost use Rattle.mr_store.specs.Blamed.{StopsAt};
 ghost use Rattle.mr_store.specs.Paged.{shelved, stands_for, Keeps};
 ghost use Rattle.mr_store.specs.Stored.{top_in, IsSaid, IsSnapshotOf};
 
@@ -47,6 +48,9 @@ impl<S: Shelf, H: Hash32> Paged<S, H> {
             ≤ self.old.fetches + length (subtrees (tree_of p.nodes.items p.top))) }
         ensures cause { IfErr result (HasSomeCause (stands_for self.old)
             (shelved self.old).faults (shelved self.new).faults) }
+        // Told or not, what stops it is what a fetch refused, or a node that the walk came to.
+        ensures blames { IfErr result (StopsAt H.of (stands_for self.old) self.old.head.root
+            self.new.refusal) }
         ensures quiet { OnOk result ((shelved self.new).faults ≡ (shelved self.old).faults) }
         // What a fetch refused is what is answered.
         ensures answered { TellsRefusal (λ e. e) self.old.refusal self.new.refusal result }

@@ -1,6 +1,6 @@
 //! A walk over the nodes of a map, each of which is fetched once.
 
-ghost use Rattle.std.specs.Prelude.{◌≡◌, ◌≤◌, ◌+◌, Bool, List, map, length, IfOk, IfErr, IsSome, OnOk};
+ghost use Rattle.std.specs.Prelude.{◌≡◌, ◌≤◌, ◌⊎◌, ◌+◌, Bool, List, map, length, Some, IfOk, IfErr, IsSome, OnOk};
 ghost use Rattle.mr_outside.specs.Faults.{next_count};
 ghost use Rattle.mr_tree.specs.Digest.{Scheme, by};
 ghost use Rattle.mr_tree.specs.Nodes.{MayFetch, ShowsNode, TellsRefusal};
@@ -10,6 +10,7 @@ ghost use Rattle.mr_tree.specs.declared.nodes.NodesErr.TheVariants as errors;
 ghost use Rattle.mr_tree.specs.declared.tree.Tree as trees;
 ghost use Rattle.mr_tree.specs.declared.tree.Tree.TheVariants as tree;
 ghost use Rattle.mr_tree.specs.declared.tree.Tree.TheOpen.{Leaf, Inner};
+ghost use Rattle.mr_store.specs.Blamed.{StopsAt};
 ghost use Rattle.mr_store.specs.private.Walk.{SuitsEntry, IsCounted, IsFull, CanWalk, AddsNumbers, moved, nodes_at, GathersAll, Walked, StopsWalk, IsTwice};
 
 use mr_pages::{Visited, is_fit, moved_to};
@@ -61,6 +62,9 @@ fn look<N: Nodes>(
     ensures answered { TellsRefusal (λ e. e) (N.refusal nodes.old) (N.refusal nodes.new) result }
     ensures cause { IfErr result (StopsWalk (N.stands nodes.old) (N.faults nodes.old)
         (N.faults nodes.new) (IsFull (N.stands nodes.old) root child.now)) }
+    // The child's page is blamed, unless this is what the fetch refused.
+    ensures blames { IfErr result (λ e. (e ≡ errors.Page child.now.id)
+        ⊎ (N.refusal nodes.new ≡ Some e)) }
 {
     nodes.fetch(child, view)?;
     is_view(view);
@@ -126,6 +130,8 @@ pub(crate) fn walk<N: Nodes, G: Gather>(
     ensures answered { TellsRefusal (λ e. e) (N.refusal nodes.old) (N.refusal nodes.new) result }
     ensures cause { IfErr result (StopsWalk (N.stands nodes.old) (N.faults nodes.old)
         (N.faults nodes.new) (CanWalk (N.stands nodes.old) root seen.old child.now)) }
+    ensures blames { IfErr result (StopsAt N.Hash.of (N.stands nodes.old) (Some child.now)
+        (N.refusal nodes.new)) }
 {
     look(version, nodes, child, root, view)?;
     if view.level() == 0 {

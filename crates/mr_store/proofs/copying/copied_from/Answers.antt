@@ -1,9 +1,10 @@
 use Rattle.std.proofs.Common.{sym, subst, ap, length, arith, ◌∙◌}
 use Rattle.std.specs.Prelude.{IfSome}
 use Rattle.std.proofs.lemmas.Result.{err_from_is_err_and}
-use Rattle.mr_tree.specs.Nodes.{MapModel, MayFetch}
+use Rattle.mr_tree.specs.Nodes.{MapModel, MayFetch, HasSomeCause}
 use Rattle.mr_store.specs.Stored.{IsSaid}
 use Rattle.mr_store.proofs.Wholes.{whole_well, whole_said, whole_snapshot, whole_stands, once_each, miscounted, refuses_all, none_fetched, root_fetched}
+use Rattle.mr_store.proofs.Blames.{root_stops, said_stops}
 use Rattle.mr_store.proofs.copying.copied_from.Goals as goal
 
 pub walk-requires-clause-version : goal.walk-requires-clause-version
@@ -29,7 +30,7 @@ over-requires-clause-whole g c =
     c.new-2.result.items c.walk.new.into.nodes.items c.in_ok-seen.seen c.walk.new.seen c.args.pages
     (g.N.Nodes.fetches c.args.nodes.now) (g.N.Nodes.fetches c.walk.new.nodes) c.requires.top c.requires.root
     c.new-2.ensures.items c.in_ok-seen.ensures.told c.in_ok-copied.ensures.same c.in_ok-copied.ensures.walked
-    (sym c.if-count-top.false ∙ c.count.ensures)
+    (sym c.in_ok-fits.ensures.fits ∙ c.count.ensures)
 
 pub over-requires-clause-well_formed : goal.over-requires-clause-well_formed
 over-requires-clause-well_formed g c =
@@ -38,21 +39,40 @@ over-requires-clause-well_formed g c =
     c.new-2.result.items c.walk.new.into.nodes.items c.in_ok-seen.seen c.walk.new.seen c.args.pages
     (g.N.Nodes.fetches c.args.nodes.now) (g.N.Nodes.fetches c.walk.new.nodes) c.requires.top c.requires.root
     c.new-2.ensures.items c.in_ok-seen.ensures.told c.in_ok-copied.ensures.same c.in_ok-copied.ensures.walked
-    (sym c.if-count-top.false ∙ c.count.ensures)
+    (sym c.in_ok-fits.ensures.fits ∙ c.count.ensures)
 
-pub returns-then-count-top-clause-cause : goal.returns-then-count-top-clause-cause
-returns-then-count-top-clause-cause g c =
-    let may = subst (λ o. IfSome o (MayFetch g.N.Hash.Hashes.of (g.N.Nodes.stands c.args.nodes.now))) c.requires.root
-    c.requires.top.root in (
-      miscounted g.N.Hash.Hashes.of (g.N.Nodes.stands c.args.nodes.now) c.args.top.now c.args.root.now
+pub returns-in_err-fits-clause-cause : goal.returns-in_err-fits-clause-cause
+returns-in_err-fits-clause-cause g c =
+    let p = err_from_is_err_and c.from_residual-in_err-fits.result c.from_residual-in_err-fits.ensures.1 in
+    let s = g.N.Nodes.stands c.args.nodes.now in
+    let may = subst (λ o. IfSome o (MayFetch g.N.Hash.Hashes.of s)) c.requires.root c.requires.top.root in
+    rw (p.1, p.2) (subst (HasSomeCause s (g.N.Nodes.faults c.args.nodes.now) (g.N.Nodes.faults c.walk.new.nodes))
+    (sym c.in_err-fits.ensures.blames) (
+      miscounted g.N.Hash.Hashes.of s c.args.top.now c.args.root.now
           c.in_ok-copied.copied
           c.new-2.result.items c.walk.new.into.nodes.items c.in_ok-seen.seen c.walk.new.seen c.args.pages
           (g.N.Nodes.fetches c.args.nodes.now) (g.N.Nodes.fetches c.walk.new.nodes) c.requires.top c.requires.root
           c.new-2.ensures.items c.in_ok-seen.ensures.told c.in_ok-copied.ensures.same c.in_ok-copied.ensures.walked
-          (λ e. c.if-count-top.true (c.count.ensures ∙ sym e)),
+          (λ e. c.in_err-fits.ensures.other (c.count.ensures ∙ sym e)),
       (may.positive, may.within),
       c.in_ok-copied.ensures.quiet,
-    )
+    ))
+
+pub returns-in_err-copied-clause-blames : goal.returns-in_err-copied-clause-blames
+returns-in_err-copied-clause-blames g c =
+    let p = err_from_is_err_and c.from_residual-in_err-copied.result c.from_residual-in_err-copied.ensures.1 in
+    rw (p.1, p.2) (said_stops g.N.Hash.Hashes.of (g.N.Nodes.stands c.args.nodes.now) c.args.top.now.root
+    c.args.root.now (g.N.Nodes.refusal c.walk.new.nodes) c.in_err-copied.field-0.0 c.requires.root
+    c.in_err-copied.ensures.blames)
+
+pub returns-in_err-fits-clause-blames : goal.returns-in_err-fits-clause-blames
+returns-in_err-fits-clause-blames g c =
+    let p = err_from_is_err_and c.from_residual-in_err-fits.result c.from_residual-in_err-fits.ensures.1 in
+    let s = g.N.Nodes.stands c.args.nodes.now in
+    rw (p.1, p.2) (said_stops g.N.Hash.Hashes.of s c.args.top.now.root
+    c.args.root.now (g.N.Nodes.refusal c.walk.new.nodes) c.in_err-fits.field-0.0 c.requires.root
+    (root_stops g.N.Hash.Hashes.of s c.args.root.now (g.N.Nodes.refusal c.walk.new.nodes) c.in_err-fits.field-0.0
+    c.in_err-fits.ensures.blames))
 
 pub returns-clause-stands : goal.returns-clause-stands
 returns-clause-stands g c = λ u told.
@@ -61,7 +81,7 @@ returns-clause-stands g c = λ u told.
     c.new-2.result.items c.walk.new.into.nodes.items c.in_ok-seen.seen c.walk.new.seen c.args.pages
     (g.N.Nodes.fetches c.args.nodes.now) (g.N.Nodes.fetches c.walk.new.nodes) c.requires.top c.requires.root
     c.new-2.ensures.items c.in_ok-seen.ensures.told c.in_ok-copied.ensures.same c.in_ok-copied.ensures.walked
-    (sym c.if-count-top.false ∙ c.count.ensures) u told
+    (sym c.in_ok-fits.ensures.fits ∙ c.count.ensures) u told
 
 pub returns-clause-says : goal.returns-clause-says
 returns-clause-says g c =
@@ -71,7 +91,7 @@ returns-clause-says g c =
     c.new-2.result.items c.walk.new.into.nodes.items c.in_ok-seen.seen c.walk.new.seen c.args.pages
     (g.N.Nodes.fetches c.args.nodes.now) (g.N.Nodes.fetches c.walk.new.nodes) c.requires.top c.requires.root
     c.new-2.ensures.items c.in_ok-seen.ensures.told c.in_ok-copied.ensures.same c.in_ok-copied.ensures.walked
-    (sym c.if-count-top.false ∙ c.count.ensures))
+    (sym c.in_ok-fits.ensures.fits ∙ c.count.ensures))
 
 pub returns-in_err-copied-clause-fetched : goal.returns-in_err-copied-clause-fetched
 returns-in_err-copied-clause-fetched g c =
@@ -79,8 +99,8 @@ returns-in_err-copied-clause-fetched g c =
     (g.N.Nodes.fetches c.args.nodes.now) (g.N.Nodes.fetches c.walk.new.nodes) c.requires.top c.requires.root
     c.walk.ensures.fetched
 
-pub returns-then-count-top-clause-fetched : goal.returns-then-count-top-clause-fetched
-returns-then-count-top-clause-fetched g c =
+pub returns-in_err-fits-clause-fetched : goal.returns-in_err-fits-clause-fetched
+returns-in_err-fits-clause-fetched g c =
     root_fetched g.N.Hash.Hashes.of (g.N.Nodes.stands c.args.nodes.now) c.args.top.now c.args.root.now
     (g.N.Nodes.fetches c.args.nodes.now) (g.N.Nodes.fetches c.walk.new.nodes) c.requires.top c.requires.root
     c.walk.ensures.fetched
@@ -106,5 +126,5 @@ returns-clause-fetches_at_most g c =
           c.new-2.result.items c.walk.new.into.nodes.items c.in_ok-seen.seen c.walk.new.seen c.args.pages
           (g.N.Nodes.fetches c.args.nodes.now) (g.N.Nodes.fetches c.walk.new.nodes) c.requires.top c.requires.root
           c.new-2.ensures.items c.in_ok-seen.ensures.told c.in_ok-copied.ensures.same c.in_ok-copied.ensures.walked
-          (sym c.if-count-top.false ∙ c.count.ensures),
+          (sym c.in_ok-fits.ensures.fits ∙ c.count.ensures),
     )

@@ -2,6 +2,7 @@ use Rattle.std.proofs.Common.{sym}
 use Rattle.mr_store.proofs.Listings.{all_refuses, none_listed, root_listed, some_listed}
 use Rattle.mr_store.proofs.Walks.{if_ok, if_err}
 use Rattle.mr_store.proofs.Wholes.{none_fetched, root_fetched, said_count}
+use Rattle.mr_store.proofs.Blames.{said_stops}
 use Rattle.mr_store.proofs.listing.directory_as.Goals as goal
 
 pub returns-in-Some-clause-cause : goal.returns-in-Some-clause-cause
@@ -50,3 +51,10 @@ returns-in-None-clause-says g c =
     (λ d h. none_listed g.N.Hash.Hashes.of (g.N.Nodes.stands c.args.nodes.now) c.args.top.now
     (g.N.Nodes.fetches c.args.nodes.now) d c.requires c.in-None.is h)
     c.empty.ensures.none
+
+pub returns-in-Some-clause-blames : goal.returns-in-Some-clause-blames
+returns-in-Some-clause-blames g c =
+    if_err c.list_all.result _ _
+    (λ e h. said_stops g.N.Hash.Hashes.of (g.N.Nodes.stands c.args.nodes.now) c.args.top.now.root c.in-Some.root
+    (g.N.Nodes.refusal c.list_all.new.nodes) e c.in-Some.is h)
+    c.list_all.ensures.blames

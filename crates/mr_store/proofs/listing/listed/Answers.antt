@@ -5,6 +5,7 @@ use Rattle.mr_store.specs.private.Walk.{CanWalk, StopsWalk}
 use Rattle.mr_store.specs.private.Listing.{CanListAll}
 use Rattle.mr_store.proofs.Walks.{refuses_as}
 use Rattle.mr_store.proofs.Listings.{can_begin, lists_at, lists_tree, miscounted}
+use Rattle.mr_store.proofs.Blames.{root_stops, told_on}
 use Rattle.mr_store.proofs.listing.listed.Goals as goal
 
 pub returns-in_err-_root-clause-cause : goal.returns-in_err-_root-clause-cause
@@ -44,3 +45,15 @@ returns-in_err-fits-clause-cause g c =
     c.in_ok-_root.ensures.walked (g.N.Nodes.faults c.args.nodes.now) (g.N.Nodes.faults c.walk.new.nodes)
     (c.requires.may.positive, c.requires.may.within) c.in_ok-_root.ensures.quiet
     (λ e. c.in_err-fits.ensures.other (c.count.ensures ∙ e))))
+
+pub returns-in_err-fits-clause-blames : goal.returns-in_err-fits-clause-blames
+returns-in_err-fits-clause-blames g c =
+    let p = err_from_is_err_and c.from_residual-in_err-fits.result c.from_residual-in_err-fits.ensures.1 in
+    rw (p.1, p.2) (root_stops g.N.Hash.Hashes.of (g.N.Nodes.stands c.args.nodes.now) c.args.root.now
+    (g.N.Nodes.refusal c.walk.new.nodes) c.in_err-fits.field-0.0 c.in_err-fits.ensures.blames)
+
+pub returns-in_err-_root-clause-answered : goal.returns-in_err-_root-clause-answered
+returns-in_err-_root-clause-answered g c =
+    let p = err_from_is_err_and c.from_residual-in_err-_root.result c.from_residual-in_err-_root.ensures.1 in
+    rw (p.1, p.2) (told_on (g.N.Nodes.refusal c.args.nodes.now) (g.N.Nodes.refusal c.walk.new.nodes)
+    c.in_err-_root.field-0.0 c.in_err-_root.ensures.answered)

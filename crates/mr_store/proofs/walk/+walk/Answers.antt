@@ -10,6 +10,7 @@ use Rattle.mr_tree.specs.declared.tree.Tree.TheOpen.{Leaf, Inner}
 use Rattle.mr_store.specs.private.Walk.{SuitsEntry, IsCounted, IsFull, CanWalk, GathersAll, WalkedAll}
 use Rattle.mr_store.proofs.Walks.{leaf_walked, inner_walked, begun, gathers_more, next_walked, refuses_as, refuses_along, twice_refuses, may_next, next_can, next_count-≤, leaf_ended, if_err}
 use Rattle.mr_store.proofs.Counted.{one_fetch, some_fetches, fetched_more}
+use Rattle.mr_store.proofs.Blames.{look_stops, leaf_stops, below_stops}
 use Rattle.mr_store.proofs.walk.+walk.Goals as goal
 
 pub returns-in_err-look-clause-cause : goal.returns-in_err-look-clause-cause
@@ -268,3 +269,30 @@ returns-in_ok-id-clause-walked g t c =
     (λ fit us made. subst (λ d. g.G.Gather.gathers x c.args.into.now c.inner.new.self d (tree.Inner us))
     (sym c.moved_to.ensures) (c.in_ok-id.ensures.gathers x c.args.into.now c.args.root c.deref-one-items.result.now us
     fit (c.loop-one.invariant.same ∙ ap (map child_entry) whole) made))
+
+pub returns-in_err-look-clause-blames : goal.returns-in_err-look-clause-blames
+returns-in_err-look-clause-blames g t c =
+    let p = err_from_is_err_and c.from_residual.result c.from_residual.ensures.1 in
+    rw (p.1, p.2) (look_stops g.N.Hash.Hashes.of (g.N.Nodes.stands c.args.nodes.now) c.args.child.now
+    (g.N.Nodes.refusal c.look.new.nodes) c.in_err-look.field-0.0 c.in_err-look.ensures.blames)
+
+pub returns-then-level-eq0-clause-blames : goal.returns-then-level-eq0-clause-blames
+returns-then-level-eq0-clause-blames g t c =
+    if_err c.walk_leaf.result _ _
+    (λ e h. leaf_stops g.N.Hash.Hashes.of (g.N.Nodes.stands c.args.nodes.now) c.args.child.now c.records.result.now
+    c.args.seen.now (g.N.Nodes.refusal c.look.new.nodes) e h) c.walk_leaf.ensures.twice
+
+pub returns-in_err-made-clause-blames : goal.returns-in_err-made-clause-blames
+returns-in_err-made-clause-blames g t c =
+    let s = g.N.Nodes.stands c.args.nodes.now in
+    let hash = g.N.Hash.Hashes.of in
+    let high : 0 < c.level.result = omega (arith, c.if-level-eq0.false) in
+    let own : c.deref-one-items.result.now ≡ c.children.result.now = search rules in
+    let is = c.children.ensures.inner (subst (λ n. 0 < n) c.level.ensures.value high)
+    ∙ ap Inner (sym (own ∙ c.children.ensures.value)) in
+    let same = g.met.N.Nodes.kept_stands c.args.nodes.now c.loop-one.nodes c.loop-one.invariant.kept in
+    let shows = subst (ShowsNode hash s c.args.child.now) is c.in_ok-look.ensures.shows in
+    let p = err_from_is_err_and c.from_residual-in_err-made.result c.from_residual-in_err-made.ensures.1 in
+    rw (p.1, p.2) (below_stops hash s (g.N.Nodes.stands c.loop-one.nodes) c.args.child.now c.one-item.result
+    c.deref-one-items.result.now c.loop-one.one-index (g.N.Nodes.refusal c.walk.new.nodes) c.in_err-made.field-0.0
+    same shows c.loop-one-test.true c.one-item.is c.in_err-made.ensures.blames)
