@@ -1,15 +1,23 @@
--- What a walk is stopped by: what a fetch refused, or the page of a node that it came to.
-use Rattle.std.proofs.Common.{◌≡◌, ℕ, ◌<◌, List, [], ◌∷◌, length, get_or, inl, inr, refl, sym, ap, subst}
+-- What a walk is stopped by: what a fetch refused, or the page of a node that it came to and refused.
+use Rattle.std.proofs.Common.{◌≡◌, ℕ, ◌<◌, Bool, true, false, List, [], ◌∷◌, ◌++◌, length, map, take, get_or, inl, inr, refl, sym, ap, subst}
 use Rattle.std.specs.Prelude.{◌⊎◌, Option, Some, Result, Err}
+use Rattle.std.specs.List.{flat_map}
 use Rattle.mr_record.specs.declared.record.Record.{Record}
+use Rattle.mr_record.specs.declared.version.Version.{Version}
+use Rattle.mr_tree.specs.Tree.{records}
+use Rattle.mr_tree.specs.Digest.{by, entry}
+use Rattle.mr_tree.specs.View.{child_entry}
 use Rattle.mr_tree.specs.Nodes.{MapModel, ShowsNode, TellsRefusal}
 use Rattle.mr_tree.specs.declared.child.Child.{Child}
 use Rattle.mr_tree.specs.declared.nodes.NodesErr.{NodesErr}
 use Rattle.mr_tree.specs.declared.nodes.NodesErr.TheVariants as errors
-use Rattle.mr_tree.specs.declared.tree.Tree.TheOpen.{Inner}
+use Rattle.mr_tree.specs.declared.tree.Tree.{Tree}
+use Rattle.mr_tree.specs.declared.tree.Tree.TheOpen.{Leaf, Inner}
+use Rattle.mr_pages.specs.Faults.{numbers_of}
+use Rattle.mr_pages.specs.Walking.{Saw}
 use Rattle.mr_pages.specs.declared.visited.Visited.{Visited}
-use Rattle.mr_store.specs.Blamed.{Reaches, StopsAt}
-use Rattle.mr_store.specs.private.Walk.{IsTwice}
+use Rattle.mr_store.specs.Blamed.{IsBlamed, StopsAs, StopsAt}
+use Rattle.mr_store.specs.private.Walk.{IsUnfit, IsTwice}
 
 -- a refusal is told of whatever would have been answered
 pub told_on : {A B : Type 0} (before after : Option NodesErr) (e : NodesErr) →
@@ -22,50 +30,89 @@ told_on {A} {B} before after e told = record {
     same : (x : NodesErr) → ◌≡◌ {A = Result A NodesErr} (Err e) (Err x) → e ≡ x
     same x h = cc
 
+-- what stands as the last refusal
+pub refusal_stops : (P : ℕ → Type 0) (r : Option NodesErr) (e : NodesErr) → r ≡ Some e → StopsAs P r e
+refusal_stops P r (errors.Page page) h = inl h
+refusal_stops P r (errors.Changed page held found) h = h
+refusal_stops P r (errors.Outside page) h = h
+refusal_stops P r errors.Missing h = h
+refusal_stops P r errors.Fault h = h
+refusal_stops P r errors.NoMemory h = tt
+
+-- a page that is blamed, whatever else was blamed
+pub page_stops : (P : ℕ → Type 0) (r : Option NodesErr) (e : NodesErr) (page : ℕ) → e ≡ errors.Page page → P page →
+    StopsAs P r e
+page_stops P r e page is h = subst (StopsAs P r) (sym is) (inr h)
+
+pub stops_as : (P Q : ℕ → Type 0) (r : Option NodesErr) (e : NodesErr) → ((page : ℕ) → P page → Q page) →
+    StopsAs P r e → StopsAs Q r e
+stops_as P Q r (errors.Page page) f h = elim h [ inl refused ↦ inl refused | inr blamed ↦ inr (f page blamed) ]
+stops_as P Q r (errors.Changed page held found) f h = h
+stops_as P Q r (errors.Outside page) f h = h
+stops_as P Q r errors.Missing f h = h
+stops_as P Q r errors.Fault f h = h
+stops_as P Q r errors.NoMemory f h = tt
+
 module _ (hash : List ℕ → List ℕ) (s : MapModel) where
-  pub refusal_stops : (root : Option Child) (r : Option NodesErr) (e : NodesErr) → r ≡ Some e → StopsAt hash s root r e
-  refusal_stops root r (errors.Page page) h = inl h
-  refusal_stops root r (errors.Changed page held found) h = h
-  refusal_stops root r (errors.Outside page) h = h
-  refusal_stops root r errors.Missing h = h
-  refusal_stops root r errors.Fault h = h
-  refusal_stops root r errors.NoMemory h = tt
+  pub look_stops : (root : Bool) (ns : List ℕ) (c : Child) (r : Option NodesErr) (e : NodesErr) →
+      IsUnfit hash s root c e ⊎ (r ≡ Some e) → StopsAs (IsBlamed hash s root ns c) r e
+  look_stops root ns c r e h = elim h [
+    | inl own ↦ page_stops (IsBlamed hash s root ns c) r e c.id own.page (record {
+      down = [];
+      leads = record { page_is = refl; node = own.node; shows = own.shows; breaks = inl own.unfit };
+    })
+    | inr refused ↦ refusal_stops (IsBlamed hash s root ns c) r e refused
+  ]
+
+  pub leaf_stops : (root : Bool) (pages : ℕ) (ns : List ℕ) (c : Child) (rs : List Record) (before : Visited)
+      (r : Option NodesErr) (e : NodesErr) → ShowsNode hash s c (Leaf rs) → Saw pages before [] ns →
+      IsTwice c.id before rs e → StopsAs (IsBlamed hash s root ns c) r e
+  leaf_stops root pages ns c rs before r (errors.Page page) shows saw h = inr (record {
+    down = [];
+    leads = record { page_is = h.0; node = Leaf rs; shows = shows; breaks = inr (h.1 pages ns saw) };
+  })
+  leaf_stops root pages ns c rs before r (errors.Changed page held found) shows saw h = absurd h
+  leaf_stops root pages ns c rs before r (errors.Outside page) shows saw h = absurd h
+  leaf_stops root pages ns c rs before r errors.Missing shows saw h = absurd h
+  leaf_stops root pages ns c rs before r errors.Fault shows saw h = absurd h
+  leaf_stops root pages ns c rs before r errors.NoMemory shows saw h = tt
+
+  -- what stops a walk from a child that a node names
+  pub below_stops : (v : Version) (s' : MapModel) (root : Bool) (c d : Child) (children : List Child) (i : ℕ)
+      (left : List Tree) (ns : List ℕ) (r : Option NodesErr) (e : NodesErr) → s.version ≡ v → s' ≡ s →
+      ShowsNode hash s c (Inner children) → i < length children → d ≡ get_or children i d →
+      map child_entry (take i children) ≡ map (entry (by v hash)) left →
+      StopsAs (IsBlamed hash s' false (ns ++ numbers_of (flat_map records left)) d) r e →
+      StopsAs (IsBlamed hash s root ns c) r e
+  below_stops v s' root c d children i left ns r e one same shows within is known h =
+      let met = ns ++ numbers_of (flat_map records left) in
+      stops_as (IsBlamed hash s' false met d) (IsBlamed hash s root ns c) r e
+      (λ page blamed.
+      let q = subst (λ y. IsBlamed hash y false met d page) same blamed in
+      record {
+        down = (d, left) ∷ q.down;
+        leads = (
+          record {
+            children = children;
+            place = i;
+            shows = shows;
+            within = within;
+            is = is;
+            known = subst (λ w. map child_entry (take i children) ≡ map (entry (by w hash)) left) (sym one) known;
+          },
+          q.leads,
+        );
+      }) h
+
+  -- a walk from the root
+  pub walk_stops : (c : Child) (r : Option NodesErr) (e : NodesErr) →
+      StopsAs (IsBlamed hash s true [] c) r e → StopsAt hash s (Some c) r e
+  walk_stops c r e h = stops_as (IsBlamed hash s true [] c)
+      (λ page. (page ≡ c.id) ⊎ IsBlamed hash s true [] c page) r e (λ page blamed. inr blamed) h
 
   pub root_stops : (c : Child) (r : Option NodesErr) (e : NodesErr) → e ≡ errors.Page c.id →
       StopsAt hash s (Some c) r e
-  root_stops c r e is = subst (StopsAt hash s (Some c) r) (sym is) (inr (record { below = []; leads = refl }))
-
-  pub look_stops : (c : Child) (r : Option NodesErr) (e : NodesErr) → (e ≡ errors.Page c.id) ⊎ (r ≡ Some e) →
-      StopsAt hash s (Some c) r e
-  look_stops c r e h = elim h [ inl own ↦ root_stops c r e own | inr refused ↦ refusal_stops (Some c) r e refused ]
-
-  pub leaf_stops : (c : Child) (rs : List Record) (before : Visited) (r : Option NodesErr) (e : NodesErr) →
-      IsTwice c.id before rs e → StopsAt hash s (Some c) r e
-  leaf_stops c rs before r (errors.Page page) h = inr (record { below = []; leads = h.0 })
-  leaf_stops c rs before r (errors.Changed page held found) h = absurd h
-  leaf_stops c rs before r (errors.Outside page) h = absurd h
-  leaf_stops c rs before r errors.Missing h = absurd h
-  leaf_stops c rs before r errors.Fault h = absurd h
-  leaf_stops c rs before r errors.NoMemory h = tt
-
-  -- what stops a walk from a child that a node names
-  pub below_stops : (s' : MapModel) (c d : Child) (children : List Child) (i : ℕ) (r : Option NodesErr)
-      (e : NodesErr) → s' ≡ s → ShowsNode hash s c (Inner children) → i < length children →
-      d ≡ get_or children i d → StopsAt hash s' (Some d) r e → StopsAt hash s (Some c) r e
-  below_stops s' c d children i r (errors.Page page) same shows within is h = elim h [
-    | inl refused ↦ inl refused
-    | inr reaches ↦
-        let q = subst (λ y. Reaches hash y d page) same reaches in
-        inr (record {
-          below = d ∷ q.below;
-          leads = (record { children = children; shows = shows; has = (i, within, sym is) }, q.leads);
-        })
-  ]
-  below_stops s' c d children i r (errors.Changed page held found) same shows within is h = h
-  below_stops s' c d children i r (errors.Outside page) same shows within is h = h
-  below_stops s' c d children i r errors.Missing same shows within is h = h
-  below_stops s' c d children i r errors.Fault same shows within is h = h
-  below_stops s' c d children i r errors.NoMemory same shows within is h = tt
+  root_stops c r e is = page_stops (λ page. (page ≡ c.id) ⊎ IsBlamed hash s true [] c page) r e c.id is (inl refl)
 
   -- what stops a walk from the root that is said
   pub said_stops : (root : Option Child) (c : Child) (r : Option NodesErr) (e : NodesErr) → root ≡ Some c →

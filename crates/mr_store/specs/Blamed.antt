@@ -1,36 +1,71 @@
 -- What a walk over the nodes of a map is stopped by, whether or not its tree is told.
-use Rattle.std.specs.Prelude.{◌≡◌, ⊤, ◌⊎◌, ℕ, List, [], ◌∷◌, Contains, Option, Some, IsSomeAnd}
+use Rattle.std.specs.Prelude.{◌≡◌, ⊤, ◌⊎◌, ℕ, ◌<◌, Bool, true, false, List, [], ◌∷◌, ◌++◌, map, length, take, get_or, Option, Some, IsSomeAnd}
+use Rattle.std.specs.List.{flat_map}
+use Rattle.mr_tree.specs.Tree.{records}
+use Rattle.mr_tree.specs.Digest.{by, entry}
+use Rattle.mr_tree.specs.View as view
 use Rattle.mr_tree.specs.Nodes.{MapModel, ShowsNode, IsTop}
 use Rattle.mr_tree.specs.declared.child.Child.{Child}
 use Rattle.mr_tree.specs.declared.nodes.NodesErr.{NodesErr}
 use Rattle.mr_tree.specs.declared.nodes.NodesErr.TheVariants as errors
 use Rattle.mr_tree.specs.declared.nodes.Top.{Top}
-use Rattle.mr_tree.specs.declared.tree.Tree.TheOpen.{Inner}
+use Rattle.mr_tree.specs.declared.tree.Tree.{Tree}
+use Rattle.mr_tree.specs.declared.tree.Tree.TheOpen.{Empty, Leaf, Inner}
+use Rattle.mr_pages.specs.Faults.{numbers_of, repeats}
+use Rattle.mr_pages.specs.private.Judging.{fits_entry}
 
--- a fetch of this child may show a node that names the other
-pub record Names (hash : List ℕ → List ℕ) (s : MapModel) (c d : Child) : Type 0 where
+-- the numbers of a leaf's records
+abbrev pub numbers_in : view.Node → List ℕ
+numbers_in Empty = []
+numbers_in (Leaf rs) = numbers_of rs
+numbers_in (Inner children) = []
+
+-- A fetch of this child may show a node with these children, and a walk goes down to the one at
+-- this place. Left of it stand trees that have the entries that are told of them.
+pub record GoesDown (hash : List ℕ → List ℕ) (s : MapModel) (c d : Child) (left : List Tree)
+    : Type 0 where
   pub children : List Child
+  pub place : ℕ
   pub shows : ShowsNode hash s c (Inner children)
-  pub has : Contains children d
+  pub within : place < length children
+  pub is : d ≡ get_or children place d
+  pub known : map view.child_entry (take place children) ≡ map (entry (by s.version hash)) left
 
--- each of these is named by the one before it, the first by this child, and the last has the page
-abbrev pub LeadsTo : (List ℕ → List ℕ) → MapModel → Child → List Child → (page : ℕ) → Type 0
-LeadsTo hash s c [] page = page ≡ c.id
-LeadsTo hash s c (d ∷ ds) page = Names hash s c d × LeadsTo hash s d ds page
+-- The page is that of this child, and a fetch of it may show a node that is refused: one that does
+-- not have what is told of it or too few entries, or one with a number that was met before.
+pub record IsRefused (hash : List ℕ → List ℕ) (s : MapModel) (root : Bool) (met : List ℕ)
+    (c : Child) (page : ℕ) : Type 0 where
+  pub page_is : page ≡ c.id
+  pub node : view.Node
+  pub shows : ShowsNode hash s c node
+  pub breaks : (fits_entry s.version root c node ≡ false) ⊎ (repeats met (numbers_in node) ≡ true)
 
--- the page is that of this child, or of one below it
-pub record Reaches (hash : List ℕ → List ℕ) (s : MapModel) (c : Child) (page : ℕ) : Type 0 where
-  pub below : List Child
-  pub leads : LeadsTo hash s c below page
+-- going down from this child, these numbers having been met, a walk comes to one that is refused
+abbrev pub LeadsTo : (List ℕ → List ℕ) → MapModel → (root : Bool) → (met : List ℕ) → Child →
+    List (Child × List Tree) → (page : ℕ) → Type 0
+LeadsTo hash s root met c [] page = IsRefused hash s root met c page
+LeadsTo hash s root met c (d ∷ ds) page = GoesDown hash s c d.0 d.1
+    × LeadsTo hash s false (met ++ numbers_of (flat_map records d.1)) d.0 ds page
 
--- A walk from the root stops with what a fetch refused, which then stands as the last refusal, or
--- with the page of a node that it came to; or there was no memory.
+-- the page is blamed by a walk from this child
+pub record IsBlamed (hash : List ℕ → List ℕ) (s : MapModel) (root : Bool) (met : List ℕ)
+    (c : Child) (page : ℕ) : Type 0 where
+  pub down : List (Child × List Tree)
+  pub leads : LeadsTo hash s root met c down page
+
+-- What was answered stands as the last refusal of a fetch, or it is a page that is blamed; or there
+-- was no memory.
+abbrev pub StopsAs : (Blamed : ℕ → Type 0) → (refusal : Option NodesErr) → NodesErr → Type 0
+StopsAs Blamed refusal (errors.Page page) = (refusal ≡ Some (errors.Page page)) ⊎ Blamed page
+StopsAs Blamed refusal errors.NoMemory = ⊤
+StopsAs Blamed refusal e = refusal ≡ Some e
+
+-- The same of a walk from the root, before which no number was met. The root is blamed besides,
+-- where another number of records was met than is told.
 abbrev pub StopsAt : (List ℕ → List ℕ) → MapModel → (root : Option Child) →
     (refusal : Option NodesErr) → NodesErr → Type 0
-StopsAt hash s root refusal (errors.Page page) =
-    (refusal ≡ Some (errors.Page page)) ⊎ IsSomeAnd root (λ c. Reaches hash s c page)
-StopsAt hash s root refusal errors.NoMemory = ⊤
-StopsAt hash s root refusal e = refusal ≡ Some e
+StopsAt hash s root refusal e = StopsAs
+    (λ page. IsSomeAnd root (λ c. (page ≡ c.id) ⊎ IsBlamed hash s true [] c page)) refusal e
 
 -- the same from the root that a map which stands so may say of itself
 abbrev pub StopsMap : (List ℕ → List ℕ) → MapModel → (refusal : Option NodesErr) → NodesErr →

@@ -1,6 +1,6 @@
 //! A walk over the nodes of a map, each of which is fetched once.
 
-ghost use Rattle.std.specs.Prelude.{◌≡◌, ◌≤◌, ◌⊎◌, ◌+◌, Bool, List, map, length, Some, IfOk, IfErr, IsSome, OnOk};
+ghost use Rattle.std.specs.Prelude.{◌≡◌, ◌≤◌, ◌⊎◌, ◌+◌, ℕ, Bool, List, [], map, length, Some, IfOk, IfErr, IsSome, OnOk};
 ghost use Rattle.mr_outside.specs.Faults.{next_count};
 ghost use Rattle.mr_tree.specs.Digest.{Scheme, by};
 ghost use Rattle.mr_tree.specs.Nodes.{MayFetch, ShowsNode, TellsRefusal};
@@ -10,8 +10,9 @@ ghost use Rattle.mr_tree.specs.declared.nodes.NodesErr.TheVariants as errors;
 ghost use Rattle.mr_tree.specs.declared.tree.Tree as trees;
 ghost use Rattle.mr_tree.specs.declared.tree.Tree.TheVariants as tree;
 ghost use Rattle.mr_tree.specs.declared.tree.Tree.TheOpen.{Leaf, Inner};
-ghost use Rattle.mr_store.specs.Blamed.{StopsAt};
-ghost use Rattle.mr_store.specs.private.Walk.{SuitsEntry, IsCounted, IsFull, CanWalk, AddsNumbers, moved, nodes_at, GathersAll, Walked, StopsWalk, IsTwice};
+ghost use Rattle.mr_pages.specs.Walking.{Saw};
+ghost use Rattle.mr_store.specs.Blamed.{StopsAs, IsBlamed};
+ghost use Rattle.mr_store.specs.private.Walk.{SuitsEntry, IsCounted, IsFull, CanWalk, AddsNumbers, moved, nodes_at, GathersAll, Walked, StopsWalk, IsUnfit, IsTwice};
 
 use mr_pages::{Visited, is_fit, moved_to};
 use mr_record::{Record, Version};
@@ -62,8 +63,8 @@ fn look<N: Nodes>(
     ensures answered { TellsRefusal (λ e. e) (N.refusal nodes.old) (N.refusal nodes.new) result }
     ensures cause { IfErr result (StopsWalk (N.stands nodes.old) (N.faults nodes.old)
         (N.faults nodes.new) (IsFull (N.stands nodes.old) root child.now)) }
-    // The child's page is blamed, unless this is what the fetch refused.
-    ensures blames { IfErr result (λ e. (e ≡ errors.Page child.now.id)
+    // The child's page is blamed for what was shown, or else this is what the fetch refused.
+    ensures blames { IfErr result (λ e. IsUnfit N.Hash.of (N.stands nodes.old) root child.now e
         ⊎ (N.refusal nodes.new ≡ Some e)) }
 {
     nodes.fetch(child, view)?;
@@ -130,8 +131,9 @@ pub(crate) fn walk<N: Nodes, G: Gather>(
     ensures answered { TellsRefusal (λ e. e) (N.refusal nodes.old) (N.refusal nodes.new) result }
     ensures cause { IfErr result (StopsWalk (N.stands nodes.old) (N.faults nodes.old)
         (N.faults nodes.new) (CanWalk (N.stands nodes.old) root seen.old child.now)) }
-    ensures blames { IfErr result (StopsAt N.Hash.of (N.stands nodes.old) (Some child.now)
-        (N.refusal nodes.new)) }
+    ensures blames { IfErr result (λ e. (pages : ℕ) (ns : List ℕ) → Saw pages seen.old [] ns →
+        StopsAs (IsBlamed N.Hash.of (N.stands nodes.old) root ns child.now)
+        (N.refusal nodes.new) e) }
 {
     look(version, nodes, child, root, view)?;
     if view.level() == 0 {

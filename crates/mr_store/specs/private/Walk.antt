@@ -9,7 +9,7 @@ use Rattle.mr_tree.specs.Tree.{records}
 use Rattle.mr_tree.specs.Digest.{Scheme, entry}
 use Rattle.mr_tree.specs.WellFormed.{HasOneLevel, HasLayers}
 use Rattle.mr_tree.specs.View as view
-use Rattle.mr_tree.specs.Nodes.{MapModel, IsId, HasSomeCause, subtrees}
+use Rattle.mr_tree.specs.Nodes.{MapModel, IsId, ShowsNode, HasSomeCause, subtrees}
 use Rattle.mr_tree.specs.declared.child.Child.{Child}
 use Rattle.mr_tree.specs.declared.nodes.NodesErr.{NodesErr}
 use Rattle.mr_tree.specs.declared.nodes.NodesErr.TheVariants as errors
@@ -19,6 +19,7 @@ use Rattle.mr_tree.specs.declared.tree.Tree.TheFolds.{every-Tree}
 use Rattle.mr_pages.specs.Faults.{numbers_of, repeats}
 pub use Rattle.mr_pages.specs.Gathering.{SuitsEntry, IsCounted, moved}
 unfoldable pub use Rattle.mr_pages.specs.Gathering.{GathersAll}
+use Rattle.mr_pages.specs.private.Judging.{fits_entry}
 use Rattle.mr_pages.specs.Walking.{Saw}
 use Rattle.mr_pages.specs.declared.visited.Visited.{Visited}
 use Rattle.mr_pages.proofs.Building.{FilledAs}
@@ -104,6 +105,14 @@ abbrev pub StopsWalk : MapModel → (before after : ℕ) → (known : Type 0) �
 StopsWalk s before after known (errors.Page page) = IsId s page × (after ≡ before)
     × (IsSome s.tree → known → ⊥)
 StopsWalk s before after known e = HasSomeCause s before after e
+
+-- the page of the child is blamed for a node that a fetch of it may show
+pub record IsUnfit (hash : List ℕ → List ℕ) (s : MapModel) (root : Bool) (c : Child) (e : NodesErr)
+    : Type 0 where
+  pub page : e ≡ errors.Page c.id
+  pub node : view.Node
+  pub shows : ShowsNode hash s c node
+  pub unfit : fits_entry s.version root c node ≡ false
 
 -- a record's number was met before
 abbrev pub IsTwice : (page : ℕ) → Visited → List Record → NodesErr → Type 0

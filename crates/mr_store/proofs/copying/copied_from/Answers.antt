@@ -1,10 +1,10 @@
-use Rattle.std.proofs.Common.{sym, subst, ap, length, arith, ◌∙◌}
+use Rattle.std.proofs.Common.{[], sym, subst, ap, length, arith, ◌∙◌}
 use Rattle.std.specs.Prelude.{IfSome}
 use Rattle.std.proofs.lemmas.Result.{err_from_is_err_and}
 use Rattle.mr_tree.specs.Nodes.{MapModel, MayFetch, HasSomeCause}
 use Rattle.mr_store.specs.Stored.{IsSaid}
 use Rattle.mr_store.proofs.Wholes.{whole_well, whole_said, whole_snapshot, whole_stands, once_each, miscounted, refuses_all, none_fetched, root_fetched}
-use Rattle.mr_store.proofs.Blames.{root_stops, said_stops}
+use Rattle.mr_store.proofs.Blames.{walk_stops, root_stops, said_stops}
 use Rattle.mr_store.proofs.copying.copied_from.Goals as goal
 
 pub walk-requires-clause-version : goal.walk-requires-clause-version
@@ -63,7 +63,9 @@ returns-in_err-copied-clause-blames g c =
     let p = err_from_is_err_and c.from_residual-in_err-copied.result c.from_residual-in_err-copied.ensures.1 in
     rw (p.1, p.2) (said_stops g.N.Hash.Hashes.of (g.N.Nodes.stands c.args.nodes.now) c.args.top.now.root
     c.args.root.now (g.N.Nodes.refusal c.walk.new.nodes) c.in_err-copied.field-0.0 c.requires.root
-    c.in_err-copied.ensures.blames)
+    (walk_stops g.N.Hash.Hashes.of (g.N.Nodes.stands c.args.nodes.now) c.args.root.now
+    (g.N.Nodes.refusal c.walk.new.nodes) c.in_err-copied.field-0.0
+    (c.in_err-copied.ensures.blames c.args.pages [] c.in_ok-seen.ensures.told)))
 
 pub returns-in_err-fits-clause-blames : goal.returns-in_err-fits-clause-blames
 returns-in_err-fits-clause-blames g c =

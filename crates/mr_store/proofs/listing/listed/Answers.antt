@@ -1,11 +1,11 @@
-use Rattle.std.proofs.Common.{true, sym, subst, ◌∙◌}
+use Rattle.std.proofs.Common.{[], true, sym, subst, ◌∙◌}
 use Rattle.std.proofs.lemmas.Result.{err_from_is_err_and}
 use Rattle.mr_tree.specs.Digest.{by}
 use Rattle.mr_store.specs.private.Walk.{CanWalk, StopsWalk}
 use Rattle.mr_store.specs.private.Listing.{CanListAll}
 use Rattle.mr_store.proofs.Walks.{refuses_as}
 use Rattle.mr_store.proofs.Listings.{can_begin, lists_at, lists_tree, miscounted}
-use Rattle.mr_store.proofs.Blames.{root_stops, told_on}
+use Rattle.mr_store.proofs.Blames.{walk_stops, root_stops, told_on}
 use Rattle.mr_store.proofs.listing.listed.Goals as goal
 
 pub returns-in_err-_root-clause-cause : goal.returns-in_err-_root-clause-cause
@@ -57,3 +57,11 @@ returns-in_err-_root-clause-answered g c =
     let p = err_from_is_err_and c.from_residual-in_err-_root.result c.from_residual-in_err-_root.ensures.1 in
     rw (p.1, p.2) (told_on (g.N.Nodes.refusal c.args.nodes.now) (g.N.Nodes.refusal c.walk.new.nodes)
     c.in_err-_root.field-0.0 c.in_err-_root.ensures.answered)
+
+pub returns-in_err-_root-clause-blames : goal.returns-in_err-_root-clause-blames
+returns-in_err-_root-clause-blames g c =
+    let p = err_from_is_err_and c.from_residual-in_err-_root.result c.from_residual-in_err-_root.ensures.1 in
+    let none = c.in_ok-seen.ensures.none in
+    rw (p.1, p.2) (walk_stops g.N.Hash.Hashes.of (g.N.Nodes.stands c.args.nodes.now) c.args.root.now
+    (g.N.Nodes.refusal c.walk.new.nodes) c.in_err-_root.field-0.0
+    (c.in_err-_root.ensures.blames none.0 [] none.1))

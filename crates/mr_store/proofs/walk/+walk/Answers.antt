@@ -10,6 +10,9 @@ use Rattle.mr_tree.specs.declared.tree.Tree.TheOpen.{Leaf, Inner}
 use Rattle.mr_store.specs.private.Walk.{SuitsEntry, IsCounted, IsFull, CanWalk, GathersAll, WalkedAll}
 use Rattle.mr_store.proofs.Walks.{leaf_walked, inner_walked, begun, gathers_more, next_walked, refuses_as, refuses_along, twice_refuses, may_next, next_can, next_count-≤, leaf_ended, if_err}
 use Rattle.mr_store.proofs.Counted.{one_fetch, some_fetches, fetched_more}
+use Rattle.std.specs.List.{flat_map}
+use Rattle.mr_tree.specs.Tree.{records}
+use Rattle.mr_pages.specs.Faults.{numbers_of}
 use Rattle.mr_store.proofs.Blames.{look_stops, leaf_stops, below_stops}
 use Rattle.mr_store.proofs.walk.+walk.Goals as goal
 
@@ -273,14 +276,19 @@ returns-in_ok-id-clause-walked g t c =
 pub returns-in_err-look-clause-blames : goal.returns-in_err-look-clause-blames
 returns-in_err-look-clause-blames g t c =
     let p = err_from_is_err_and c.from_residual.result c.from_residual.ensures.1 in
-    rw (p.1, p.2) (look_stops g.N.Hash.Hashes.of (g.N.Nodes.stands c.args.nodes.now) c.args.child.now
-    (g.N.Nodes.refusal c.look.new.nodes) c.in_err-look.field-0.0 c.in_err-look.ensures.blames)
+    rw (p.1, p.2) (λ pages ns saw. look_stops g.N.Hash.Hashes.of (g.N.Nodes.stands c.args.nodes.now) c.args.root ns
+    c.args.child.now (g.N.Nodes.refusal c.look.new.nodes) c.in_err-look.field-0.0 c.in_err-look.ensures.blames)
 
 pub returns-then-level-eq0-clause-blames : goal.returns-then-level-eq0-clause-blames
 returns-then-level-eq0-clause-blames g t c =
+    let s = g.N.Nodes.stands c.args.nodes.now in
+    let hash = g.N.Hash.Hashes.of in
+    let is = c.records.ensures.leaf (sym c.level.ensures.value ∙ c.if-level-eq0.true)
+    ∙ ap Leaf (sym c.records.ensures.value) in
     if_err c.walk_leaf.result _ _
-    (λ e h. leaf_stops g.N.Hash.Hashes.of (g.N.Nodes.stands c.args.nodes.now) c.args.child.now c.records.result.now
-    c.args.seen.now (g.N.Nodes.refusal c.look.new.nodes) e h) c.walk_leaf.ensures.twice
+    (λ e h pages ns saw. leaf_stops hash s c.args.root pages ns c.args.child.now c.records.result.now
+    c.args.seen.now (g.N.Nodes.refusal c.look.new.nodes) e
+    (subst (ShowsNode hash s c.args.child.now) is c.in_ok-look.ensures.shows) saw h) c.walk_leaf.ensures.twice
 
 pub returns-in_err-made-clause-blames : goal.returns-in_err-made-clause-blames
 returns-in_err-made-clause-blames g t c =
@@ -292,7 +300,10 @@ returns-in_err-made-clause-blames g t c =
     ∙ ap Inner (sym (own ∙ c.children.ensures.value)) in
     let same = g.met.N.Nodes.kept_stands c.args.nodes.now c.loop-one.nodes c.loop-one.invariant.kept in
     let shows = subst (ShowsNode hash s c.args.child.now) is c.in_ok-look.ensures.shows in
+    let all = c.loop-one.invariant.all in
     let p = err_from_is_err_and c.from_residual-in_err-made.result c.from_residual-in_err-made.ensures.1 in
-    rw (p.1, p.2) (below_stops hash s (g.N.Nodes.stands c.loop-one.nodes) c.args.child.now c.one-item.result
-    c.deref-one-items.result.now c.loop-one.one-index (g.N.Nodes.refusal c.walk.new.nodes) c.in_err-made.field-0.0
-    same shows c.loop-one-test.true c.one-item.is c.in_err-made.ensures.blames)
+    rw (p.1, p.2) (λ pages ns saw. below_stops hash s c.args.version (g.N.Nodes.stands c.loop-one.nodes) c.args.root
+    c.args.child.now c.one-item.result c.deref-one-items.result.now c.loop-one.one-index all.below ns
+    (g.N.Nodes.refusal c.walk.new.nodes) c.in_err-made.field-0.0 c.requires.version same shows
+    c.loop-one-test.true c.one-item.is all.known
+    (c.in_err-made.ensures.blames pages (ns ++ numbers_of (flat_map records all.below)) (all.met pages ns saw).1))
