@@ -1,7 +1,8 @@
 -- What a walk is stopped by: what a fetch refused, or the page of a node that it came to and refused.
-use Rattle.std.proofs.Common.{◌≡◌, ℕ, ◌<◌, Bool, true, false, List, [], ◌∷◌, ◌++◌, length, map, take, get_or, inl, inr, refl, sym, ap, subst}
+use Rattle.std.proofs.Common.{◌≡◌, ◌≢◌, ℕ, ◌<◌, Bool, true, false, List, [], ◌∷◌, ◌++◌, length, map, take, get_or, inl, inr, refl, sym, ap, subst, ◌∙◌}
 use Rattle.std.specs.Prelude.{◌⊎◌, Option, Some, Result, Err}
 use Rattle.std.specs.List.{flat_map}
+use Rattle.std.proofs.lemmas.List.{length-map}
 use Rattle.mr_record.specs.declared.record.Record.{Record}
 use Rattle.mr_record.specs.declared.version.Version.{Version}
 use Rattle.mr_tree.specs.Tree.{records}
@@ -15,9 +16,10 @@ use Rattle.mr_tree.specs.declared.tree.Tree.{Tree}
 use Rattle.mr_tree.specs.declared.tree.Tree.TheOpen.{Leaf, Inner}
 use Rattle.mr_pages.specs.Faults.{numbers_of}
 use Rattle.mr_pages.specs.Walking.{Saw}
+use Rattle.mr_pages.specs.private.Numbers.{count_kept}
 use Rattle.mr_pages.specs.declared.visited.Visited.{Visited}
-use Rattle.mr_store.specs.Blamed.{IsBlamed, StopsAs, StopsAt}
-use Rattle.mr_store.specs.private.Walk.{IsUnfit, IsTwice}
+use Rattle.mr_store.specs.Blamed.{IsBlamed, IsMiscounted, StopsAs, StopsAt}
+use Rattle.mr_store.specs.private.Walk.{IsUnfit, IsTwice, Walked}
 
 -- a refusal is told of whatever would have been answered
 pub told_on : {A B : Type 0} (before after : Option NodesErr) (e : NodesErr) →
@@ -105,16 +107,28 @@ module _ (hash : List ℕ → List ℕ) (s : MapModel) where
       }) h
 
   -- a walk from the root
-  pub walk_stops : (c : Child) (r : Option NodesErr) (e : NodesErr) →
-      StopsAs (IsBlamed hash s true [] c) r e → StopsAt hash s (Some c) r e
-  walk_stops c r e h = stops_as (IsBlamed hash s true [] c)
-      (λ page. (page ≡ c.id) ⊎ IsBlamed hash s true [] c page) r e (λ page blamed. inr blamed) h
+  pub walk_stops : (c : Child) (count : ℕ) (r : Option NodesErr) (e : NodesErr) →
+      StopsAs (IsBlamed hash s true [] c) r e → StopsAt hash s (Some c) count r e
+  walk_stops c count r e h = stops_as (IsBlamed hash s true [] c)
+      (λ page. IsMiscounted hash s c count page ⊎ IsBlamed hash s true [] c page) r e (λ page blamed. inr blamed) h
 
-  pub root_stops : (c : Child) (r : Option NodesErr) (e : NodesErr) → e ≡ errors.Page c.id →
-      StopsAt hash s (Some c) r e
-  root_stops c r e is = page_stops (λ page. (page ≡ c.id) ⊎ IsBlamed hash s true [] c page) r e c.id is (inl refl)
+  pub root_stops : (v : Version) (c : Child) (count met pages : ℕ) (before after : Visited) (f f' : ℕ)
+      (made : Tree → Type 0) (r : Option NodesErr) (e : NodesErr) → s.version ≡ v → e ≡ errors.Page c.id →
+      Saw pages before [] [] → Walked (by v hash) s true c before after f f' made →
+      met ≡ count_kept after.numbers → met ≢ count → StopsAt hash s (Some c) count r e
+  root_stops v c count met pages before after f f' made r e one is start walked counted other =
+      let t = walked.under in
+      let saw = (walked.met pages [] start).1 in
+      let all : met ≡ length (records t) =
+      counted ∙ saw.met.count ∙ length-map (records t) (λ (y : Record). y.number) in
+      page_stops (λ page. IsMiscounted hash s c count page ⊎ IsBlamed hash s true [] c page) r e c.id is (inl (record {
+        page_is = refl;
+        tree = t;
+        digest = subst (λ w. (entry (by w hash) t).digest ≡ c.digest) (sym one) walked.digest;
+        other = λ same. other (all ∙ same);
+      }))
 
   -- what stops a walk from the root that is said
-  pub said_stops : (root : Option Child) (c : Child) (r : Option NodesErr) (e : NodesErr) → root ≡ Some c →
-      StopsAt hash s (Some c) r e → StopsAt hash s root r e
-  said_stops root c r e is h = subst (λ o. StopsAt hash s o r e) (sym is) h
+  pub said_stops : (root : Option Child) (c : Child) (count : ℕ) (r : Option NodesErr) (e : NodesErr) →
+      root ≡ Some c → StopsAt hash s (Some c) count r e → StopsAt hash s root count r e
+  said_stops root c count r e is h = subst (λ o. StopsAt hash s o count r e) (sym is) h

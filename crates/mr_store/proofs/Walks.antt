@@ -218,12 +218,13 @@ next_count-≤ n = omega arith
 
 pub leaf_walked : (x : Scheme) (hash : List ℕ → List ℕ) (s : MapModel) (root : Bool) (child : Child)
     (rs : List Record) (before after : Visited) (f f' : ℕ) (made : Tree → Type 0) → MayFetch hash s child →
-    ShowsNode hash s child (Leaf rs) →
+    ShowsNode hash s child (Leaf rs) → x.of (view.preimage_of x.version (Leaf rs)) ≡ child.digest →
     (IsCounted root child (view.count_over x.version (Leaf rs)) → SuitsEntry x root child (Leaf rs)) →
     f' ≡ next_count f → AddsNumbers before after rs → (SuitsEntry x root child (Leaf rs) → made (tree.Leaf rs)) →
     Walked x s root child before after f f' made
-leaf_walked x hash s root child rs before after f f' made may shows suits count met is = record {
+leaf_walked x hash s root child rs before after f f' made may shows digest suits count met is = record {
   under = tree.Leaf rs;
+  digest = ap (λ (e : Entry). e.digest) (entry-Leaf x rs) ∙ digest;
   met = subst (AddsNumbers before after) (sym (records-Leaf rs)) met;
   same = λ told. told_leaf s (s.node child.id) rs (some_of (s.node child.id) _ (may.known told)) shows.node;
   once = omega (arith, count, next_count-≤ f, ap length (subtrees-Leaf rs));
@@ -293,15 +294,18 @@ fine_inner x root cs us fits known full fine =
 pub inner_walked : (x : Scheme) (hash : List ℕ → List ℕ) (s : MapModel) (root : Bool) (child : Child)
     (children : List Child) (before after : Visited) (f f' : ℕ) (made : Tree → Type 0) (made_all : List Tree → Type 0) →
     MayFetch hash s child → ShowsNode hash s child (Inner children) →
+    x.of (view.preimage_of x.version (Inner children)) ≡ child.digest →
     (IsCounted root child (view.count_over x.version (Inner children)) → SuitsEntry x root child (Inner children)) →
     WalkedAll x s children before after (f + 1) f' made_all →
     (SuitsEntry x root child (Inner children) → (us : List Tree) → made_all us → made (tree.Inner us)) →
     Walked x s root child before after f f' made
-inner_walked x hash s root child children before after f f' made made_all may shows suits all is =
+inner_walked x hash s root child children before after f f' made made_all may shows digest suits all is =
     let us = all.below in
     let nodes = ap length (subtrees-Inner us) ∙ length-append (flat_map subtrees us) (tree.Inner us ∷ []) in
     record {
       under = tree.Inner us;
+      digest = ap (λ (e : Entry). e.digest) (entry-Inner x us ∙ ap (λ es. entry_step x (Inner es)) (sym all.known))
+          ∙ digest;
       met = subst (AddsNumbers before after) (sym (records-Inner us ∙ of_images us)) all.met;
       same = λ told. told_inner s (s.node child.id) children us (some_of (s.node child.id) _ (may.known told))
           shows.node (all.same told);

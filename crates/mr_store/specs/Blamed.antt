@@ -1,5 +1,5 @@
 -- What a walk over the nodes of a map is stopped by, whether or not its tree is told.
-use Rattle.std.specs.Prelude.{◌≡◌, ⊤, ◌⊎◌, ℕ, ◌<◌, Bool, true, false, List, [], ◌∷◌, ◌++◌, map, length, take, get_or, Option, Some, IsSomeAnd}
+use Rattle.std.specs.Prelude.{◌≡◌, ◌≢◌, ⊤, ◌⊎◌, ℕ, ◌<◌, Bool, true, false, List, [], ◌∷◌, ◌++◌, map, length, take, get_or, Option, Some, IsSomeAnd}
 use Rattle.std.specs.List.{flat_map}
 use Rattle.mr_tree.specs.Tree.{records}
 use Rattle.mr_tree.specs.Digest.{by, entry}
@@ -60,15 +60,24 @@ StopsAs Blamed refusal (errors.Page page) = (refusal ≡ Some (errors.Page page)
 StopsAs Blamed refusal errors.NoMemory = ⊤
 StopsAs Blamed refusal e = refusal ≡ Some e
 
--- The same of a walk from the root, before which no number was met. The root is blamed besides,
--- where another number of records was met than is told.
-abbrev pub StopsAt : (List ℕ → List ℕ) → MapModel → (root : Option Child) →
+-- The page is that of the root, and a tree with the digest that is told of it has another number of
+-- records than is told.
+pub record IsMiscounted (hash : List ℕ → List ℕ) (s : MapModel) (root : Child) (count page : ℕ)
+    : Type 0 where
+  pub page_is : page ≡ root.id
+  pub tree : Tree
+  pub digest : (entry (by s.version hash) tree).digest ≡ root.digest
+  pub other : length (records tree) ≢ count
+
+-- The same of a walk over a map with this root, of which so many records are told. Before it no
+-- number was met.
+abbrev pub StopsAt : (List ℕ → List ℕ) → MapModel → (root : Option Child) → (count : ℕ) →
     (refusal : Option NodesErr) → NodesErr → Type 0
-StopsAt hash s root refusal e = StopsAs
-    (λ page. IsSomeAnd root (λ c. (page ≡ c.id) ⊎ IsBlamed hash s true [] c page)) refusal e
+StopsAt hash s root count refusal e = StopsAs (λ page. IsSomeAnd root
+    (λ c. IsMiscounted hash s c count page ⊎ IsBlamed hash s true [] c page)) refusal e
 
 -- the same from the root that a map which stands so may say of itself
 abbrev pub StopsMap : (List ℕ → List ℕ) → MapModel → (refusal : Option NodesErr) → NodesErr →
     Type 0
 StopsMap hash s refusal e =
-    (top : Top) × IsTop hash s top × StopsAt hash s top.root refusal e
+    (top : Top) × IsTop hash s top × StopsAt hash s top.root top.count refusal e

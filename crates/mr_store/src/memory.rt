@@ -48,9 +48,9 @@ impl<S: Shelf, H: Hash32> Paged<S, H> {
             ≤ self.old.fetches + length (subtrees (tree_of p.nodes.items p.top))) }
         ensures cause { IfErr result (HasSomeCause (stands_for self.old)
             (shelved self.old).faults (shelved self.new).faults) }
-        // Told or not, what stops it is what a fetch refused, or a node that the walk came to.
+        // Told or not, it stops with what a fetch refused, or blames a node that breaks a rule.
         ensures blames { IfErr result (StopsAt H.of (stands_for self.old) self.old.head.root
-            self.new.refusal) }
+            self.old.head.count self.new.refusal) }
         ensures quiet { OnOk result ((shelved self.new).faults ≡ (shelved self.old).faults) }
         // What a fetch refused is what is answered.
         ensures answered { TellsRefusal (λ e. e) self.old.refusal self.new.refusal result }

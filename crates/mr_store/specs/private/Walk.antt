@@ -76,11 +76,12 @@ pub record IsMadeOf (x : Scheme) (root : Bool) (c : Child) (t : Tree) (Made : Ty
   pub fine : IsFine x.version root t
   pub made : Made
 
--- Below the child stands this tree, told or not, of which each node was fetched once. It is the one
--- that is said of, where a root has the count that is said.
+-- Below the child stands this tree, told or not, of which each node was fetched once. It has the
+-- digest that is said, and is the one that is said of, where a root has the count that is said.
 pub record Walked (x : Scheme) (s : MapModel) (root : Bool) (c : Child) (before after : Visited)
     (fetches fetches' : ℕ) (Made : Tree → Type 0) : Type 0 where
   pub under : Tree
+  pub digest : (entry x under).digest ≡ c.digest
   pub met : AddsNumbers before after (records under)
   pub same : IsSome s.tree → s.node c.id ≡ Some under
   pub once : fetches' ≤ fetches + length (subtrees under)

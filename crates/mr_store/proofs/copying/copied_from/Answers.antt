@@ -62,8 +62,8 @@ pub returns-in_err-copied-clause-blames : goal.returns-in_err-copied-clause-blam
 returns-in_err-copied-clause-blames g c =
     let p = err_from_is_err_and c.from_residual-in_err-copied.result c.from_residual-in_err-copied.ensures.1 in
     rw (p.1, p.2) (said_stops g.N.Hash.Hashes.of (g.N.Nodes.stands c.args.nodes.now) c.args.top.now.root
-    c.args.root.now (g.N.Nodes.refusal c.walk.new.nodes) c.in_err-copied.field-0.0 c.requires.root
-    (walk_stops g.N.Hash.Hashes.of (g.N.Nodes.stands c.args.nodes.now) c.args.root.now
+    c.args.root.now c.args.top.now.count (g.N.Nodes.refusal c.walk.new.nodes) c.in_err-copied.field-0.0 c.requires.root
+    (walk_stops g.N.Hash.Hashes.of (g.N.Nodes.stands c.args.nodes.now) c.args.root.now c.args.top.now.count
     (g.N.Nodes.refusal c.walk.new.nodes) c.in_err-copied.field-0.0
     (c.in_err-copied.ensures.blames c.args.pages [] c.in_ok-seen.ensures.told)))
 
@@ -72,9 +72,12 @@ returns-in_err-fits-clause-blames g c =
     let p = err_from_is_err_and c.from_residual-in_err-fits.result c.from_residual-in_err-fits.ensures.1 in
     let s = g.N.Nodes.stands c.args.nodes.now in
     rw (p.1, p.2) (said_stops g.N.Hash.Hashes.of s c.args.top.now.root
-    c.args.root.now (g.N.Nodes.refusal c.walk.new.nodes) c.in_err-fits.field-0.0 c.requires.root
-    (root_stops g.N.Hash.Hashes.of s c.args.root.now (g.N.Nodes.refusal c.walk.new.nodes) c.in_err-fits.field-0.0
-    c.in_err-fits.ensures.blames))
+    c.args.root.now c.args.top.now.count (g.N.Nodes.refusal c.walk.new.nodes) c.in_err-fits.field-0.0 c.requires.root
+    (root_stops g.N.Hash.Hashes.of s c.args.top.now.version c.args.root.now c.args.top.now.count c.count.result
+    c.args.pages c.in_ok-seen.seen c.walk.new.seen (g.N.Nodes.fetches c.args.nodes.now)
+    (g.N.Nodes.fetches c.walk.new.nodes) _ (g.N.Nodes.refusal c.walk.new.nodes) c.in_err-fits.field-0.0
+    (sym c.requires.top.version) c.in_err-fits.ensures.blames c.in_ok-seen.ensures.told
+    c.in_ok-copied.ensures.walked c.count.ensures c.in_err-fits.ensures.other))
 
 pub returns-clause-stands : goal.returns-clause-stands
 returns-clause-stands g c = λ u told.

@@ -4,7 +4,7 @@ use Rattle.std.proofs.lemmas.Result.{err_from_is_err_and}
 use Rattle.mr_outside.specs.Faults.{next_count}
 use Rattle.mr_tree.specs.Digest.{by}
 use Rattle.mr_tree.specs.Nodes.{MapModel, ShowsNode}
-use Rattle.mr_tree.specs.View.{count_over, child_entry}
+use Rattle.mr_tree.specs.View.{count_over, child_entry, preimage_of}
 use Rattle.mr_tree.specs.declared.tree.Tree.TheVariants as tree
 use Rattle.mr_tree.specs.declared.tree.Tree.TheOpen.{Leaf, Inner}
 use Rattle.mr_store.specs.private.Walk.{SuitsEntry, IsCounted, IsFull, CanWalk, GathersAll, WalkedAll}
@@ -39,10 +39,12 @@ returns-then-level-eq0-clause-walked g t c =
     let shows = subst (ShowsNode hash s c.args.child.now) is c.in_ok-look.ensures.shows in
     let suits = subst (λ n. IsCounted c.args.root c.args.child.now (count_over c.args.version n) →
     SuitsEntry x c.args.root c.args.child.now n) is c.in_ok-look.ensures.suits in
+    let digest = subst (λ v. hash (preimage_of v (Leaf c.records.result.now)) ≡ c.args.child.now.digest)
+    c.requires.version shows.digest in
     leaf_ended c.walk_leaf.result _ _ _
     (λ d made. leaf_walked x hash s c.args.root c.args.child.now c.records.result.now c.args.seen.now
     c.walk_leaf.new.seen (g.N.Nodes.fetches c.args.nodes.now) (g.N.Nodes.fetches c.look.new.nodes) _
-    c.requires.may shows suits c.look.ensures.counted made.1 (made.0 x c.args.root))
+    c.requires.may shows digest suits c.look.ensures.counted made.1 (made.0 x c.args.root))
     c.walk_leaf.ensures.gathers c.walk_leaf.ensures.adds
 
 pub returns-then-level-eq0-clause-fetched : goal.returns-then-level-eq0-clause-fetched
@@ -267,8 +269,10 @@ returns-in_ok-id-clause-walked g t c =
     (g.N.Nodes.fetches c.loop-one.nodes)
     (GathersAll (g.G.Gather.gathers x) c.args.into.now c.loop-one.into c.loop-one.below.items)) whole
     c.loop-one.invariant.all in
+    let digest = subst (λ v. hash (preimage_of v (Inner c.deref-one-items.result.now)) ≡ c.args.child.now.digest)
+    c.requires.version shows.digest in
     inner_walked x hash s c.args.root c.args.child.now c.deref-one-items.result.now c.args.seen.now c.loop-one.seen
-    (g.N.Nodes.fetches c.args.nodes.now) (g.N.Nodes.fetches c.loop-one.nodes) _ _ c.requires.may shows suits all
+    (g.N.Nodes.fetches c.args.nodes.now) (g.N.Nodes.fetches c.loop-one.nodes) _ _ c.requires.may shows digest suits all
     (λ fit us made. subst (λ d. g.G.Gather.gathers x c.args.into.now c.inner.new.self d (tree.Inner us))
     (sym c.moved_to.ensures) (c.in_ok-id.ensures.gathers x c.args.into.now c.args.root c.deref-one-items.result.now us
     fit (c.loop-one.invariant.same ∙ ap (map child_entry) whole) made))
