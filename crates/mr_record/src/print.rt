@@ -22,6 +22,11 @@ const LINE_ROOM: usize = 512;
 // The most bytes that a sink is given at once where lines are gathered.
 const PIECE_LIMIT: usize = 1 << 16;
 
+// Lines of so many records at most are gathered in a smaller room, since a room is cleared first.
+const FEW: usize = 128;
+
+const FEW_LIMIT: usize = 1 << 13;
+
 // Writes the digits of the number into the last places, and answers where they begin.
 fn write_digits(places: &mut [u8; 20], number: u64) -> usize
     ensures within { result ≤ 20 }
@@ -71,8 +76,23 @@ pub fn put_coordinate<const N: usize>(line: &mut Buffer<N>, coordinate: i32)
     put_short(line, coordinate.unsigned_abs());
 }
 
-// Puts two lower-case hexadecimal digits for each byte.
-fn put_hex<const N: usize>(line: &mut Buffer<N>, bytes: &[u8])
+// Puts two lower-case hexadecimal digits for each byte, of which there are 16 at most.
+fn put_little_hex<const N: usize>(line: &mut Buffer<N>, bytes: &[u8])
+    requires little { length bytes.now ≤ 16 }
+    requires room { length line.old + 400 ≤ N }
+    ensures put { line.new ≡ line.old ++ encode_lower bytes.now }
+    ensures within { length line.new ≤ length line.old + 400 }
+{
+    let mut places = [0; 32];
+    let (digits, _) = places.split_at_mut(2 * bytes.len());
+    match hex::encode_to_slice(bytes, digits) {
+        Ok(()) => line.put(digits),
+        Err(_) => unreachable!(),
+    }
+}
+
+// The same of more. Their places are cleared before.
+fn put_long_hex<const N: usize>(line: &mut Buffer<N>, bytes: &[u8])
     requires short { length bytes.now ≤ payload_limit }
     requires room { length line.old + 400 ≤ N }
     ensures put { line.new ≡ line.old ++ encode_lower bytes.now }
@@ -83,6 +103,20 @@ fn put_hex<const N: usize>(line: &mut Buffer<N>, bytes: &[u8])
     match hex::encode_to_slice(bytes, digits) {
         Ok(()) => line.put(digits),
         Err(_) => unreachable!(),
+    }
+}
+
+// Puts two lower-case hexadecimal digits for each byte.
+fn put_hex<const N: usize>(line: &mut Buffer<N>, bytes: &[u8])
+    requires short { length bytes.now ≤ payload_limit }
+    requires room { length line.old + 400 ≤ N }
+    ensures put { line.new ≡ line.old ++ encode_lower bytes.now }
+    ensures within { length line.new ≤ length line.old + 400 }
+{
+    if bytes.len() <= 16 {
+        put_little_hex(line, bytes);
+    } else {
+        put_long_hex(line, bytes);
     }
 }
 
@@ -199,24 +233,48 @@ pub fn write_line2<W: Sink>(out: &mut W, one: &Record) -> Result<(), SinkErr>
 }
 
 // Gives what was gathered to the sink, where there is no room for one more line behind it.
-fn make_room<W: Sink>(out: &mut W, piece: &mut Buffer<PIECE_LIMIT>) -> Result<(), SinkErr>
-    ensures room { OnOk result (length piece.new + 512 ≤ 2 ^ 16) }
+fn make_room<W: Sink, const N: usize>(out: &mut W, piece: &mut Buffer<N>) -> Result<(), SinkErr>
+    requires { 512 ≤ N }
+    ensures room { OnOk result (length piece.new + 512 ≤ N) }
     ensures sent { OnOk result (SendsFront (W.state out.old) (W.state out.new) piece.old
         piece.new) }
     ensures front { TakesFront (W.state out.old) (W.state out.new) piece.old }
     ensures causes { SinkCauses (W.state out.old) (W.state out.new) result }
 {
-    if piece.as_slice().len() <= PIECE_LIMIT - LINE_ROOM {
+    if piece.as_slice().len() <= N - LINE_ROOM {
         return Ok(());
     }
     write_all(out, piece.as_slice())?;
-    *piece = Buffer::new();
+    piece.clear();
     Ok(())
 }
 
+// Writes the lines, which are gathered in this room.
+fn write_gathered<W: Sink, const N: usize>(
+    out: &mut W,
+    piece: &mut Buffer<N>,
+    version: Version,
+    records: &[Record],
+) -> Result<(), SinkErr>
+    requires empty { piece.old ≡ [] }
+    requires room { 512 ≤ N }
+    requires layers { All (HasLayer version) records.now }
+    ensures records { OnOk result (All IsRecord records.now) }
+    ensures whole { OnOk result
+        (TakesBytes (W.state out.old) (W.state out.new) (text_of version records.now)) }
+    ensures front { TakesFront (W.state out.old) (W.state out.new) (text_of version records.now) }
+    ensures causes { SinkCauses (W.state out.old) (W.state out.new) result }
+{
+    for one in records {
+        make_room(out, piece)?;
+        put_line(piece, version, one);
+    }
+    write_all(out, piece.as_slice())
+}
+
 /// Writes a line of this version for each record, in their order. Lines are gathered, and the sink
-/// is given pieces of up to 65,536 bytes, each of whole lines. After a refusal some front of the
-/// text was taken.
+/// is given pieces of whole lines. These have up to 65,536 bytes, or up to 8,192 where there are no
+/// more than 128 records. After a refusal some front of the text was taken.
 pub fn write_lines<W: Sink>(
     out: &mut W,
     version: Version,
@@ -229,10 +287,11 @@ pub fn write_lines<W: Sink>(
     ensures front { TakesFront (W.state out.old) (W.state out.new) (text_of version records.now) }
     ensures causes { SinkCauses (W.state out.old) (W.state out.new) result }
 {
-    let mut piece: Buffer<PIECE_LIMIT> = Buffer::new();
-    for one in records {
-        make_room(out, &mut piece)?;
-        put_line(&mut piece, version, one);
+    if records.len() <= FEW {
+        let mut piece: Buffer<FEW_LIMIT> = Buffer::new();
+        write_gathered(out, &mut piece, version, records)
+    } else {
+        let mut piece: Buffer<PIECE_LIMIT> = Buffer::new();
+        write_gathered(out, &mut piece, version, records)
     }
-    write_all(out, piece.as_slice())
 }

@@ -1,6 +1,6 @@
 use Rattle.mr_outside.specs.State.{Sunk}
 use Rattle.mr_record.proofs.WrittenLines.{HasGathered}
-use Rattle.mr_record.proofs.print.write_lines.Given as goal
+use Rattle.mr_record.proofs.print.write_gathered.Given as goal
 
 abbrev pub invariant-loop-one : goal.invariant-loop-one
 invariant-loop-one g l =

@@ -1,11 +1,11 @@
 use Rattle.std.proofs.Common.{subst}
 use Rattle.mr_outside.specs.Told.{TakesFront}
 use Rattle.mr_record.proofs.WrittenLines.{none_gathered, gathered_more, front_gathered}
-use Rattle.mr_record.proofs.print.write_lines.Goals as goal
+use Rattle.mr_record.proofs.print.write_gathered.Goals as goal
 
 pub loop-one-init : goal.loop-one-init
-loop-one-init g c = none_gathered c.args.version (g.W.Sink.state c.args.out.now) c.args.records.now c.new-piece.result
-    c.new-piece.ensures
+loop-one-init g c = none_gathered c.args.version (g.W.Sink.state c.args.out.now) c.args.records.now c.args.piece.now
+    c.requires.empty
 
 pub returns-in_err-make_room-clause-front : goal.returns-in_err-make_room-clause-front
 returns-in_err-make_room-clause-front g c =
