@@ -5,6 +5,7 @@ pub mod Counted
 pub mod Opening
 pub mod WholeCounts
 pub mod Nodes
+pub mod OnTop
 pub mod Stepping
 pub mod WholeRecords
 pub mod WholeParts

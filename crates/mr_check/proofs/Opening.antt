@@ -11,6 +11,7 @@ use Rattle.mr_tree.specs.HasHashed.{HasHashed, Piece, of_entry}
 use Rattle.mr_tree.specs.declared.entry.Entry.{Entry}
 use Rattle.mr_record.specs.declared.version.Version.{Version}
 use Rattle.mr_tree.specs.declared.node_hasher.NodeHasher.{NodeHasher}
+pub use Rattle.mr_check.specs.private.OpenNodes.{Adds}
 use Rattle.mr_check.specs.private.OpenNodes.{Gathered}
 use Rattle.mr_tree.specs.declared.tree.Tree.TheOpen as node
 use Rattle.mr_tree.proofs.Gathered.{inner_gathered}
@@ -65,12 +66,6 @@ pub record Grown {H : Type 0} (s : Scheme) (holds : H → List ℕ → Type 0) (
   pub gathers : Gathered holds n (inner_tag ∷ (w + 1) ∷ (length o.front + (o.left + 1)) ∷ [])
       (pieces_of_cuts s w (o.front ++ P ∷ []))
   pub level : first_level (levels_of (said_of s w (o.front ++ P ∷ []))) ≡ w
-
--- one more entry was added
-abbrev pub Adds : {H : Type 0} → Version → (H → List ℕ → Type 0) → NodeHasher H → NodeHasher H → Entry → Type 0
-Adds u holds m n x =
-    (head : List ℕ) (pieces : List Piece) → Gathered holds m head pieces
-    → Gathered holds n head (pieces ++ of_entry u x ∷ [])
 
 pub grown : {H : Type 0} (s : Scheme) (holds : H → List ℕ → Type 0) (f : Frame H) (n : NodeHasher H) (o : Open)
     (P : Cut) (x : Entry) → IsFrame s holds x.level f o → entry s x.level P ≡ x

@@ -1,8 +1,6 @@
 -- A pruned part of which a piece has the whole.
 use Rattle.std.proofs.Common.{◌≡◌, ℕ, ◌-◌, ◌+◌, ◌<◌, ◌≤◌, false, List, [], ◌∷◌, ◌++◌, length, take, drop, Ok, refl, sym, ap, subst, ◌∙◌, inl, add_assoc, add-zero, take-add, drop-drop, length-take, length-drop, length-take-le, arith}
 use Rattle.std.specs.Prelude.{slice_index}
-use Rattle.mr_geom.specs.Rectangle.{Rectangle}
-use Rattle.mr_record.specs.Version.{told}
 use Rattle.mr_record.specs.declared.version.Version.{Version}
 use Rattle.mr_record.specs.declared.version.Version.TheVariants.{One, Two}
 use Rattle.mr_query.specs.declared.key.Key.{Key}
@@ -13,14 +11,13 @@ use Rattle.mr_proof.specs.declared.field.Field.{Field}
 use Rattle.mr_proof.specs.declared.field.Field.TheVariants as field
 use Rattle.mr_proof.specs.declared.pruned_entry.PrunedEntry.{PrunedEntry}
 use Rattle.mr_proof.specs.Limits.{place_limit}
-use Rattle.mr_proof.specs.Fields.{pruned_tag, size_of, field_of}
+use Rattle.mr_proof.specs.Fields.{pruned_tag, size_of}
 use Rattle.mr_proof.specs.Cut.{Cut, Pruned}
 use Rattle.mr_proof.specs.Spelling.{Parsed}
 use Rattle.mr_proof.specs.Tight.{key_at, opens_at}
 use Rattle.mr_proof.specs.Grammar.{Grammar, reads, unopened, number_in, tag_in, rect_in, bytes_in}
 use Rattle.mr_proof.specs.Layout.{Cursor}
 use Rattle.mr_proof.specs.Handed.{handed}
-use Rattle.mr_proof.proofs.Values.{single}
 use Rattle.mr_proof.proofs.FieldValues.{tag_value}
 use Rattle.mr_check.specs.private.Machine.{node_next, shown_next, behind_mask, behind_tally}
 use Rattle.mr_check.specs.private.Reads.{digest_place, part_size, value_at, BeginsWithPart}

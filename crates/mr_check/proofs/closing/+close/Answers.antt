@@ -2,6 +2,7 @@ use Rattle.std.proofs.Common.{◌-◌, ◌+◌, ◌<◌, ◌≤◌, ◌^◌, vec
 use Rattle.mr_check.specs.declared.frame.Frame.{Frame}
 use Rattle.mr_check.specs.private.Machine.{frames_of, counts_of, HasReadCut}
 use Rattle.mr_check.proofs.Counted.{counts_popped, counts_none}
+use Rattle.mr_check.proofs.OnTop.{as_before, last_taken}
 use Rattle.mr_check.proofs.Nodes.{closed_root, closed_child, missed_parent, closed_parent}
 use Rattle.mr_check.proofs.closing.+close.Goals as goal
 
@@ -11,24 +12,27 @@ returns-in-None-clause-closes g t c = λ given os P r.
     c.args.node.now given os P
     (subst (λ (fs : List (Frame _)). HasReadCut g.H.Hashes.of g.H.Hashes.holds (g.A.AsQuestion.question c.args.q.now)
     c.args.m.now.head fs
-    c.args.m.now.tally c.args.node.now given os P) c.in-None.ensures.0 r)
+    c.args.m.now.tally c.args.node.now given os P)
+    (as_before _ _ _ (c.goes_on.ensures.same c.if-goes_on.false) c.in-None.ensures.0) r)
 
-pub returns-then-frame-gt0-clause-closes : goal.returns-then-frame-gt0-clause-closes
-returns-then-frame-gt0-clause-closes g t c = λ given os P r.
-    closed_child g.H.Hashes.of g.H.Hashes.holds (g.A.AsQuestion.question c.args.q.now) c.args.m.now c.push.new.stack
-    c.in-Some.frame
-    c.add_entry.new.self (reverse c.pop.new.stack.list.items) c.args.node.now given os P c.add_entry.ensures.gathers
-    c.if-frame-gt0.true c.push.ensures.items
+pub returns-then-goes_on-clause-closes : goal.returns-then-goes_on-clause-closes
+returns-then-goes_on-clause-closes g t c = λ given os P r.
+    let on = c.goes_on.ensures.adds c.if-goes_on.true in
+    closed_child g.H.Hashes.of g.H.Hashes.holds (g.A.AsQuestion.question c.args.q.now) c.args.m.now
+    c.goes_on.new.stack on.top on.node on.others c.args.node.now given os P on.adds on.some on.now
     (subst (λ (fs : List (Frame _)). HasReadCut g.H.Hashes.of g.H.Hashes.holds (g.A.AsQuestion.question c.args.q.now)
     c.args.m.now.head fs
-    c.args.m.now.tally c.args.node.now given os P) c.in-Some.ensures.0 r)
+    c.args.m.now.tally c.args.node.now given os P) on.was r)
 
 pub returns-then-not-is_to_be_opened-clause-closes : goal.returns-then-not-is_to_be_opened-clause-closes
 returns-then-not-is_to_be_opened-clause-closes g t c = λ given os P r.
     missed_parent g.H.Hashes.of g.H.Hashes.holds (g.A.AsQuestion.question c.args.q.now) c.args.m.now.head
     c.args.m.now.tally c.in-Some.frame
     c.add_entry.new.self (reverse c.pop.new.stack.list.items) c.args.node.now c.close-parent.result given os P
-    c.add_entry.ensures.gathers (omega (arith, c.if-frame-gt0.false))
+    c.add_entry.ensures.gathers
+    (last_taken (frames_of c.args.m.now) (reverse c.pop.new.stack.list.items) c.in-Some.frame
+    (c.goes_on.ensures.last c.if-goes_on.false)
+    (as_before _ _ _ (c.goes_on.ensures.same c.if-goes_on.false) c.in-Some.ensures.0))
     (record {
       level = c.close-parent.ensures.level;
       rect = c.close-parent.ensures.rect;
@@ -40,14 +44,18 @@ returns-then-not-is_to_be_opened-clause-closes g t c = λ given os P r.
     (sym c.is_to_be_opened.ensures ∙ c.if-not-is_to_be_opened.true)
     (subst (λ (fs : List (Frame _)). HasReadCut g.H.Hashes.of g.H.Hashes.holds (g.A.AsQuestion.question c.args.q.now)
     c.args.m.now.head fs
-    c.args.m.now.tally c.args.node.now given os P) c.in-Some.ensures.0 r)
+    c.args.m.now.tally c.args.node.now given os P)
+    (as_before _ _ _ (c.goes_on.ensures.same c.if-goes_on.false) c.in-Some.ensures.0) r)
 
 pub returns-else-not-is_to_be_opened-clause-closes : goal.returns-else-not-is_to_be_opened-clause-closes
 returns-else-not-is_to_be_opened-clause-closes g t c = λ given os P r.
     closed_parent g.H.Hashes.of g.H.Hashes.holds (g.A.AsQuestion.question c.args.q.now) c.args.m.now.head
     c.args.m.now.tally c.close.new.m
     c.in-Some.frame c.add_entry.new.self (reverse c.pop.new.stack.list.items) c.args.node.now c.close-parent.result
-    given c.close.result os P c.add_entry.ensures.gathers (omega (arith, c.if-frame-gt0.false))
+    given c.close.result os P c.add_entry.ensures.gathers
+    (last_taken (frames_of c.args.m.now) (reverse c.pop.new.stack.list.items) c.in-Some.frame
+    (c.goes_on.ensures.last c.if-goes_on.false)
+    (as_before _ _ _ (c.goes_on.ensures.same c.if-goes_on.false) c.in-Some.ensures.0))
     (record {
       level = c.close-parent.ensures.level;
       rect = c.close-parent.ensures.rect;
@@ -59,7 +67,8 @@ returns-else-not-is_to_be_opened-clause-closes g t c = λ given os P r.
     (sym c.is_to_be_opened.ensures ∙ c.if-not-is_to_be_opened.false) (c.close.ensures.closes given)
     (subst (λ (fs : List (Frame _)). HasReadCut g.H.Hashes.of g.H.Hashes.holds (g.A.AsQuestion.question c.args.q.now)
     c.args.m.now.head fs
-    c.args.m.now.tally c.args.node.now given os P) c.in-Some.ensures.0 r)
+    c.args.m.now.tally c.args.node.now given os P)
+    (as_before _ _ _ (c.goes_on.ensures.same c.if-goes_on.false) c.in-Some.ensures.0) r)
 
 -- ---- how many records are counted
 
@@ -68,26 +77,30 @@ add_entry-requires g t c = record {
   few = omega (
     arith,
     c.requires.few,
-    counts_popped (frames_of c.args.m.now) (reverse c.pop.new.stack.list.items) c.in-Some.frame c.in-Some.ensures.0,
+    counts_popped (frames_of c.args.m.now) (reverse c.pop.new.stack.list.items) c.in-Some.frame
+        (as_before _ _ _ (c.goes_on.ensures.same c.if-goes_on.false) c.in-Some.ensures.0),
   );
 }
 
 pub returns-in-None-clause-few : goal.returns-in-None-clause-few
 returns-in-None-clause-few g t c = omega (arith, counts_none (reverse c.pop.new.stack.list.items) c.in-None.ensures.1)
 
-pub returns-then-frame-gt0-clause-few : goal.returns-then-frame-gt0-clause-few
-returns-then-frame-gt0-clause-few g t c = omega (
-  arith,
-  c.add_entry.ensures.counted,
-  counts_popped (frames_of c.args.m.now) (reverse c.pop.new.stack.list.items) c.in-Some.frame c.in-Some.ensures.0,
-  counts_popped (reverse c.push.new.stack.list.items) (reverse c.pop.new.stack.list.items)
-      (record { node = c.add_entry.new.self; left = c.in-Some.frame.left - 1 }) c.push.ensures.items,
-)
+pub returns-then-goes_on-clause-few : goal.returns-then-goes_on-clause-few
+returns-then-goes_on-clause-few g t c =
+    let on = c.goes_on.ensures.adds c.if-goes_on.true in
+    omega (
+      arith,
+      on.counted,
+      counts_popped (frames_of c.args.m.now) on.others on.top on.was,
+      counts_popped (reverse c.goes_on.new.stack.list.items) on.others
+          (record { node = on.node; left = on.top.left - 1 }) on.now,
+    )
 
 pub returns-then-not-is_to_be_opened-clause-few : goal.returns-then-not-is_to_be_opened-clause-few
 returns-then-not-is_to_be_opened-clause-few g t c = omega (
   arith,
-  counts_popped (frames_of c.args.m.now) (reverse c.pop.new.stack.list.items) c.in-Some.frame c.in-Some.ensures.0,
+  counts_popped (frames_of c.args.m.now) (reverse c.pop.new.stack.list.items) c.in-Some.frame
+      (as_before _ _ _ (c.goes_on.ensures.same c.if-goes_on.false) c.in-Some.ensures.0),
 )
 
 pub close-requires : goal.close-requires
@@ -101,7 +114,8 @@ close-requires g t c κs within =
       c.requires.few,
       c.close-parent.ensures.count,
       c.add_entry.ensures.counted,
-      counts_popped (frames_of c.args.m.now) (reverse c.pop.new.stack.list.items) c.in-Some.frame c.in-Some.ensures.0,
+      counts_popped (frames_of c.args.m.now) (reverse c.pop.new.stack.list.items) c.in-Some.frame
+          (as_before _ _ _ (c.goes_on.ensures.same c.if-goes_on.false) c.in-Some.ensures.0),
     ) in
     (smaller, (search rules, (search rules, (deep, few))))
 
@@ -111,5 +125,6 @@ returns-else-not-is_to_be_opened-clause-few g t c = omega (
   c.close.ensures.few,
   c.close-parent.ensures.count,
   c.add_entry.ensures.counted,
-  counts_popped (frames_of c.args.m.now) (reverse c.pop.new.stack.list.items) c.in-Some.frame c.in-Some.ensures.0,
+  counts_popped (frames_of c.args.m.now) (reverse c.pop.new.stack.list.items) c.in-Some.frame
+      (as_before _ _ _ (c.goes_on.ensures.same c.if-goes_on.false) c.in-Some.ensures.0),
 )
