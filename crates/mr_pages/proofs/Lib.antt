@@ -23,7 +23,6 @@ mod Stops
 mod Outcomes
 pub mod Judged
 mod Short
-mod Zeros
 pub mod Filled
 pub mod PageReads
 mod FrontReads

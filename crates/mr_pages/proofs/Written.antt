@@ -30,6 +30,22 @@ miss_rose name held None between n m put miss = subst (λ o. MayMiss o name n m)
 miss_rose name held (Some files) between n m put miss =
     absurd (there name held files (subst (λ o. MayMiss o name n m) put miss))
 
+miss_untold : (name held : List ℕ) (before between : Option Files) (n m : ℕ) →
+    IsChanged (with_file name) held before between →
+    MayMiss between name n m → before ≡ None
+miss_untold name held None between n m put miss = refl
+miss_untold name held (Some files) between n m put miss =
+    absurd (there name held files (subst (λ o. MayMiss o name n m) put miss))
+
+-- what changes a file tells no more and no less
+changed_untold : (f : List ℕ → Files → Files) (bytes : List ℕ) (before between : Option Files) →
+    IsChanged f bytes before between → between ≡ None → before ≡ None
+changed_untold f bytes None between put none = refl
+changed_untold f bytes (Some files) between put none = absurd (no (sym put ∙ none))
+  where
+    no : ◌≡◌ {A = Option Files} (Some (f bytes files)) None → ⊥
+    no q = cc
+
 -- a call on a file that was made before
 pub causes_there : {A : Type 0} (name held : List ℕ) (before between after : Shelved) (result : Result A ShelfErr) →
     IsChanged (with_file name) held before.files between.files → between.faults ≡ before.faults →
@@ -37,16 +53,19 @@ pub causes_there : {A : Type 0} (name held : List ℕ) (before between after : S
 causes_there name held before between after result put quiet c = record {
   missing = λ e. subst (λ n. Rose n after.faults) quiet
       (miss_rose name held before.files between.files between.faults after.faults put (c.missing e));
+  untold = λ e. miss_untold name held before.files between.files between.faults after.faults put (c.missing e);
   fault = λ e. subst (λ n. Rose n after.faults) quiet (c.fault e);
   faults = omega (arith, quiet, c.faults);
   quiet = subst (λ n. OnOk result (after.faults ≡ n)) quiet c.quiet;
 }
 
 -- a call that began when no fault was counted
-pub causes_from : {A : Type 0} (before between after : Shelved) (result : Result A ShelfErr) →
+pub causes_from : {A : Type 0} (name held : List ℕ) (before between after : Shelved) (result : Result A ShelfErr) →
+    IsChanged (with_file name) held before.files between.files →
     between.faults ≡ before.faults → SaveCauses between after result → SaveCauses before after result
-causes_from before between after result quiet c = record {
+causes_from name held before between after result put quiet c = record {
   missing = λ e. subst (λ n. Rose n after.faults) quiet (c.missing e);
+  untold = λ e. changed_untold (with_file name) held before.files between.files put (c.untold e);
   fault = λ e. subst (λ n. Rose n after.faults) quiet (c.fault e);
   faults = omega (arith, quiet, c.faults);
   quiet = subst (λ n. OnOk result (after.faults ≡ n)) quiet c.quiet;
@@ -60,6 +79,7 @@ pub causes_given_up : {A : Type 0} (size : ℕ) (name : List ℕ) (before after 
     GivesUpFile size name before after e → SaveCauses {A = A} before after (Err e)
 causes_given_up {A = A} size name before after e u = record {
   missing = λ q. u.missing (err_same {A = A} e shelf.Missing q);
+  untold = λ q. u.untold (err_same {A = A} e shelf.Missing q);
   fault = λ q. u.fault (err_same {A = A} e shelf.Fault q);
   faults = u.faults;
   quiet = tt;
@@ -70,6 +90,7 @@ pub causes_no_memory : {A : Type 0} (before now : Shelved) → now.faults ≡ be
     SaveCauses {A = A} before now (Err shelf.NoMemory)
 causes_no_memory {A = A} before now same = record {
   missing = λ q. absurd (no (err_same {A = A} shelf.NoMemory shelf.Missing q));
+  untold = λ q. absurd (no (err_same {A = A} shelf.NoMemory shelf.Missing q));
   fault = λ q. absurd (no_fault (err_same {A = A} shelf.NoMemory shelf.Fault q));
   faults = omega (arith, same);
   quiet = tt;
@@ -86,6 +107,7 @@ pub causes_kept : {A B : Type 0} (before after : Shelved) (e : ShelfErr) → Sav
     SaveCauses {A = B} before after (Err e)
 causes_kept {B = B} before after e c = record {
   missing = λ q. c.missing (ap Err (err_same {A = B} e shelf.Missing q));
+  untold = λ q. c.untold (ap Err (err_same {A = B} e shelf.Missing q));
   fault = λ q. c.fault (ap Err (err_same {A = B} e shelf.Fault q));
   faults = c.faults;
   quiet = tt;
@@ -95,6 +117,7 @@ pub causes_done : {A B : Type 0} (before after : Shelved) (a : A) (b : B) → Sa
     SaveCauses before after (Ok b)
 causes_done before after a b c = record {
   missing = λ q. cc;
+  untold = λ q. cc;
   fault = λ q. cc;
   faults = c.faults;
   quiet = c.quiet;
@@ -134,6 +157,7 @@ gives_up : {A : Type 0} (size : ℕ) (name : List ℕ) (before after : Shelved) 
 gives_up size name before after e left c reads = record {
   left = left;
   missing = λ q. c.missing (ap Err q);
+  untold = λ q. c.untold (ap Err q);
   fault = λ q. c.fault (ap Err q);
   faults = c.faults;
   reads = reads;
@@ -175,6 +199,7 @@ not_created {A = A} size name before after e same never c reads =
     gives_up {A = A} size name before after e (inl same)
     (record {
       missing = λ q. subst (λ o. MayMiss o name before.faults after.faults) (never q) (c.missing q);
+      untold = never;
       fault = c.fault;
       faults = c.faults;
       quiet = tt;

@@ -1,6 +1,6 @@
 //! Writing into a page from the front, and what a page says in front.
 
-ghost use Rattle.std.specs.Prelude.{◌≡◌, ◌+◌, ◌≤◌, ◌++◌, length, take, bytes_eq};
+ghost use Rattle.std.specs.Prelude.{◌≡◌, ◌==◌, ◌+◌, ◌≤◌, ◌++◌, length, take, bytes_eq};
 ghost use Rattle.mr_pages.specs.PageBytes.{are_zeros, filled};
 
 /// Writes a piece at a place of a page, and answers the place behind it.
@@ -40,21 +40,22 @@ pub fn are_same(one: &[u8], other: &[u8]) -> bool
     one == other
 }
 
-/// Whether all bytes are 0: the first one is, and each other is as the one before it. So a page's
-/// end is compared as a whole, and not byte by byte.
+// The greatest of some bytes, or 0. No byte ends it early, so that many are looked at at once.
+fn greatest(bytes: &[u8]) -> u8
+    ensures { (result == 0) ≡ are_zeros bytes.now }
+{
+    let mut most = 0;
+    for byte in bytes {
+        most = most.max(*byte);
+    }
+    most
+}
+
+/// Whether all bytes are 0.
 pub fn are_zero_bytes(bytes: &[u8]) -> bool
     ensures { result ≡ are_zeros bytes.now }
 {
-    match bytes {
-        [] => true,
-        [first, rest @ ..] => {
-            let (before, _) = bytes.split_at(rest.len());
-            if *first != 0 {
-                return false;
-            }
-            are_same(rest, before)
-        }
-    }
+    greatest(bytes) == 0
 }
 
 /// Whether the piece stands in front, and zeros behind it.

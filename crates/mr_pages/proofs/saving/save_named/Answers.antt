@@ -87,7 +87,9 @@ returns-in_err-seal-clause-causes g c =
     let e = c.in_err-seal.field-0.0 in
     failed c.from_residual-in_err-seal.result e before after c.from_residual-in_err-seal.ensures.1
     (causes_kept before after e
-    (causes_from before (g.S.Shelf.state c.make_nodes.new.shelf) after (Err e) c.in_ok-root.ensures.made.faults
+    (causes_from c.args.name.now c.in_ok-root.ensures.bytes before (g.S.Shelf.state c.make_nodes.new.shelf) after
+    (Err e)
+    c.in_ok-root.ensures.made.files c.in_ok-root.ensures.made.faults
     c.in_err-seal.ensures.causes))
 
 pub returns-clause-whole : goal.returns-clause-whole
@@ -128,7 +130,9 @@ returns-clause-causes g c =
     let before = g.S.Shelf.state c.args.shelf.now in
     let after = g.S.Shelf.state c.seal.new.shelf in
     causes_done before after tt c.head_root.result
-    (causes_from before (g.S.Shelf.state c.make_nodes.new.shelf) after (Ok tt) c.in_ok-root.ensures.made.faults
+    (causes_from c.args.name.now c.in_ok-root.ensures.bytes before (g.S.Shelf.state c.make_nodes.new.shelf) after
+    (Ok tt)
+    c.in_ok-root.ensures.made.files c.in_ok-root.ensures.made.faults
     c.in_ok-seal.ensures.causes)
 
 pub returns-clause-root : goal.returns-clause-root
