@@ -1,5 +1,5 @@
 -- How the file of a map is made while its page 0 is zeros, and what is left where it is given up.
-use Rattle.std.specs.Prelude.{◌≡◌, ℕ, ◌+◌, ◌≤◌, List, ◌++◌, length, replicate, Option}
+use Rattle.std.specs.Prelude.{◌≡◌, ℕ, ◌+◌, ◌≤◌, List, ◌++◌, length, replicate, Option, None}
 use Rattle.mr_outside.specs.Faults.{Rose}
 use Rattle.mr_outside.specs.Files.{with_file}
 use Rattle.mr_outside.specs.State.{Shelved}
@@ -29,6 +29,7 @@ pub record GivesUpFile (size : ℕ) (name : List ℕ) (before after : Shelved) (
     : Type 0 where
   pub left : LeavesFile (IsBegun size) name before.files after.files
   pub missing : why ≡ shelf.Missing → Rose before.faults after.faults
+  pub untold : why ≡ shelf.Missing → before.files ≡ None
   pub fault : why ≡ shelf.Fault → Rose before.faults after.faults
   pub faults : before.faults ≤ after.faults
   pub reads : after.reads ≡ before.reads

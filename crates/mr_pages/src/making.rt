@@ -217,9 +217,10 @@ fn make_at_once<H: Hashes, S: Shelf>(
 }
 
 /// Makes the file of a map, with zeros in place of page 0. Answers what page 0 is to say of the
-/// root, and how many pages there are. The pages below one child of the root are added after those
-/// below the other, so that no more are held at once. A map without an inner node has two pages at
-/// most, which are added at once. A leaf whose entry is known is not hashed.
+/// root, and how many pages there are. The pages of one child of the root and of all below it are
+/// made and added before those of the next, so that no others are held at once. A map without an
+/// inner node has two pages at most, which are added at once. A leaf whose entry is known is not
+/// hashed.
 pub fn make_nodes<H: Hashes, S: Shelf>(
     alloc: Global,
     layout: Layout,

@@ -9,11 +9,14 @@ use crate::table::Table;
 use std::alloc::{AllocError, Global};
 use std::collections::BTreeSet;
 
+// The most places of the table, and the most flags beside it.
+const PLACES: usize = 1 << 20;
+
 /// Numbers that were met.
 ///
-/// Each of the least numbers has a flag. Another is put at its place in the table where that is
-/// empty. Where one stands there, it goes to the others: what the flags and the table have room for
-/// is met without a search.
+/// Each of the least numbers has a flag. A greater one goes to its place in the table where that is
+/// empty, and else to the others. What the flags and the table have room for is met without a
+/// search.
 #[derive(Drop)]
 pub struct Numbers {
     flags: Flags,
@@ -22,12 +25,13 @@ pub struct Numbers {
 }
 
 impl Numbers {
-    /// No numbers, with this many flags and a table of as many places.
+    /// No numbers, with this many flags and a table of as many places, or with 2^20 of each where
+    /// that is fewer.
     pub fn new(alloc: Global, places: usize) -> Result<Numbers, AllocError>
-        requires some { 1 ≤ places }
-        requires few { places ≤ 2 ^ 20 }
+        requires { 1 ≤ places }
         ensures { IfOk result (λ s. Met s []) }
     {
+        let places = places.min(PLACES);
         Ok(Numbers {
             flags: Flags::new(alloc, places)?,
             table: Table::new(alloc, places)?,

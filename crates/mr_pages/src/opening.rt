@@ -132,9 +132,9 @@ pub fn open_plain<H: Hash32, S: Shelf>(
     ensures exact { OfFile (S.state shelf.old).files name.now (FailsWithoutFault result)
         (λ bytes. TellsBytes (form_at bytes) H.of bytes result) }
 
-    // What that is worth: a well-formed tree, of some bytes where no file is told; and bytes have a
-    // map or a fault, and one of them alone; and a file that stands for a map in a version is read
-    // in that one.
+    // What that is worth: a well-formed tree, of some bytes where no file is told. Bytes have a map
+    // or a fault, and one of them alone. A file that stands for a map in a version is read in that
+    // one.
     ensures well_formed { IfOk result
         (λ map. WellFormed map.tree × HasLayers map.version map.tree) }
     ensures of_some_bytes { SomeFile H.of result }
@@ -171,9 +171,9 @@ pub fn open_snapshot<H: Hash32, S: Shelf>(
         OfFile (S.state shelf.old).files name.now (FailsWithoutFault answer)
         (λ bytes. TellsBytes (form_at bytes) H.of bytes answer) }
 
-    // What that is worth: a well-formed tree, of some bytes where no file is told; and bytes have a
-    // map or a fault, and one of them alone; and a file that stands for a map in a version is read
-    // in that one.
+    // What that is worth: a well-formed tree, of some bytes where no file is told. Bytes have a map
+    // or a fault, and one of them alone. A file that stands for a map in a version is read in that
+    // one.
     ensures well_formed { IfOk result (λ s. WellFormed (tree_of s.nodes.items s.top)
         × HasLayers s.top.version (tree_of s.nodes.items s.top)) }
     ensures of_some_bytes { SomeFile H.of

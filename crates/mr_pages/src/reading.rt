@@ -1,6 +1,6 @@
 //! Reading a page of a file.
 
-ghost use Rattle.std.specs.Prelude.{◌≡◌, ◌+◌, ◌-◌, ◌≤◌, length, take, drop, replicate, IfOk, OnOk};
+ghost use Rattle.std.specs.Prelude.{◌≡◌, ◌+◌, ◌-◌, ◌≤◌, min, length, take, drop, replicate, IfOk, OnOk};
 ghost use Rattle.mr_outside.specs.Told.{OfFile};
 ghost use Rattle.mr_outside.specs.Causes.{ShelfCauses, CountsRead};
 ghost use Rattle.mr_pages.specs.PageBytes.{form_of, IsLayout};
@@ -83,6 +83,8 @@ pub fn read_filled<S: Shelf>(
     ensures bytes { IfOk result (λ n. OfFile (S.state shelf.old).files name.now ⊥
         (λ file. at + length into.old ≤ length file →
         into.new ≡ take (length into.old) (drop at file))) }
+    ensures count { IfOk result (λ n. OfFile (S.state shelf.old).files name.now ⊥
+        (λ file. n ≡ min (length into.old) (length file - at))) }
     ensures rest { IfOk result (λ n. drop n into.new ≡ replicate (length into.old - n) 0) }
     ensures causes { ShelfCauses name.now (S.state shelf.old) (S.state shelf.new) result }
     ensures files { (S.state shelf.new).files ≡ (S.state shelf.old).files }

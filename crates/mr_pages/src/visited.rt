@@ -1,6 +1,6 @@
 //! What a walk has seen.
 
-ghost use Rattle.std.specs.Prelude.{◌≡◌, ◌≤◌, ◌-◌, ◌^◌, ℕ, List, [], length, IfOk, IfSome};
+ghost use Rattle.std.specs.Prelude.{◌≡◌, ◌≤◌, ◌-◌, ℕ, List, [], length, IfOk, IfSome};
 ghost use Rattle.mr_pages.specs.Faults.{numbers_of};
 ghost use Rattle.mr_pages.specs.Walking.{Saw, EntersPage, MeetsNumbers, LosesPage};
 ghost use Rattle.mr_pages.specs.Source.{ReachesPage, IsOfOneRead, left};
@@ -81,13 +81,9 @@ impl Visited {
     }
 }
 
-// The most places of the table of numbers, and the most flags beside it.
-const PLACES: usize = 1 << 20;
-
-// A place for each record that a file of this many pages has room for, but not too many.
+// A place for each record that a file of this many pages has room for, and one at least.
 fn places(pages: u32) -> usize
-    ensures some { 1 ≤ result }
-    ensures few { result ≤ 2 ^ 20 }
+    ensures { 1 ≤ result }
 {
-    (pages as usize * LEAF_LIMIT as usize).clamp(1, PLACES)
+    (pages as usize * LEAF_LIMIT as usize).max(1)
 }
