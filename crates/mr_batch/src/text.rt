@@ -90,8 +90,8 @@ fn read_all(alloc: Global, version: Version, text: &[u8]) -> Result<Batch, TextE
     Ok(Batch::new(number, changes, links))
 }
 
-/// Reads a batch text of a version: the line `batch N`, then at most 2^20 lines, each `+ ` and a
-/// record line or `- ` and a record number, each line with a line feed.
+/// Reads a batch text of a version: the line `batch N` and then at most 2^20 lines, each with a
+/// line feed. Such a line is `+ ` and a record line, or `- ` and a record number.
 pub fn read_batch_of(alloc: Global, version: Version, text: &[u8]) -> Result<Batch, TextErr>
     ensures exact { AnswersBatch result (batch_of_text version text.now) }
     ensures written { IfOk result

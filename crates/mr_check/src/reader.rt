@@ -42,8 +42,8 @@ pub(crate) struct Reader<H: Hashes> {
     pub(crate) fault: Option<Fault>,
 }
 
-// What some bytes come to: the whole piece was taken; or so many of its bytes, which end a field,
-// and maybe a record that is handed out, which the machine has; or there is a fault.
+// What some bytes come to: the whole piece was taken; or so many of its bytes, which end a field; or
+// so many that end a record which is handed out; or there is a fault. The machine has the record.
 pub(crate) enum Progress {
     More,
     Took(usize),
@@ -284,7 +284,7 @@ fn is_hidden<A: AsQuestion>(q: &A, head: &Head, part: &PrunedEntry) -> bool
 }
 
 // The pruned part at the front of the piece, where an item of this level is under way of which
-// nothing is held, and the piece has the whole of it, up to the limit at most, without a fault.
+// nothing is held. The piece has to have the whole of it, up to the limit at most, without a fault.
 fn whole_part<H: Hashes, A: AsQuestion>(
     q: &A,
     r: &Reader<H>,

@@ -124,8 +124,8 @@ fn put_below<F: PageFile>(
 ///
 /// Where the pages are not told, `Page` blames besides a node whose rectangle, mask or count is not
 /// the one that its entry tells of, or one with too few entries. It blames the root, or page 0
-/// where there is none, where it would rise too high, an entry would count more records than a map
-/// has, or the file would grow past its last page.
+/// where there is none, in three cases. The root would rise too high; an entry would count more
+/// records than a map has; or the file would grow past its last page.
 pub fn insert<F: PageFile>(
     alloc: Global,
     pager: &mut Pager<F>,

@@ -20,8 +20,8 @@
 //! - `map` is the head of a map file (level, batch, count, pages, root page, rectangle, digest).
 //!   `inner` begins an inner node's page (level, count), `child` is a child on it (page, rectangle,
 //!   digest). `seal` fills the first page with zeros up to its seal, `fill` any page to its end.
-//! - `map2` is that head in version 2 (with a mask in front of the digest), `child2` such a child
-//!   (with a mask and a count there), `pruned2` such a pruned node (with both there too).
+//! - `map2` is that head in version 2, with a mask in front of the digest. `child2` is such a
+//!   child, with a mask and a count there, and `pruned2` such a pruned node, with both there too.
 //!   `window2`, `nearest2`, `record2`, `seal2` and `fill2` are those of version 2. `count2` is the
 //!   head of a count proof, which there is in version 2 alone, and `join2` that of one of the two
 //!   proofs in a join's proof. `joined` begins that, where it has a rectangle (rectangle, length of

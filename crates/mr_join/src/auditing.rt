@@ -266,8 +266,8 @@ pub fn audit_join<A: Nodes, B: Nodes>(
     // No rule on a flag or a squared radius is broken in a part, since there is none.
     ensures rules { IfOk result BreaksNoFlag }
     // No more nodes of either map are fetched than accepted bytes open, and none for bytes that are
-    // refused: by the verdict against the root digests of what `top` says, and where the trees are
-    // told, of those.
+    // refused. That is by the verdict against the root digests of what `top` says, and where the
+    // trees are told, of those.
     ensures fetches { FetchesForJoin A.Hash.of B.Hash.of
         (watched (A.stands first.old) (A.fetches first.old) (A.fetches first.new))
         (watched (B.stands second.old) (B.fetches second.old) (B.fetches second.new)) proof.now }

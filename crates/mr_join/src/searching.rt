@@ -80,9 +80,10 @@ fn put_met(query: &Query, entry: &Entry, pairs: &mut Vec<Pair>) -> Result<(), Al
 ///
 /// The list is a tree: the node in the middle is the root, and on either side is a tree. Parts that
 /// the query does not reach are passed over. Where the nodes rise by their lower sides, a search
-/// comes to about log n nodes, whatever the entries: for itself, for each entry that it finds, and
-/// for each that it finds to have begun or ended since the last one. For if it reaches a part that
-/// begins wholly below its upper side, then one such entry is there. No clause says so.
+/// comes to about log n nodes for itself and for each entry that it finds, whatever the entries. It
+/// comes to as many for each that it finds to have begun or ended since the last one. For if it
+/// reaches a part that begins wholly below its upper side, then one such entry is there. No clause
+/// says so.
 pub(crate) fn search(
     nodes: &mut [Node],
     query: &Query,

@@ -124,8 +124,8 @@ fn write_met<N: Nodes, A: AsQuestion, W: Sink>(
     Ok(())
 }
 
-// Writes the part of the node of which the child is the entry, under this head: where it is to be
-// pruned what is shown of it, and else the node and the parts of its children.
+// Writes the part of the node of which the child is the entry, under this head. Where it is to be
+// pruned, that is what is shown of it, and else the node and the parts of its children.
 #[cycle(parts)]
 pub(crate) fn write_part<N: Nodes, A: AsQuestion, W: Sink>(
     nodes: &mut N,

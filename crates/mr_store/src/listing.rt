@@ -218,10 +218,10 @@ fn directory_as<N: Nodes>(alloc: Global, nodes: &mut N, top: &Top) -> Result<Dir
 /// The directory of a map: the number and the rectangle of each of its records, found by a walk
 /// over all its nodes.
 ///
-/// Where the tree is not told, `Page` names besides a node whose rectangle, mask or count is not
-/// the one that its parent tells of, a node with too few entries, or one with a record's number
-/// that was met before. It names the root, where the map has another number of records than it
-/// tells.
+/// Where the tree is not told, `Page` names besides a node with too few entries, or one whose
+/// rectangle, mask or count is not the one that its parent tells of. Or it names a node with a
+/// record's number that was met before. It names the root, where the map has another number of
+/// records than it tells.
 pub fn directory<N: Nodes>(alloc: Global, nodes: &mut N) -> Result<Directory, NodesErr>
     ensures kept { N.kept nodes.old nodes.new }
     ensures lists { IfOk result (λ d. IfSome (N.stands nodes.old).tree

@@ -29,10 +29,10 @@ fn top_of(version: Version, head: &MapHead) -> Top
 impl<S: Shelf, H: Hash32> Paged<S, H> {
     /// The whole map in memory, made as its nodes are fetched, with no tree beside it.
     ///
-    /// Where the tree is not told, `Page` names besides a node whose rectangle, mask or count is
-    /// not the one that its parent tells of, a node with too few entries, or one with a record's
-    /// number that was met before. It names the root, where the map has another number of records
-    /// than it tells.
+    /// Where the tree is not told, `Page` names besides a node with too few entries, or one whose
+    /// rectangle, mask or count is not the one that its parent tells of. Or it names a node with a
+    /// record's number that was met before. It names the root, where the map has another number of
+    /// records than it tells.
     pub fn snapshot(&mut self) -> Result<Snapshot<H>, NodesErr>
         ensures kept { Keeps self.old self.new }
         ensures stands { IfOk result (λ p. IsSnapshotOf (stands_for self.old) p.nodes.items p.top) }

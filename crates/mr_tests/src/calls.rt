@@ -33,10 +33,10 @@ const SMALL: &[File<'static>] = &[
 
 // A map is written child by child of its root, behind zeros for page 0 and the root's page, and
 // then the latter. One without an inner node is appended at once. All is synced before page 0 is
-// written over its zeros, and again after. A batch is applied to a copy of the
-// pages, which is made sixteen pages at a time. Where it is applied in place, the files are synced;
-// the journal gets its gate, its body, and its gate anew, is synced behind each of these, and then
-// come the pages, a sync, and the gate once more.
+// written over its zeros, and again after. A batch is applied to a copy of the pages, which is made
+// sixteen pages at a time. Where it is applied in place, the files are synced. The journal gets its
+// gate, its body, and its gate anew, and is synced behind each of these. Then come the pages, a
+// sync, and the gate once more.
 const CALLS: &[Made<'static>] = &[
     Made {
         words: "root r",

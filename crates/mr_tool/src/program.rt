@@ -281,8 +281,8 @@ pub fn run<H: Hash32, S: Shelf, W: Sink, G: Gate, R: Threads + Sync>(
     ensures collides { let before = world (S.state shelf) (W.state out.old) in
         let after = world (S.state result.1) (W.state out.new) in
         CollidesRightly H.of (map string_bytes words.now) before after result.0 }
-    // The proof of a count that an honest server gives of a map of version 2 is accepted, with the
-    // number of the records inside the window that are on one of the layers asked for.
+    // The proof of a count that an honest server gives of a map of version 2 is accepted. The
+    // number is that of the records inside the window that are on one of the layers asked for.
     ensures count_honest { let before = world (S.state shelf) (W.state out.old) in
         let after = world (S.state result.1) (W.state out.new) in
         CountsHonest H.of (map string_bytes words.now) before after result.0 }
