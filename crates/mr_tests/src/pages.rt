@@ -150,8 +150,9 @@ struct Row {
     text: &'static str,
 }
 
-// Page 3 is the first leaf's, and page 130 the third inner node's below the root, none of which is
-// kept when it is sought again. The first child of page 130 is page 131.
+// Page 3 is the first leaf's, and page 257 the fifth inner node's below the root. Neither is kept
+// when it is sought: no leaf is as the map is opened, and 251 of them come before page 257. The
+// first child of that is page 258.
 const ROWS: &[Row] = &[
     Row {
         name: "a proof of a map that stays",
@@ -191,9 +192,9 @@ const ROWS: &[Row] = &[
     Row {
         name: "a proof of a map with a child behind its end",
         words: WHOLE,
-        turn: Turn::Byte(532_483, 0xff),
+        turn: Turn::Byte(1_052_675, 0xff),
         status: BadMap,
-        text: "bad map page 4278190211 Outside\n",
+        text: "bad map page 4278190338 Outside\n",
     },
     Row {
         name: "an audit on a map that stays",
@@ -219,9 +220,9 @@ const ROWS: &[Row] = &[
     Row {
         name: "an audit on a map with a child behind its end",
         words: WHOLE_AUDIT,
-        turn: Turn::Byte(532_483, 0xff),
+        turn: Turn::Byte(1_052_675, 0xff),
         status: BadMap,
-        text: "bad map page 4278190211 Outside\n",
+        text: "bad map page 4278190338 Outside\n",
     },
     Row {
         name: "many proofs of a map that stays",
