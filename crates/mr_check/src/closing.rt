@@ -29,7 +29,7 @@ pub(crate) fn is_to_be_opened<A: AsQuestion>(q: &A, head: &Head, node: &Entry) -
     }
 }
 
-// Adds an entry to an open node behind which others stand, of which there is then one less.
+// Adds an entry to an open node in which more are to come, of which there is then one less.
 fn add<H: Hashes>(frame: &mut Frame<H>, version: Version, node: &Entry)
     requires some { 0 < frame.old.left }
     requires few { frame.old.node.count + node.now.count < 2 ^ 64 }
@@ -41,7 +41,7 @@ fn add<H: Hashes>(frame: &mut Frame<H>, version: Version, node: &Entry)
     frame.left -= 1;
 }
 
-// Whether others stand behind the node in the open node on top. If so, its entry is added there in
+// Whether more entries are to come in the open node on top. If so, this one is added there in
 // place: `pop` and `push` would copy what was gathered.
 fn goes_on<H: Hashes>(stack: &mut Stack<Frame<H>>, version: Version, node: &Entry) -> bool
     requires { counts_of (reverse stack.old.list.items) + node.now.count < 2 ^ 64 }

@@ -42,8 +42,8 @@ pub(crate) struct Reader<H: Hashes> {
     pub(crate) fault: Option<Fault>,
 }
 
-// What some bytes come to: the whole piece was taken; or so many of its bytes, which end a field; or
-// so many that end a record which is handed out; or there is a fault. The machine has the record.
+// What some bytes come to. The whole piece was taken, or so many of its bytes, which end a field.
+// Or so many end a record that is handed out, which the machine has; or there is a fault.
 pub(crate) enum Progress {
     More,
     Took(usize),

@@ -100,11 +100,11 @@ abbrev pub LeavesFile : (List ℕ → Type 0) → (name : List ℕ) → (before 
 LeavesFile P name before after =
     (after ≡ before) ⊎ ((bytes : List ℕ) × P bytes × IsChanged (with_file name) bytes before after)
 
--- each refusal has its cause: a file is not missing, since the call makes it
+-- each refusal has its cause: Missing comes only where no files are told, since the call makes its
+-- file
 pub record SaveCauses {A : Type 0} (before after : Shelved) (result : Result A ShelfErr)
     : Type 0 where
   pub missing : IsErrOf result shelf.Missing → Rose before.faults after.faults
-  -- where files are told, none is missing
   pub untold : IsErrOf result shelf.Missing → before.files ≡ None
   pub fault : IsErrOf result shelf.Fault → Rose before.faults after.faults
   pub faults : before.faults ≤ after.faults

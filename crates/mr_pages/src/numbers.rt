@@ -1,6 +1,6 @@
 //! Numbers that were met.
 
-ghost use Rattle.std.specs.Prelude.{◌≡◌, ◌≢◌, ◌≤◌, ◌^◌, [], length, IfOk};
+ghost use Rattle.std.specs.Prelude.{◌≡◌, ◌≢◌, ◌≤◌, ◌^◌, min, [], length, IfOk};
 ghost use Rattle.mr_pages.specs.private.Places.{number_in_place};
 ghost use Rattle.mr_pages.specs.private.Numbers.{count_kept, Met, MeetsNumber};
 
@@ -29,7 +29,9 @@ impl Numbers {
     /// that is fewer.
     pub fn new(alloc: Global, places: usize) -> Result<Numbers, AllocError>
         requires { 1 ≤ places }
-        ensures { IfOk result (λ s. Met s []) }
+        ensures none { IfOk result (λ s. Met s []) }
+        ensures flags { IfOk result (λ s. length s.flags.flags.items ≡ min places (2 ^ 20)) }
+        ensures table { IfOk result (λ s. length s.table.places.items ≡ min places (2 ^ 20)) }
     {
         let places = places.min(PLACES);
         Ok(Numbers {

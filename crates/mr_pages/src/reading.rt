@@ -83,6 +83,8 @@ pub fn read_filled<S: Shelf>(
     ensures bytes { IfOk result (λ n. OfFile (S.state shelf.old).files name.now ⊥
         (λ file. at + length into.old ≤ length file →
         into.new ≡ take (length into.old) (drop at file))) }
+    ensures front { IfOk result (λ n. OfFile (S.state shelf.old).files name.now ⊥
+        (λ file. take n into.new ≡ take n (drop at file))) }
     ensures count { IfOk result (λ n. OfFile (S.state shelf.old).files name.now ⊥
         (λ file. n ≡ min (length into.old) (length file - at))) }
     ensures rest { IfOk result (λ n. drop n into.new ≡ replicate (length into.old - n) 0) }

@@ -1,5 +1,5 @@
 -- Fields in front of a line, which were read in one pass.
-use Rattle.std.proofs.Common.{◌≡◌, ℕ, ◌+◌, ◌*◌, ◌-◌, ◌^◌, ◌<◌, ◌≤◌, Bool, true, false, cond, eqb, ltb, leb, ◌&&◌, ◌||◌, not, List, [], ◌∷◌, ◌++◌, length, get_or, take, drop, Option, Some, None, Result, Ok, refl, sym, ap, subst, ◌∙◌, arith}
+use Rattle.std.proofs.Common.{◌≡◌, ℕ, ◌+◌, ◌*◌, ◌-◌, ◌^◌, ◌<◌, ◌≤◌, Bool, true, false, cond, eqb, ltb, leb, ◌&&◌, ◌||◌, not, List, [], ◌∷◌, ◌++◌, length, get_or, take, drop, Option, Some, None, Ok, refl, sym, ap, subst, ◌∙◌, arith}
 use Rattle.std.specs.Prelude.{ℤ, ok_or}
 use Rattle.std.specs.Char.{is_ascii_digit, digit_value}
 use Rattle.std.specs.Int.{w32, cast_signed, cast_unsigned}
@@ -14,15 +14,13 @@ use Rattle.std.proofs.lemmas.List.Elements.{All-cons}
 use Rattle.std.proofs.lemmas.List.Folds.{list_all_more}
 use Rattle.std.proofs.lemmas.List.Sums.{AllPass-from_list_all}
 use Rattle.mr_geom.specs.Rectangle.{Rectangle, rectangle_of}
-use Rattle.mr_record.specs.declared.record.Record.{Record}
-use Rattle.mr_record.specs.declared.text_fault.TextRule.{TextRule}
 use Rattle.mr_record.specs.declared.text_fault.TextRule.TheVariants.{Form, Number, Coordinate, Order, Payload}
 use Rattle.mr_record.specs.declared.version.Version.{Version}
 use Rattle.mr_record.specs.declared.version.Version.TheVariants.{One, Two}
 use Rattle.mr_record.specs.Decimal.{is_canonical, u64_of, i32_of, negative, not_negative, at_most}
 use Rattle.mr_record.specs.Lines.{fields_of, LacksByte}
 use Rattle.mr_record.specs.Results.{◌>>=◌}
-use Rattle.mr_record.specs.RecordText.{payload_of, layer_of, Last, last_of, Unlayered, rectangle_of_fields, record_from, record_of_fields}
+use Rattle.mr_record.specs.RecordText.{payload_of, layer_of, Last, last_of, rectangle_of_fields, record_from, record_of_fields}
 use Rattle.mr_record.specs.private.Fronts.{StandsInFront, HasPointInFront, HasLayerInFront}
 use Rattle.mr_record.proofs.Decimals.{u64_of-some}
 use Rattle.mr_record.proofs.Fields.{fields_cut, fields_one, last_one, last_two}

@@ -236,6 +236,8 @@ pub fn write_line2<W: Sink>(out: &mut W, one: &Record) -> Result<(), SinkErr>
 fn make_room<W: Sink, const N: usize>(out: &mut W, piece: &mut Buffer<N>) -> Result<(), SinkErr>
     requires { 512 ≤ N }
     ensures room { OnOk result (length piece.new + 512 ≤ N) }
+    ensures waits { length piece.old + 512 ≤ N →
+        (piece.new ≡ piece.old) × (W.state out.new ≡ W.state out.old) }
     ensures sent { OnOk result (SendsFront (W.state out.old) (W.state out.new) piece.old
         piece.new) }
     ensures front { TakesFront (W.state out.old) (W.state out.new) piece.old }

@@ -31,8 +31,8 @@ pub record GoesDown (hash : List ℕ → List ℕ) (s : MapModel) (c d : Child) 
   pub is : d ≡ get_or children place d
   pub known : map view.child_entry (take place children) ≡ map (entry (by s.version hash)) left
 
--- The page is that of this child, and a fetch of it may show a node that is refused: one that does
--- not have what is told of it or too few entries, or one with a number that was met before.
+-- The page is that of this child, and a fetch of it may show a node that is refused. Such a node
+-- does not have what is told of it, or has too few entries, or has a number that was met before.
 pub record IsRefused (hash : List ℕ → List ℕ) (s : MapModel) (root : Bool) (met : List ℕ)
     (c : Child) (page : ℕ) : Type 0 where
   pub page_is : page ≡ c.id

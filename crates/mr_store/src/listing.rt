@@ -238,7 +238,8 @@ pub fn directory<N: Nodes>(alloc: Global, nodes: &mut N) -> Result<Directory, No
     ensures answered { TellsRefusal (λ e. e) (N.refusal nodes.old) (N.refusal nodes.new) result }
     ensures cause { IfErr result (HasSomeCause (N.stands nodes.old)
         (N.faults nodes.old) (N.faults nodes.new)) }
-    // Told or not, it stops with what a fetch refused, or blames a node that breaks a rule.
+    // Told or not, it stops with what a fetch refused, or blames a node that breaks a rule, or the
+    // root for its count; or memory ran out.
     ensures blames { IfErr result (StopsMap N.Hash.of (N.stands nodes.old)
         (N.refusal nodes.new)) }
 {

@@ -48,7 +48,8 @@ impl<S: Shelf, H: Hash32> Paged<S, H> {
             ≤ self.old.fetches + length (subtrees (tree_of p.nodes.items p.top))) }
         ensures cause { IfErr result (HasSomeCause (stands_for self.old)
             (shelved self.old).faults (shelved self.new).faults) }
-        // Told or not, it stops with what a fetch refused, or blames a node that breaks a rule.
+        // Told or not, it stops with what a fetch refused, or blames a node that breaks a rule, or
+        // the root for its count; or memory ran out.
         ensures blames { IfErr result (StopsAt H.of (stands_for self.old) self.old.head.root
             self.old.head.count self.new.refusal) }
         ensures quiet { OnOk result ((shelved self.new).faults ≡ (shelved self.old).faults) }

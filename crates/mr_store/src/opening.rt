@@ -232,7 +232,8 @@ impl<S: Shelf, H: Hash32> Paged<S, H> {
     /// Opens the map in a file of the shelf, which is handed back beside a refusal.
     ///
     /// Each page is read at most once, and checked; what is kept are the nodes of up to 256. Of a
-    /// map of more than 257 pages no leaf is kept as it is opened; what is fetched is kept then.
+    /// map of more than 257 pages no leaf is kept as it is opened, but each node is once it is
+    /// fetched.
     /// The file's length is what `size` gives, and what a read gives short counts as zeros. It is
     /// read in version 2 where its byte 4 is 2, else in version 1; one that is smaller than any
     /// page is not read at all.

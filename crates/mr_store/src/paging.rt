@@ -26,8 +26,8 @@ use std::alloc::AllocError;
 use std::marker::PhantomData;
 
 /// A file of whole pages, of which page 0 was read and the others are read one by one. With it come
-/// the nodes of it that are kept: the inner ones, and the leaves where there is room for all nodes.
-/// The records that were met come too, where they are wanted.
+/// the nodes of it that are kept, 256 at most: inner ones, and leaves where there is room for all
+/// nodes. The records that were met come too, where they are wanted.
 pub(crate) struct Paging<'a, S: Shelf, H: Hashes> {
     pub(crate) file: CachedFile<S>,
     pub(crate) first: &'a [u8],

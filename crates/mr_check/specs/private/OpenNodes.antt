@@ -19,7 +19,8 @@ Adds v holds before after x =
     (head : List ℕ) (pieces : List Piece) → Gathered holds before head pieces
     → Gathered holds after head (pieces ++ of_entry v x ∷ [])
 
--- it was added to the open node on top, behind which others stand: one less than before
+-- It was added to the open node on top, in which more are to come: one less than before. The other
+-- open nodes are as before.
 pub record AddsOnTop {H : Type 0} (v : Version) (holds : H → List ℕ → Type 0) (x : Entry)
     (before after : List (Frame H)) : Type 0 where
   pub top : Frame H

@@ -1,5 +1,5 @@
 use Rattle.mr_outside.proofs.Pieces.{OfFile-map}
-use Rattle.mr_pages.proofs.Filled.{piece_over, zeros_over}
+use Rattle.mr_pages.proofs.Filled.{front_over, piece_over, zeros_over}
 use Rattle.mr_pages.proofs.reading.read_filled.Goals as goal
 
 pub returns-in-Ok-clause-bytes : goal.returns-in-Ok-clause-bytes
@@ -15,4 +15,10 @@ returns-in-Ok-clause-rest g c =
 pub returns-in-Ok-clause-count : goal.returns-in-Ok-clause-count
 returns-in-Ok-clause-count g c =
     OfFile-map (g.S.Shelf.state c.args.shelf.now).files c.args.name.now _ _ (λ file given. given.count_is)
+    c.in-Ok.ensures.gives
+
+pub returns-in-Ok-clause-front : goal.returns-in-Ok-clause-front
+returns-in-Ok-clause-front g c =
+    front_over (g.S.Shelf.state c.args.shelf.now).files c.args.name.now c.args.at c.in-Ok.count c.args.into.now
+    c.read_at.new.into c.fill_up.new.page c.read_at.auto.into c.in-Ok.ensures.fills.within c.fill_up.ensures
     c.in-Ok.ensures.gives

@@ -1,4 +1,4 @@
-use Rattle.std.proofs.Common.{sym, ◌∙◌}
+use Rattle.std.proofs.Common.{sym}
 use Rattle.mr_record.proofs.Fronts.{below_zero_in_front, from_zero_in_front}
 use Rattle.mr_record.proofs.front.front_coordinate.Goals as goal
 

@@ -1,4 +1,3 @@
-use Rattle.mr_outside.specs.State.{Sunk}
 use Rattle.mr_record.proofs.WrittenLines.{HasGathered}
 use Rattle.mr_record.proofs.print.write_gathered.Given as goal
 
