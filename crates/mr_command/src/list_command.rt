@@ -103,7 +103,7 @@ fn write_some<W: Sink>(
 }
 
 // How many records are copied at once.
-const COPIED: usize = 1_024;
+const COPIED: usize = 32_768;
 
 // Writes a line of this version for each of these records.
 fn write_entries<W: Sink>(
@@ -128,7 +128,7 @@ fn write_entries<W: Sink>(
 }
 
 /// Writes a line of this version for each record of a tree, in rising number. Numbers are sorted
-/// with references; records are copied 1,024 at a time.
+/// with references; records are copied 32,768 at a time.
 pub fn write_tree<W: Sink>(
     alloc: Global,
     out: &mut W,

@@ -15,7 +15,7 @@ returns-in_err-write_some-clause-front g t c =
     subst (TakesFront (S c.args.out.now) (S c.write_some-2.new.out))
     (sym (text_both c.args.version some others)
     ∙ ap (text_of c.args.version) (sym (items_cut c.args.entries.now c.split_at.result.0.now
-    c.split_at.result.1.now 1024 c.split_at.ensures.front c.split_at.ensures.back)))
+    c.split_at.result.1.now 32768 c.split_at.ensures.front c.split_at.ensures.back)))
     (front_before (S c.args.out.now) (S c.write_some-2.new.out) (text_of c.args.version some)
     (text_of c.args.version others)
     c.write_some-2.ensures.front)
@@ -28,7 +28,7 @@ returns-clause-front g t c =
     subst (TakesFront (S c.args.out.now) (S c.write_entries.new.out))
     (sym (text_both c.args.version some others)
     ∙ ap (text_of c.args.version) (sym (items_cut c.args.entries.now c.split_at.result.0.now
-    c.split_at.result.1.now 1024 c.split_at.ensures.front c.split_at.ensures.back)))
+    c.split_at.result.1.now 32768 c.split_at.ensures.front c.split_at.ensures.back)))
     (front_after (S c.args.out.now) (S c.write_some-2.new.out) (S c.write_entries.new.out) (text_of c.args.version some)
     (text_of c.args.version others) c.in_ok-write_some.ensures.whole c.write_entries.ensures.front)
 
@@ -40,7 +40,7 @@ returns-clause-whole g t c =
     subst (λ text. OnOk c.write_entries.result (TakesBytes (S c.args.out.now) (S c.write_entries.new.out) text))
     (sym (text_both c.args.version some others)
     ∙ ap (text_of c.args.version) (sym (items_cut c.args.entries.now c.split_at.result.0.now
-    c.split_at.result.1.now 1024 c.split_at.ensures.front c.split_at.ensures.back)))
+    c.split_at.result.1.now 32768 c.split_at.ensures.front c.split_at.ensures.back)))
     (whole_after (S c.args.out.now) (S c.write_some-2.new.out) (S c.write_entries.new.out) (text_of c.args.version some)
     (text_of c.args.version others) c.write_entries.result c.in_ok-write_some.ensures.whole
     c.write_entries.ensures.whole)
@@ -53,7 +53,7 @@ returns-clause-causes g t c =
 
 pub write_some-requires-2 : goal.write_some-requires-2
 write_some-requires-2 g t c =
-    front_layers c.args.version c.args.entries.now c.split_at.result.0.now c.split_at.result.1.now 1024
+    front_layers c.args.version c.args.entries.now c.split_at.result.0.now c.split_at.result.1.now 32768
     c.split_at.ensures.front c.split_at.ensures.back c.requires
 
 pub write_entries-requires : goal.write_entries-requires
@@ -61,6 +61,6 @@ write_entries-requires g t c κs within =
     let here : length c.args.entries.now ≡ t = c.decreases in
     let fewer : length c.split_at.result.1.now < t =
     omega (arith, here, c.if-entries-le-COPIED.false, c.split_at.ensures.back_len) in
-    let layers = back_layers c.args.version c.args.entries.now c.split_at.result.0.now c.split_at.result.1.now 1024
+    let layers = back_layers c.args.version c.args.entries.now c.split_at.result.0.now c.split_at.result.1.now 32768
     c.split_at.ensures.front c.split_at.ensures.back c.requires in
     (fewer, (search rules, layers))
