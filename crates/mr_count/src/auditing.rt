@@ -86,7 +86,8 @@ pub fn audit_choice<N: Nodes, C: Choice>(
         kind (C.ways choice.now) proof.now)) }
     ensures given { IfSome (N.stands nodes.old).tree (λ t. IfOk result
         (GivesChosen t (C.ways choice.now))) }
-    // Told or not, what is found goes by the verdict against the root digest of what `top` says.
+    // Told or not, what is found goes by the verdict against the root digest of a head that such a
+    // map may tell.
     ensures judged { IfOk result (FindsForChoice N.Hash.of (N.stands nodes.old) kind
         (C.ways choice.now) proof.now) }
     ensures fits { IfOk result GivesFitting }
@@ -94,7 +95,8 @@ pub fn audit_choice<N: Nodes, C: Choice>(
     // No rule on a flag or a squared radius is broken, since there is none.
     ensures rules { IfOk result BreaksNoFlag }
     // No more nodes are fetched than accepted bytes open, and none for bytes that are refused: by
-    // the verdict against the root digest of what `top` says, and where the tree is told, of that.
+    // the verdict against the root digest of a head that such a map may tell, and where the tree is
+    // told, of that.
     ensures fetches { FetchesFor N.Hash.of (N.stands nodes.old) (chosen kind (C.ways choice.now))
         proof.now (N.fetches nodes.old) (N.fetches nodes.new) }
     ensures fetched { IfSome (N.stands nodes.old).tree (λ t. N.fetches nodes.new ≤

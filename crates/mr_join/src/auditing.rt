@@ -257,8 +257,8 @@ pub fn audit_join<A: Nodes, B: Nodes>(
         (λ u. (A.stands first.old).version ≡ Two → (B.stands second.old).version ≡ Two
         → WellFormed t → WellFormed u → IfOk result (FindsHonestJoin A.Hash.of B.Hash.of
         (owned (A.stands first.old) t) (owned (B.stands second.old) u) proof.now))) }
-    // Told or not, what is found goes by the verdict against the root digests of what `top` says of
-    // either map.
+    // Told or not, what is found goes by the verdict against the root digests of heads that such
+    // maps may tell.
     ensures judged { IfOk result (FindsForJoin A.Hash.of B.Hash.of (A.stands first.old)
         (B.stands second.old) proof.now) }
     // Told or not, two strings that are shown differ and have one hash.
@@ -266,8 +266,8 @@ pub fn audit_join<A: Nodes, B: Nodes>(
     // No rule on a flag or a squared radius is broken in a part, since there is none.
     ensures rules { IfOk result BreaksNoFlag }
     // No more nodes of either map are fetched than accepted bytes open, and none for bytes that are
-    // refused. That is by the verdict against the root digests of what `top` says, and where the
-    // trees are told, of those.
+    // refused. That is by the verdict against the root digests of heads that such maps may tell,
+    // and where the trees are told, of those.
     ensures fetches { FetchesForJoin A.Hash.of B.Hash.of
         (watched (A.stands first.old) (A.fetches first.old) (A.fetches first.new))
         (watched (B.stands second.old) (B.fetches second.old) (B.fetches second.new)) proof.now }

@@ -51,6 +51,8 @@ pub fn read_front<S: Shelf>(
     ensures version { IfOk result (λ v. v ≡ version_of room.new) }
     ensures told { OnOk result (OfFile (S.state shelf.old).files name.now ⊥
         (λ file. length file ≡ size → IsFrontOfFile file room.new)) }
+    ensures behind { OnOk result
+        (drop (min size 8192) room.new ≡ replicate (8192 - min size 8192) 0) }
     ensures causes { ShelfCauses name.now (S.state shelf.old) (S.state shelf.new) result }
     ensures files { (S.state shelf.new).files ≡ (S.state shelf.old).files }
     ensures reads { CountsRead (S.state shelf.old) (S.state shelf.new) result }

@@ -276,7 +276,8 @@ fn write_gathered<W: Sink, const N: usize>(
 
 /// Writes a line of this version for each record, in their order. Lines are gathered, and the sink
 /// is given pieces of whole lines. These have up to 65,536 bytes, or up to 8,192 where there are no
-/// more than 128 records. After a refusal some front of the text was taken.
+/// more than 128 records. No clause says how many pieces there are. After a refusal some front of
+/// the text was taken.
 pub fn write_lines<W: Sink>(
     out: &mut W,
     version: Version,

@@ -1,13 +1,13 @@
 -- What a walk is stopped by: what a fetch refused, or the page of a node that it came to and refused.
 use Rattle.std.proofs.Common.{◌≡◌, ◌≢◌, ℕ, ◌<◌, Bool, true, false, List, [], ◌∷◌, ◌++◌, length, map, take, get_or, inl, inr, refl, sym, ap, subst, ◌∙◌}
 use Rattle.std.specs.Prelude.{◌⊎◌, Option, Some, Result, Err}
-use Rattle.std.specs.List.{flat_map}
+use Rattle.std.specs.List.{flat_map, AllByRecursion}
 use Rattle.std.proofs.lemmas.List.{length-map}
 use Rattle.mr_record.specs.declared.record.Record.{Record}
 use Rattle.mr_record.specs.declared.version.Version.{Version}
 use Rattle.mr_tree.specs.Tree.{records}
 use Rattle.mr_tree.specs.Digest.{by, entry}
-use Rattle.mr_tree.specs.View.{child_entry}
+use Rattle.mr_tree.specs.View.{Node, IsView, child_entry}
 use Rattle.mr_tree.specs.Nodes.{MapModel, ShowsNode, TellsRefusal}
 use Rattle.mr_tree.specs.declared.child.Child.{Child}
 use Rattle.mr_tree.specs.declared.nodes.NodesErr.{NodesErr}
@@ -19,7 +19,8 @@ use Rattle.mr_pages.specs.Walking.{Saw}
 use Rattle.mr_pages.specs.private.Numbers.{count_kept}
 use Rattle.mr_pages.specs.declared.visited.Visited.{Visited}
 use Rattle.mr_store.specs.Blamed.{IsBlamed, IsMiscounted, StopsAs, StopsAt}
-use Rattle.mr_store.specs.private.Walk.{IsUnfit, IsTwice, Walked}
+use Rattle.mr_store.specs.private.Walk.{IsFine, IsUnfit, IsTwice, Walked}
+use Rattle.mr_store.proofs.Walks.{records_fine}
 
 -- a refusal is told of whatever would have been answered
 pub told_on : {A B : Type 0} (before after : Option NodesErr) (e : NodesErr) →
@@ -56,79 +57,98 @@ stops_as P Q r errors.Fault f h = h
 stops_as P Q r errors.NoMemory f h = tt
 
 module _ (hash : List ℕ → List ℕ) (s : MapModel) where
-  pub look_stops : (root : Bool) (ns : List ℕ) (c : Child) (r : Option NodesErr) (e : NodesErr) →
-      IsUnfit hash s root c e ⊎ (r ≡ Some e) → StopsAs (IsBlamed hash s root ns c) r e
-  look_stops root ns c r e h = elim h [
-    | inl own ↦ page_stops (IsBlamed hash s root ns c) r e c.id own.page (record {
-      down = [];
-      leads = record { page_is = refl; node = own.node; shows = own.shows; breaks = inl own.unfit };
-    })
-    | inr refused ↦ refusal_stops (IsBlamed hash s root ns c) r e refused
+  -- a page that was asked for last, and is blamed by a walk from this child
+  abbrev Last : (ℕ → Type 0) → Bool → List ℕ → Child → ℕ → Type 0
+  Last asked root ns c page = asked page × IsBlamed hash s root ns c page
+
+  pub look_stops : (asked : ℕ → Type 0) (root : Bool) (ns : List ℕ) (c : Child) (node : Node) (r : Option NodesErr)
+      (e : NodesErr) → asked c.id → IsUnfit hash s root c node e ⊎ (r ≡ Some e) →
+      StopsAs (Last asked root ns c) r e
+  look_stops asked root ns c node r e last h = elim h [
+    | inl own ↦ page_stops (Last asked root ns c) r e c.id own.page (
+      last,
+      record {
+        down = [];
+        leads = record { page_is = refl; node = node; shows = own.shows; views = own.views; breaks = inl own.unfit };
+      },
+    )
+    | inr refused ↦ refusal_stops (Last asked root ns c) r e refused
   ]
 
-  pub leaf_stops : (root : Bool) (pages : ℕ) (ns : List ℕ) (c : Child) (rs : List Record) (before : Visited)
-      (r : Option NodesErr) (e : NodesErr) → ShowsNode hash s c (Leaf rs) → Saw pages before [] ns →
-      IsTwice c.id before rs e → StopsAs (IsBlamed hash s root ns c) r e
-  leaf_stops root pages ns c rs before r (errors.Page page) shows saw h = inr (record {
-    down = [];
-    leads = record { page_is = h.0; node = Leaf rs; shows = shows; breaks = inr (h.1 pages ns saw) };
-  })
-  leaf_stops root pages ns c rs before r (errors.Changed page held found) shows saw h = absurd h
-  leaf_stops root pages ns c rs before r (errors.Outside page) shows saw h = absurd h
-  leaf_stops root pages ns c rs before r errors.Missing shows saw h = absurd h
-  leaf_stops root pages ns c rs before r errors.Fault shows saw h = absurd h
-  leaf_stops root pages ns c rs before r errors.NoMemory shows saw h = tt
+  pub leaf_stops : (asked : ℕ → Type 0) (root : Bool) (pages : ℕ) (ns : List ℕ) (c : Child) (rs : List Record)
+      (before : Visited) (r : Option NodesErr) (e : NodesErr) → asked c.id →
+      ShowsNode hash s c (Leaf rs) → IsView (Leaf rs) → Saw pages before [] ns →
+      IsTwice c.id before rs e → StopsAs (Last asked root ns c) r e
+  leaf_stops asked root pages ns c rs before r (errors.Page page) last shows views saw h = inr (
+    subst asked (sym h.0) last,
+    record {
+      down = [];
+      leads = record { page_is = h.0; node = Leaf rs; shows = shows; views = views; breaks = inr (h.1 pages ns saw) };
+    },
+  )
+  leaf_stops asked root pages ns c rs before r (errors.Changed page held found) last shows views saw h = absurd h
+  leaf_stops asked root pages ns c rs before r (errors.Outside page) last shows views saw h = absurd h
+  leaf_stops asked root pages ns c rs before r errors.Missing last shows views saw h = absurd h
+  leaf_stops asked root pages ns c rs before r errors.Fault last shows views saw h = absurd h
+  leaf_stops asked root pages ns c rs before r errors.NoMemory last shows views saw h = tt
 
   -- what stops a walk from a child that a node names
-  pub below_stops : (v : Version) (s' : MapModel) (root : Bool) (c d : Child) (children : List Child) (i : ℕ)
-      (left : List Tree) (ns : List ℕ) (r : Option NodesErr) (e : NodesErr) → s.version ≡ v → s' ≡ s →
-      ShowsNode hash s c (Inner children) → i < length children → d ≡ get_or children i d →
+  pub below_stops : (asked : ℕ → Type 0) (v : Version) (s' : MapModel) (root : Bool) (c d : Child)
+      (children : List Child) (i : ℕ) (left : List Tree) (ns : List ℕ) (r : Option NodesErr) (e : NodesErr) →
+      s.version ≡ v → s' ≡ s → ShowsNode hash s c (Inner children) → IsView (Inner children) →
+      i < length children → d ≡ get_or children i d →
       map child_entry (take i children) ≡ map (entry (by v hash)) left →
-      StopsAs (IsBlamed hash s' false (ns ++ numbers_of (flat_map records left)) d) r e →
-      StopsAs (IsBlamed hash s root ns c) r e
-  below_stops v s' root c d children i left ns r e one same shows within is known h =
+      AllByRecursion (IsFine v false) left →
+      StopsAs (λ page. asked page × IsBlamed hash s' false (ns ++ numbers_of (flat_map records left)) d page) r e →
+      StopsAs (Last asked root ns c) r e
+  below_stops asked v s' root c d children i left ns r e one same shows views within is known fine h =
       let met = ns ++ numbers_of (flat_map records left) in
-      stops_as (IsBlamed hash s' false met d) (IsBlamed hash s root ns c) r e
+      stops_as (λ page. asked page × IsBlamed hash s' false met d page) (Last asked root ns c) r e
       (λ page blamed.
-      let q = subst (λ y. IsBlamed hash y false met d page) same blamed in
-      record {
-        down = (d, left) ∷ q.down;
-        leads = (
-          record {
-            children = children;
-            place = i;
-            shows = shows;
-            within = within;
-            is = is;
-            known = subst (λ w. map child_entry (take i children) ≡ map (entry (by w hash)) left) (sym one) known;
-          },
-          q.leads,
-        );
-      }) h
+      let q = subst (λ y. IsBlamed hash y false met d page) same blamed.1 in (
+        blamed.0,
+        record {
+          down = (d, left) ∷ q.down;
+          leads = (
+            record {
+              children = children;
+              place = i;
+              shows = shows;
+              views = views;
+              within = within;
+              is = is;
+              known = subst (λ w. map child_entry (take i children) ≡ map (entry (by w hash)) left) (sym one) known;
+              each = records_fine v left fine;
+            },
+            q.leads,
+          );
+        },
+      )) h
 
   -- a walk from the root
-  pub walk_stops : (c : Child) (count : ℕ) (r : Option NodesErr) (e : NodesErr) →
-      StopsAs (IsBlamed hash s true [] c) r e → StopsAt hash s (Some c) count r e
-  walk_stops c count r e h = stops_as (IsBlamed hash s true [] c)
-      (λ page. IsMiscounted hash s c count page ⊎ IsBlamed hash s true [] c page) r e (λ page blamed. inr blamed) h
+  pub walk_stops : (asked : ℕ → Type 0) (c : Child) (count : ℕ) (r : Option NodesErr) (e : NodesErr) →
+      StopsAs (Last asked true [] c) r e → StopsAt hash s (Some c) count asked r e
+  walk_stops asked c count r e h = stops_as (Last asked true [] c)
+      (λ page. IsMiscounted hash s c count page ⊎ Last asked true [] c page) r e (λ page blamed. inr blamed) h
 
-  pub root_stops : (v : Version) (c : Child) (count met pages : ℕ) (before after : Visited) (f f' : ℕ)
-      (made : Tree → Type 0) (r : Option NodesErr) (e : NodesErr) → s.version ≡ v → e ≡ errors.Page c.id →
+  pub root_stops : (asked : ℕ → Type 0) (v : Version) (c : Child) (count met pages : ℕ) (before after : Visited)
+      (f f' : ℕ) (made : Tree → Type 0) (r : Option NodesErr) (e : NodesErr) → s.version ≡ v → e ≡ errors.Page c.id →
       Saw pages before [] [] → Walked (by v hash) s true c before after f f' made →
-      met ≡ count_kept after.numbers → met ≢ count → StopsAt hash s (Some c) count r e
-  root_stops v c count met pages before after f f' made r e one is start walked counted other =
+      met ≡ count_kept after.numbers → met ≢ count → StopsAt hash s (Some c) count asked r e
+  root_stops asked v c count met pages before after f f' made r e one is start walked counted other =
       let t = walked.under in
       let saw = (walked.met pages [] start).1 in
       let all : met ≡ length (records t) =
       counted ∙ saw.met.count ∙ length-map (records t) (λ (y : Record). y.number) in
-      page_stops (λ page. IsMiscounted hash s c count page ⊎ IsBlamed hash s true [] c page) r e c.id is (inl (record {
+      page_stops (λ page. IsMiscounted hash s c count page ⊎ Last asked true [] c page) r e c.id is (inl (record {
         page_is = refl;
         tree = t;
         digest = subst (λ w. (entry (by w hash) t).digest ≡ c.digest) (sym one) walked.digest;
+        each = walked.each;
         other = λ same. other (all ∙ same);
       }))
 
   -- what stops a walk from the root that is said
-  pub said_stops : (root : Option Child) (c : Child) (count : ℕ) (r : Option NodesErr) (e : NodesErr) →
-      root ≡ Some c → StopsAt hash s (Some c) count r e → StopsAt hash s root count r e
-  said_stops root c count r e is h = subst (λ o. StopsAt hash s o count r e) (sym is) h
+  pub said_stops : (asked : ℕ → Type 0) (root : Option Child) (c : Child) (count : ℕ) (r : Option NodesErr)
+      (e : NodesErr) → root ≡ Some c → StopsAt hash s (Some c) count asked r e → StopsAt hash s root count asked r e
+  said_stops asked root c count r e is h = subst (λ o. StopsAt hash s o count asked r e) (sym is) h

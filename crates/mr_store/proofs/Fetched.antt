@@ -12,7 +12,6 @@ use Rattle.mr_outside.specs.Faults.{Rose}
 use Rattle.mr_outside.specs.State.{Shelved}
 use Rattle.mr_outside.specs.Told.{OfFile, MayMiss}
 use Rattle.mr_tree.specs.Limits.{level_limit}
-use Rattle.mr_record.specs.declared.version.Version.{Version}
 use Rattle.mr_tree.specs.declared.entry.Entry.{Entry}
 use Rattle.mr_tree.specs.Digest.{Scheme, by, entry}
 use Rattle.mr_tree.specs.View as view

@@ -1,6 +1,6 @@
 -- What an opened map says of itself, and what its file stands for.
-use Rattle.std.proofs.Common.{◌≡◌, ℕ, ◌≤◌, List, length, refl, arith}
-use Rattle.std.specs.Prelude.{⊤, Option, Some, None, Result, Ok, Err, IfOk, IfSome, IsSome, MatchOption}
+use Rattle.std.proofs.Common.{◌≡◌, ℕ, List, length, refl}
+use Rattle.std.specs.Prelude.{⊤, Option, Some, None, Ok, IfSome, IsSome, MatchOption}
 use Rattle.mr_outside.specs.Files.{Files, file}
 use Rattle.mr_outside.specs.Told.{OfFile}
 use Rattle.mr_record.specs.Version as version

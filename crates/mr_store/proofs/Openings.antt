@@ -1,5 +1,5 @@
 -- A map whose pages were checked is a store.
-use Rattle.std.proofs.Common.{◌≡◌, ℕ, ◌+◌, ◌*◌, ◌/◌, ◌<◌, ◌^◌, ◌≤◌, true, false, List, [], length, inl, inr, refl, sym, ap, subst, ◌∙◌, arith}
+use Rattle.std.proofs.Common.{◌≡◌, ℕ, ◌+◌, ◌*◌, ◌/◌, ◌<◌, ◌^◌, ◌≤◌, List, [], length, inl, inr, refl, sym, ap, subst, ◌∙◌, arith}
 use Rattle.std.specs.Prelude.{◌↔◌, ◌⊎◌, ⊤, min, max, Contains, Option, Some, None, option_map, Result, Ok, Err, IfSome, IsSome, IsNone, MatchOption, MatchResult}
 use Rattle.std.specs.String.{string_bytes}
 use Rattle.std.proofs.Math.Nat.{mul-div_cancel}
@@ -8,7 +8,6 @@ use Rattle.lru.proofs.Splits.{Contains-nil}
 use Rattle.mr_outside.specs.Files.{Files, file}
 use Rattle.mr_outside.specs.State.{Shelved}
 use Rattle.mr_tree.specs.declared.child.Child.{Child}
-use Rattle.mr_tree.specs.declared.tree.Tree.{Tree}
 use Rattle.mr_pages.specs.declared.head.MapHead.{MapHead}
 use Rattle.mr_pages.specs.declared.checking.Checked.{Checked}
 use Rattle.mr_pages.specs.Page.{Form, IsForm, IsRoot, page_limit}

@@ -9,7 +9,7 @@ use Rattle.mr_tree.specs.View as view
 use Rattle.mr_tree.specs.Nodes.{MayFetch, ShowsNode, HasFetchCause}
 use Rattle.mr_tree.specs.declared.child.Child.{Child}
 use Rattle.mr_tree.specs.declared.nodes.NodesErr.{NodesErr}
-use Rattle.mr_pages.specs.Page.{Form, IsForm}
+use Rattle.mr_pages.specs.Page.{IsForm}
 use Rattle.mr_pages.specs.PageBytes.{form_of}
 use Rattle.mr_pages.specs.declared.head.MapHead.{MapHead}
 use Rattle.mr_pages.proofs.HeadLaws.{form_is}

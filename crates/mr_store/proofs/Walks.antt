@@ -1,24 +1,22 @@
 -- A walk over the nodes of a map: what stands below each child, and why it stops.
 use Rattle.std.proofs.Common.{◌≡◌, ◌≢◌, ℕ, zero, suc, ◌+◌, ◌<◌, ◌≤◌, Bool, true, false, List, [], ◌∷◌, ◌++◌, length, map, get_or, take, drop, refl, sym, ap, subst, ◌∙◌, arith, append_assoc}
-use Rattle.std.specs.Prelude.{◌&&◌, ◌||◌, ◌==◌, sum, not, All, Option, Some, None, IfSome, IsSome, IsNone, IsSomeAnd, Result, Ok, Err, IfOk, IfErr, OnOk}
+use Rattle.std.specs.Prelude.{◌&&◌, ◌||◌, ◌==◌, not, All, Option, Some, None, IfSome, IsSome, IsNone, IsSomeAnd, Result, Ok, Err, IfOk, IfErr, OnOk}
 use Rattle.std.specs.List.{flat_map, AllByRecursion}
-use Rattle.std.proofs.Math.Logic.{∥∥₁_elim}
 use Rattle.std.proofs.lemmas.Bool.{OnFalse_at, ltb-false, le-ltb, eqb-true, eq-eqb}
 use Rattle.std.proofs.lemmas.List.{length-map, length-append, map-append, append-nil, take_more}
 use Rattle.std.proofs.lemmas.List.Concat.{flat_map-append}
 use Rattle.std.proofs.lemmas.List.Elements.{All-from_recursion, recursion_from_All, All-append, All-nil}
-use Rattle.mr_geom.specs.Rectangle.{union_of}
 use Rattle.mr_outside.specs.Faults.{next_count}
 use Rattle.mr_record.specs.Record.{IsRecord, HasLayer}
 use Rattle.mr_record.specs.declared.record.Record.{Record}
 use Rattle.mr_record.specs.declared.version.Version.{Version}
-use Rattle.mr_tree.specs.Tree.{level, records, first_level, mask_of}
+use Rattle.mr_tree.specs.Tree.{level, records, first_level}
 use Rattle.mr_tree.specs.Digest.{Scheme, by, entry, entry_step}
 use Rattle.mr_tree.specs.declared.entry.Entry.{Entry}
 use Rattle.mr_tree.specs.WellFormed.{HasOneLevel, IsFilled}
 use Rattle.mr_tree.specs.View as view
 use Rattle.mr_tree.specs.View.{IsInner}
-use Rattle.mr_tree.specs.Nodes.{MapModel, IsEntry, IsNodeOf, MayFetch, ShowsNode, HasFetchCause, HasSomeCause, IsId, subtrees}
+use Rattle.mr_tree.specs.Nodes.{MapModel, IsEntry, IsNodeOf, MayFetch, ShowsNode, HasFetchCause, subtrees}
 use Rattle.mr_tree.specs.declared.child.Child.{Child}
 use Rattle.mr_tree.specs.declared.nodes.NodesErr.{NodesErr}
 use Rattle.mr_tree.specs.declared.nodes.NodesErr.TheVariants as errors
@@ -219,12 +217,13 @@ next_count-≤ n = omega arith
 pub leaf_walked : (x : Scheme) (hash : List ℕ → List ℕ) (s : MapModel) (root : Bool) (child : Child)
     (rs : List Record) (before after : Visited) (f f' : ℕ) (made : Tree → Type 0) → MayFetch hash s child →
     ShowsNode hash s child (Leaf rs) → x.of (view.preimage_of x.version (Leaf rs)) ≡ child.digest →
-    (IsCounted root child (view.count_over x.version (Leaf rs)) → SuitsEntry x root child (Leaf rs)) →
+    All IsRecord rs → (IsCounted root child (view.count_over x.version (Leaf rs)) → SuitsEntry x root child (Leaf rs)) →
     f' ≡ next_count f → AddsNumbers before after rs → (SuitsEntry x root child (Leaf rs) → made (tree.Leaf rs)) →
     Walked x s root child before after f f' made
-leaf_walked x hash s root child rs before after f f' made may shows digest suits count met is = record {
+leaf_walked x hash s root child rs before after f f' made may shows digest are suits count met is = record {
   under = tree.Leaf rs;
   digest = ap (λ (e : Entry). e.digest) (entry-Leaf x rs) ∙ digest;
+  each = subst (All IsRecord) (sym (records-Leaf rs)) are;
   met = subst (AddsNumbers before after) (sym (records-Leaf rs)) met;
   same = λ told. told_leaf s (s.node child.id) rs (some_of (s.node child.id) _ (may.known told)) shows.node;
   once = omega (arith, count, next_count-≤ f, ap length (subtrees-Leaf rs));
@@ -253,7 +252,8 @@ levels_of x n (c ∷ cs) (u ∷ us) e all =
           all.1,
     )
 
-records_fine : (v : Version) (us : List Tree) → AllByRecursion (IsFine v false) us → All IsRecord (flat_map records us)
+pub records_fine : (v : Version) (us : List Tree) → AllByRecursion (IsFine v false) us →
+    All IsRecord (flat_map records us)
 records_fine v [] fine = All-nil IsRecord
 records_fine v (u ∷ us) fine =
     All-append IsRecord (records u) (flat_map records us) fine.0.each (records_fine v us fine.1)
@@ -306,6 +306,7 @@ inner_walked x hash s root child children before after f f' made made_all may sh
       under = tree.Inner us;
       digest = ap (λ (e : Entry). e.digest) (entry-Inner x us ∙ ap (λ es. entry_step x (Inner es)) (sym all.known))
           ∙ digest;
+      each = subst (All IsRecord) (sym (records-Inner us ∙ of_images us)) (records_fine x.version us all.fine);
       met = subst (AddsNumbers before after) (sym (records-Inner us ∙ of_images us)) all.met;
       same = λ told. told_inner s (s.node child.id) children us (some_of (s.node child.id) _ (may.known told))
           shows.node (all.same told);

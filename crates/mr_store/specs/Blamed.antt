@@ -1,6 +1,7 @@
 -- What a walk over the nodes of a map is stopped by, whether or not its tree is told.
-use Rattle.std.specs.Prelude.{◌≡◌, ◌≢◌, ⊤, ◌⊎◌, ℕ, ◌<◌, Bool, true, false, List, [], ◌∷◌, ◌++◌, map, length, take, get_or, Option, Some, IsSomeAnd}
+use Rattle.std.specs.Prelude.{◌≡◌, ◌≢◌, ⊤, ◌⊎◌, ℕ, ◌<◌, Bool, true, false, List, [], ◌∷◌, ◌++◌, map, length, take, get_or, All, Option, Some, IsSomeAnd}
 use Rattle.std.specs.List.{flat_map}
+use Rattle.mr_record.specs.Record.{IsRecord}
 use Rattle.mr_tree.specs.Tree.{records}
 use Rattle.mr_tree.specs.Digest.{by, entry}
 use Rattle.mr_tree.specs.View as view
@@ -27,9 +28,11 @@ pub record GoesDown (hash : List ℕ → List ℕ) (s : MapModel) (c d : Child) 
   pub children : List Child
   pub place : ℕ
   pub shows : ShowsNode hash s c (Inner children)
+  pub views : view.IsView (Inner children)
   pub within : place < length children
   pub is : d ≡ get_or children place d
   pub known : map view.child_entry (take place children) ≡ map (entry (by s.version hash)) left
+  pub each : All IsRecord (flat_map records left)
 
 -- The page is that of this child, and a fetch of it may show a node that is refused. Such a node
 -- does not have what is told of it, or has too few entries, or has a number that was met before.
@@ -38,6 +41,7 @@ pub record IsRefused (hash : List ℕ → List ℕ) (s : MapModel) (root : Bool)
   pub page_is : page ≡ c.id
   pub node : view.Node
   pub shows : ShowsNode hash s c node
+  pub views : view.IsView node
   pub breaks : (fits_entry s.version root c node ≡ false) ⊎ (repeats met (numbers_in node) ≡ true)
 
 -- going down from this child, these numbers having been met, a walk comes to one that is refused
@@ -67,17 +71,19 @@ pub record IsMiscounted (hash : List ℕ → List ℕ) (s : MapModel) (root : Ch
   pub page_is : page ≡ root.id
   pub tree : Tree
   pub digest : (entry (by s.version hash) tree).digest ≡ root.digest
+  pub each : All IsRecord (records tree)
   pub other : length (records tree) ≢ count
 
 -- The same of a walk over a map with this root, of which so many records are told. Before it no
--- number was met.
+-- number was met. A page that is blamed for its node is the one that was asked for last.
 abbrev pub StopsAt : (List ℕ → List ℕ) → MapModel → (root : Option Child) → (count : ℕ) →
-    (refusal : Option NodesErr) → NodesErr → Type 0
-StopsAt hash s root count refusal e = StopsAs (λ page. IsSomeAnd root
-    (λ c. IsMiscounted hash s c count page ⊎ IsBlamed hash s true [] c page)) refusal e
+    (asked : ℕ → Type 0) → (refusal : Option NodesErr) → NodesErr → Type 0
+StopsAt hash s root count asked refusal e = StopsAs (λ page. IsSomeAnd root
+    (λ c. IsMiscounted hash s c count page ⊎ (asked page × IsBlamed hash s true [] c page)))
+    refusal e
 
 -- the same from the root that a map which stands so may say of itself
-abbrev pub StopsMap : (List ℕ → List ℕ) → MapModel → (refusal : Option NodesErr) → NodesErr →
-    Type 0
-StopsMap hash s refusal e =
-    (top : Top) × IsTop hash s top × StopsAt hash s top.root top.count refusal e
+abbrev pub StopsMap : (List ℕ → List ℕ) → MapModel → (asked : ℕ → Type 0) →
+    (refusal : Option NodesErr) → NodesErr → Type 0
+StopsMap hash s asked refusal e =
+    (top : Top) × IsTop hash s top × StopsAt hash s top.root top.count asked refusal e

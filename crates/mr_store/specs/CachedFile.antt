@@ -1,5 +1,5 @@
 -- A file of pages on a shelf, and the nodes of it that are kept.
-use Rattle.std.specs.Prelude.{◌≡◌, ⊤, ℕ, ◌≤◌, List, Contains, Option, Result}
+use Rattle.std.specs.Prelude.{◌≡◌, ⊤, ℕ, List, Contains, Option, Result}
 use Rattle.std.specs.String.{string_bytes}
 use Rattle.mr_outside.specs.State.{Shelved}
 use Rattle.mr_outside.specs.Told.{OfFile}

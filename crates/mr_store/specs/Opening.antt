@@ -1,5 +1,5 @@
 -- What opening a map comes to.
-use Rattle.std.specs.Prelude.{◌≡◌, ⊤, ◌⊎◌, ℕ, ◌+◌, ◌/◌, ◌≤◌, List, length, Option, Some, None, option_map, IfSome, Ok, Err}
+use Rattle.std.specs.Prelude.{◌≡◌, ⊤, ◌⊎◌, ℕ, ◌+◌, ◌/◌, ◌≤◌, List, length, Some, None, option_map, IfSome, Ok, Err}
 use Rattle.mr_outside.specs.Faults.{Rose}
 use Rattle.mr_outside.specs.State.{Shelved}
 use Rattle.mr_outside.specs.Told.{OfFile, MayMiss}

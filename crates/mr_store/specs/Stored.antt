@@ -1,5 +1,5 @@
 -- What is known of an opened map.
-use Rattle.std.specs.Prelude.{◌≡◌, ℕ, ◌+◌, ◌<◌, ◌≤◌, ◌↔◌, ◌⊎◌, ⊤, List, length, max, Contains, Option, Some, None, option_map, IfSome, IsSome, IsNone, MatchOption, Ok, nat_eq}
+use Rattle.std.specs.Prelude.{◌≡◌, ℕ, ◌+◌, ◌<◌, ◌≤◌, ◌↔◌, ⊤, List, length, Contains, Option, Some, None, option_map, IfSome, IsSome, IsNone, MatchOption, Ok, nat_eq}
 use Rattle.std.specs.Map.{lookup}
 use Rattle.mr_outside.specs.Files.{Files, file}
 use Rattle.mr_outside.specs.declared.shelf.Shelf.{Ghosts}

@@ -68,7 +68,7 @@ fn copied_from<N: Nodes>(
     ensures cause { IfErr result (HasSomeCause (N.stands nodes.old)
         (N.faults nodes.old) (N.faults nodes.new)) }
     ensures blames { IfErr result (StopsAt N.Hash.of (N.stands nodes.old) top.now.root
-        top.now.count (N.refusal nodes.new)) }
+        top.now.count (N.asked nodes.new) (N.refusal nodes.new)) }
 {
     let mut seen = Visited::new(alloc, pages)?;
     let mut into = Copies {
@@ -119,7 +119,7 @@ pub(crate) fn copied<N: Nodes>(
     ensures cause { IfErr result (HasSomeCause (N.stands nodes.old)
         (N.faults nodes.old) (N.faults nodes.new)) }
     ensures blames { IfErr result (StopsAt N.Hash.of (N.stands nodes.old) top.now.root
-        top.now.count (N.refusal nodes.new)) }
+        top.now.count (N.asked nodes.new) (N.refusal nodes.new)) }
 {
     match &top.root {
         None => Ok(Snapshot::over(

@@ -127,7 +127,7 @@ fn listed<N: Nodes>(
     ensures cause { IfErr result (StopsWalk (N.stands nodes.old) (N.faults nodes.old)
         (N.faults nodes.new) (CanListAll (N.stands nodes.old) root.now count)) }
     ensures blames { IfErr result (StopsAt N.Hash.of (N.stands nodes.old) (Some root.now)
-        count (N.refusal nodes.new)) }
+        count (N.asked nodes.new) (N.refusal nodes.new)) }
 {
     let mut seen = unseen(alloc, count)?;
     let mut into = Entries {
@@ -178,7 +178,7 @@ fn list_all<N: Nodes>(
     ensures cause { IfErr result (StopsWalk (N.stands nodes.old) (N.faults nodes.old)
         (N.faults nodes.new) (CanListAll (N.stands nodes.old) root.now count)) }
     ensures blames { IfErr result (StopsAt N.Hash.of (N.stands nodes.old) (Some root.now)
-        count (N.refusal nodes.new)) }
+        count (N.asked nodes.new) (N.refusal nodes.new)) }
 {
     let all = listed(alloc, version, nodes, root, count)?;
     gathered(alloc, all)
@@ -207,7 +207,7 @@ fn directory_as<N: Nodes>(alloc: Global, nodes: &mut N, top: &Top) -> Result<Dir
     ensures cause { IfErr result (HasSomeCause (N.stands nodes.old)
         (N.faults nodes.old) (N.faults nodes.new)) }
     ensures blames { IfErr result (StopsAt N.Hash.of (N.stands nodes.old) top.now.root
-        top.now.count (N.refusal nodes.new)) }
+        top.now.count (N.asked nodes.new) (N.refusal nodes.new)) }
 {
     match &top.root {
         None => empty(alloc),
@@ -241,7 +241,7 @@ pub fn directory<N: Nodes>(alloc: Global, nodes: &mut N) -> Result<Directory, No
     // Told or not, it stops with what a fetch refused, or blames a node that breaks a rule, or the
     // root for its count; or memory ran out.
     ensures blames { IfErr result (StopsMap N.Hash.of (N.stands nodes.old)
-        (N.refusal nodes.new)) }
+        (N.asked nodes.new) (N.refusal nodes.new)) }
 {
     let top = nodes.top();
     directory_as(alloc, nodes, &top)

@@ -122,6 +122,7 @@ fn over<S: Shelf, H: Hash32>(
         head,
         fetches: 0,
         refusal: None,
+        asked: 0,
         hash: PhantomData,
     };
     (paged, list.entries)
@@ -231,9 +232,8 @@ fn open_named<S: Shelf, H: Hash32>(
 impl<S: Shelf, H: Hash32> Paged<S, H> {
     /// Opens the map in a file of the shelf, which is handed back beside a refusal.
     ///
-    /// Each page is read at most once, and checked; what is kept are the nodes of up to 256. Of a
-    /// map of more than 257 pages no leaf is kept as it is opened, but each node is once it is
-    /// fetched.
+    /// Each page is read at most once, and checked; up to 256 nodes are kept. Of a map of more than
+    /// 257 pages no leaf is kept as it is opened, but each node is once it is fetched.
     /// The file's length is what `size` gives, and what a read gives short counts as zeros. It is
     /// read in version 2 where its byte 4 is 2, else in version 1; one that is smaller than any
     /// page is not read at all.

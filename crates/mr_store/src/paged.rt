@@ -29,6 +29,7 @@ pub struct Paged<S: Shelf, H: Hash32> {
     pub(crate) head: MapHead,
     pub(crate) fetches: u64,
     pub(crate) refusal: Option<NodesErr>,
+    pub(crate) asked: u32,
     pub(crate) hash: PhantomData<H>,
     ghost store: { IsStore H.of file head } by { Prim.hlevel props },
 }
@@ -46,6 +47,8 @@ impl<S: Shelf, H: Hash32> Nodes for Paged<S, H> {
     ghost faults = { λ s. (shelved s).faults };
 
     ghost refusal = { λ s. s.refusal };
+
+    ghost asked = { λ s page. s.asked ≡ page };
 
     ghost kept = { λ s t. Keeps s t };
 
@@ -68,6 +71,7 @@ impl<S: Shelf, H: Hash32> Nodes for Paged<S, H> {
         ensures quiet { OnOk result ((shelved self.new).faults ≡ (shelved self.old).faults) }
         ensures refused { IfErr result (λ e. self.new.refusal ≡ Some e) }
         ensures unrefused { OnOk result (self.new.refusal ≡ self.old.refusal) }
+        ensures asks { self.new.asked ≡ child.now.id }
         // A page that is kept is not read, and any other is read once at most.
         ensures held { IsHeld self.old.file child.now →
             IsOk result × ((shelved self.new).reads ≡ (shelved self.old).reads) }
@@ -87,6 +91,7 @@ impl<S: Shelf, H: Hash32> Nodes for Paged<S, H> {
         ensures length_at_most { length (entries_of self.new.file) ≤ room }
     {
         self.fetches = self.fetches.saturating_add(1);
+        self.asked = child.id;
         let result = show_node::<H, S>(self.alloc, &mut self.file, &self.head, child, into);
         if let Err(error) = &result {
             self.refusal = Some(*error);
@@ -165,6 +170,7 @@ impl<S: Shelf, H: Hash32> Paged<S, H> {
             head,
             fetches: _,
             refusal: _,
+            asked: _,
             hash: _,
         } = self;
         (file, head)

@@ -4,7 +4,7 @@ ghost use Rattle.std.specs.Prelude.{◌≡◌, ◌≤◌, ◌⊎◌, ◌+◌, �
 ghost use Rattle.mr_outside.specs.Faults.{next_count};
 ghost use Rattle.mr_tree.specs.Digest.{Scheme, by};
 ghost use Rattle.mr_tree.specs.Nodes.{MayFetch, ShowsNode, TellsRefusal};
-ghost use Rattle.mr_tree.specs.View.{count_over, child_entry};
+ghost use Rattle.mr_tree.specs.View.{IsView, count_over, child_entry};
 ghost use Rattle.mr_tree.specs.declared.child.Child as types;
 ghost use Rattle.mr_tree.specs.declared.nodes.NodesErr.TheVariants as errors;
 ghost use Rattle.mr_tree.specs.declared.tree.Tree as trees;
@@ -57,6 +57,7 @@ fn look<N: Nodes>(
     ensures kept { N.kept nodes.old nodes.new }
     ensures counted { N.fetches nodes.new ≡ next_count (N.fetches nodes.old) }
     ensures shows { OnOk result (ShowsNode N.Hash.of (N.stands nodes.old) child.now view.new) }
+    ensures views { OnOk result (IsView view.new) }
     ensures suits { OnOk result (IsCounted root child.now (count_over version view.new) →
         SuitsEntry (by version N.Hash.of) root child.now view.new) }
     ensures quiet { OnOk result (N.faults nodes.new ≡ N.faults nodes.old) }
@@ -64,8 +65,9 @@ fn look<N: Nodes>(
     ensures cause { IfErr result (StopsWalk (N.stands nodes.old) (N.faults nodes.old)
         (N.faults nodes.new) (IsFull (N.stands nodes.old) root child.now)) }
     // The child's page is blamed for what was shown, or else this is what the fetch refused.
-    ensures blames { IfErr result (λ e. IsUnfit N.Hash.of (N.stands nodes.old) root child.now e
-        ⊎ (N.refusal nodes.new ≡ Some e)) }
+    ensures asks { N.asked nodes.new child.now.id }
+    ensures blames { IfErr result (λ e. IsUnfit N.Hash.of (N.stands nodes.old) root child.now
+        view.new e ⊎ (N.refusal nodes.new ≡ Some e)) }
 {
     nodes.fetch(child, view)?;
     is_view(view);
@@ -132,7 +134,8 @@ pub(crate) fn walk<N: Nodes, G: Gather>(
     ensures cause { IfErr result (StopsWalk (N.stands nodes.old) (N.faults nodes.old)
         (N.faults nodes.new) (CanWalk (N.stands nodes.old) root seen.old child.now)) }
     ensures blames { IfErr result (λ e. (pages : ℕ) (ns : List ℕ) → Saw pages seen.old [] ns →
-        StopsAs (IsBlamed N.Hash.of (N.stands nodes.old) root ns child.now)
+        StopsAs (λ page. N.asked nodes.new page
+        × IsBlamed N.Hash.of (N.stands nodes.old) root ns child.now page)
         (N.refusal nodes.new) e) }
 {
     look(version, nodes, child, root, view)?;

@@ -452,7 +452,7 @@ SaysJoinOrPair hash own lines (Some p) second before after status = IsCollision 
     after status
 
 -- So `audit-join` says of each proof that is accepted against the root digests of the two maps of
--- version 2 that files stand for.
+-- version 2 that files stand for. That a proof is bytes is a premise, which each told file meets.
 abbrev pub AuditsAcceptedJoin : (List ℕ → List ℕ) → List (List ℕ) → World → World → Status → Type 0
 AuditsAcceptedJoin hash words before after status =
     (m n : Owned) (first second proof : Bor (List ℕ)) (one other bytes : List ℕ)

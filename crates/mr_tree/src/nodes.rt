@@ -105,6 +105,9 @@ pub trait Nodes {
     // the last refusal of a fetch, where one was refused
     ghost refusal: { Self → Option error.NodesErr };
 
+    // that the node which was fetched last, or was refused, is on this page
+    ghost asked: { Self → ℕ → Type 0 };
+
     // what a call leaves of the object, from what it was before it
     ghost kept: { Self → Self → Type 0 };
 
@@ -123,7 +126,8 @@ pub trait Nodes {
             (HasFetchCause (stands self.old) child.now (faults self.old) (faults self.new)) }
         ensures quiet { OnOk result (faults self.new ≡ faults self.old) }
         ensures refused { IfErr result (λ e. refusal self.new ≡ Some e) }
-        ensures unrefused { OnOk result (refusal self.new ≡ refusal self.old) };
+        ensures unrefused { OnOk result (refusal self.new ≡ refusal self.old) }
+        ensures asks { asked self.new child.now.id };
 
     ghost kept_self: { (s : Self) → kept s s };
 

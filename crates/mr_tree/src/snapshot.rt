@@ -1,6 +1,6 @@
 //! A whole tree that is kept in memory, and readers of it.
 
-ghost use Rattle.std.specs.Prelude.{ℕ, ◌≡◌, ◌+◌, ◌<◌, ◌≤◌, length, map, slice_get, All, IsOk, IfOk, IfErr, OnOk, Option, Some, None};
+ghost use Rattle.std.specs.Prelude.{⊤, ℕ, ◌≡◌, ◌+◌, ◌<◌, ◌≤◌, length, map, slice_get, All, IsOk, IfOk, IfErr, OnOk, Option, Some, None};
 ghost use Rattle.std.proofs.Props.{props};
 ghost use Rattle.std.specs.Coded.{Coded-set as set};
 ghost use Rattle.mr_outside.specs.Faults.{next_count};
@@ -153,6 +153,9 @@ impl<'a, H: Hashes> Nodes for Reader<'a, H> {
 
     ghost refusal = { λ r. None };
 
+    // No page is blamed, so that none is remembered.
+    ghost asked = { λ r page. ⊤ };
+
     ghost kept = { λ s t. (t.snapshot ≡ s.snapshot) × (s.fetches ≤ t.fetches) };
 
     fn top(&self) -> Top {
@@ -174,6 +177,7 @@ impl<'a, H: Hashes> Nodes for Reader<'a, H> {
         ensures quiet { let none : ℕ = 0 in OnOk result (none ≡ none) }
         ensures refused { IfErr result (λ e. None ≡ Some e) }
         ensures unrefused { let none : Option error.NodesErr = None in OnOk result (none ≡ none) }
+        ensures asks { ⊤ }
         ensures always { IsOk result }
     {
         self.fetches = self.fetches.saturating_add(1);

@@ -17,6 +17,7 @@ pub struct Stopping<'a, H: Hashes> {
     pub fetches: u64,
     pub faults: u64,
     pub refusal: Option<NodesErr>,
+    pub asked: u32,
 }
 
 impl<'a, H: Hashes> Nodes for Stopping<'a, H> {
@@ -31,6 +32,8 @@ impl<'a, H: Hashes> Nodes for Stopping<'a, H> {
 
     ghost refusal = { λ r. r.refusal };
 
+    ghost asked = { λ r page. r.asked ≡ page };
+
     ghost kept = { λ s t. (t.reader.snapshot ≡ s.reader.snapshot) × (s.fetches ≤ t.fetches)
         × (s.faults ≤ t.faults) };
 
@@ -40,6 +43,7 @@ impl<'a, H: Hashes> Nodes for Stopping<'a, H> {
 
     fn fetch(&mut self, child: &Child, into: &mut NodeView) -> Result<(), NodesErr> {
         self.fetches = self.fetches.saturating_add(1);
+        self.asked = child.id;
         if self.left == 0 {
             self.faults = self.faults.saturating_add(1);
             self.refusal = Some(NodesErr::Fault);

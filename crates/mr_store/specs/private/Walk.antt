@@ -1,6 +1,6 @@
 -- What a walk over the nodes of a map knows on its way. Nothing of this has to be believed: no
 -- public contract cites it.
-use Rattle.std.specs.Prelude.{◌≡◌, ◌≢◌, ⊤, ℕ, ◌+◌, ◌≤◌, Bool, true, false, List, [], ◌∷◌, ◌++◌, map, length, All, Option, Some, None, IsSome}
+use Rattle.std.specs.Prelude.{◌≡◌, ◌≢◌, ⊤, ℕ, ◌+◌, ◌≤◌, Bool, true, false, List, [], ◌++◌, map, length, All, Option, Some, None, IsSome}
 use Rattle.std.specs.List.{flat_map, sum_by, AllByRecursion}
 use Rattle.mr_record.specs.Record.{IsRecord}
 use Rattle.mr_record.specs.declared.record.Record.{Record}
@@ -82,6 +82,7 @@ pub record Walked (x : Scheme) (s : MapModel) (root : Bool) (c : Child) (before 
     (fetches fetches' : ℕ) (Made : Tree → Type 0) : Type 0 where
   pub under : Tree
   pub digest : (entry x under).digest ≡ c.digest
+  pub each : All IsRecord (records under)
   pub met : AddsNumbers before after (records under)
   pub same : IsSome s.tree → s.node c.id ≡ Some under
   pub once : fetches' ≤ fetches + length (subtrees under)
@@ -107,12 +108,12 @@ StopsWalk s before after known (errors.Page page) = IsId s page × (after ≡ be
     × (IsSome s.tree → known → ⊥)
 StopsWalk s before after known e = HasSomeCause s before after e
 
--- the page of the child is blamed for a node that a fetch of it may show
-pub record IsUnfit (hash : List ℕ → List ℕ) (s : MapModel) (root : Bool) (c : Child) (e : NodesErr)
-    : Type 0 where
+-- the page of the child is blamed for this node, which a fetch of it may show
+pub record IsUnfit (hash : List ℕ → List ℕ) (s : MapModel) (root : Bool) (c : Child)
+    (node : view.Node) (e : NodesErr) : Type 0 where
   pub page : e ≡ errors.Page c.id
-  pub node : view.Node
   pub shows : ShowsNode hash s c node
+  pub views : view.IsView node
   pub unfit : fits_entry s.version root c node ≡ false
 
 -- a record's number was met before

@@ -1,4 +1,4 @@
-use Rattle.std.proofs.Common.{[], sym, subst, ap, length, arith, ◌∙◌}
+use Rattle.std.proofs.Common.{[], sym, subst, ap, arith, ◌∙◌}
 use Rattle.std.specs.Prelude.{IfSome}
 use Rattle.std.proofs.lemmas.Result.{err_from_is_err_and}
 use Rattle.mr_tree.specs.Nodes.{MapModel, MayFetch, HasSomeCause}
@@ -61,9 +61,11 @@ returns-in_err-fits-clause-cause g c =
 pub returns-in_err-copied-clause-blames : goal.returns-in_err-copied-clause-blames
 returns-in_err-copied-clause-blames g c =
     let p = err_from_is_err_and c.from_residual-in_err-copied.result c.from_residual-in_err-copied.ensures.1 in
-    rw (p.1, p.2) (said_stops g.N.Hash.Hashes.of (g.N.Nodes.stands c.args.nodes.now) c.args.top.now.root
+    rw (p.1, p.2) (said_stops g.N.Hash.Hashes.of (g.N.Nodes.stands c.args.nodes.now)
+    (g.N.Nodes.asked c.walk.new.nodes) c.args.top.now.root
     c.args.root.now c.args.top.now.count (g.N.Nodes.refusal c.walk.new.nodes) c.in_err-copied.field-0.0 c.requires.root
-    (walk_stops g.N.Hash.Hashes.of (g.N.Nodes.stands c.args.nodes.now) c.args.root.now c.args.top.now.count
+    (walk_stops g.N.Hash.Hashes.of (g.N.Nodes.stands c.args.nodes.now)
+    (g.N.Nodes.asked c.walk.new.nodes) c.args.root.now c.args.top.now.count
     (g.N.Nodes.refusal c.walk.new.nodes) c.in_err-copied.field-0.0
     (c.in_err-copied.ensures.blames c.args.pages [] c.in_ok-seen.ensures.told)))
 
@@ -71,9 +73,10 @@ pub returns-in_err-fits-clause-blames : goal.returns-in_err-fits-clause-blames
 returns-in_err-fits-clause-blames g c =
     let p = err_from_is_err_and c.from_residual-in_err-fits.result c.from_residual-in_err-fits.ensures.1 in
     let s = g.N.Nodes.stands c.args.nodes.now in
-    rw (p.1, p.2) (said_stops g.N.Hash.Hashes.of s c.args.top.now.root
+    rw (p.1, p.2) (said_stops g.N.Hash.Hashes.of s (g.N.Nodes.asked c.walk.new.nodes) c.args.top.now.root
     c.args.root.now c.args.top.now.count (g.N.Nodes.refusal c.walk.new.nodes) c.in_err-fits.field-0.0 c.requires.root
-    (root_stops g.N.Hash.Hashes.of s c.args.top.now.version c.args.root.now c.args.top.now.count c.count.result
+    (root_stops g.N.Hash.Hashes.of s (g.N.Nodes.asked c.walk.new.nodes)
+    c.args.top.now.version c.args.root.now c.args.top.now.count c.count.result
     c.args.pages c.in_ok-seen.seen c.walk.new.seen (g.N.Nodes.fetches c.args.nodes.now)
     (g.N.Nodes.fetches c.walk.new.nodes) _ (g.N.Nodes.refusal c.walk.new.nodes) c.in_err-fits.field-0.0
     (sym c.requires.top.version) c.in_err-fits.ensures.blames c.in_ok-seen.ensures.told

@@ -55,6 +55,7 @@ returns-in-None-clause-says g c =
 pub returns-in-Some-clause-blames : goal.returns-in-Some-clause-blames
 returns-in-Some-clause-blames g c =
     if_err c.list_all.result _ _
-    (λ e h. said_stops g.N.Hash.Hashes.of (g.N.Nodes.stands c.args.nodes.now) c.args.top.now.root c.in-Some.root
+    (λ e h. said_stops g.N.Hash.Hashes.of (g.N.Nodes.stands c.args.nodes.now) (g.N.Nodes.asked c.list_all.new.nodes)
+    c.args.top.now.root c.in-Some.root
     c.args.top.now.count (g.N.Nodes.refusal c.list_all.new.nodes) e c.in-Some.is h)
     c.list_all.ensures.blames

@@ -50,7 +50,8 @@ pub returns-in_err-fits-clause-blames : goal.returns-in_err-fits-clause-blames
 returns-in_err-fits-clause-blames g c =
     let none = c.in_ok-seen.ensures.none in
     let p = err_from_is_err_and c.from_residual-in_err-fits.result c.from_residual-in_err-fits.ensures.1 in
-    rw (p.1, p.2) (root_stops g.N.Hash.Hashes.of (g.N.Nodes.stands c.args.nodes.now) c.args.version c.args.root.now
+    rw (p.1, p.2) (root_stops g.N.Hash.Hashes.of (g.N.Nodes.stands c.args.nodes.now)
+    (g.N.Nodes.asked c.walk.new.nodes) c.args.version c.args.root.now
     c.args.count c.count.result none.0 c.in_ok-seen.seen c.walk.new.seen (g.N.Nodes.fetches c.args.nodes.now)
     (g.N.Nodes.fetches c.walk.new.nodes) _ (g.N.Nodes.refusal c.walk.new.nodes) c.in_err-fits.field-0.0
     c.requires.version c.in_err-fits.ensures.blames none.1 c.in_ok-_root.ensures.walked c.count.ensures
@@ -66,6 +67,7 @@ pub returns-in_err-_root-clause-blames : goal.returns-in_err-_root-clause-blames
 returns-in_err-_root-clause-blames g c =
     let p = err_from_is_err_and c.from_residual-in_err-_root.result c.from_residual-in_err-_root.ensures.1 in
     let none = c.in_ok-seen.ensures.none in
-    rw (p.1, p.2) (walk_stops g.N.Hash.Hashes.of (g.N.Nodes.stands c.args.nodes.now) c.args.root.now c.args.count
+    rw (p.1, p.2) (walk_stops g.N.Hash.Hashes.of (g.N.Nodes.stands c.args.nodes.now)
+    (g.N.Nodes.asked c.walk.new.nodes) c.args.root.now c.args.count
     (g.N.Nodes.refusal c.walk.new.nodes) c.in_err-_root.field-0.0
     (c.in_err-_root.ensures.blames none.0 [] none.1))

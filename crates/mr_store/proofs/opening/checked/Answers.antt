@@ -4,7 +4,6 @@ use Rattle.mr_outside.specs.Told.{OfFile}
 use Rattle.mr_pages.specs.declared.error.MapErr.TheVariants as errors
 use Rattle.mr_pages.specs.declared.checking.Checked.{Checked}
 use Rattle.mr_pages.specs.declared.head.MapHead.{MapHead}
-use Rattle.mr_pages.specs.declared.layout.Layout.{Layout}
 use Rattle.mr_pages.specs.Source.{Origin, SaysHead, IsRootIn}
 use Rattle.mr_pages.proofs.HeadLaws.{form_is}
 use Rattle.mr_geom.specs.Rectangle.{Rectangle}

@@ -1,4 +1,4 @@
-use Rattle.std.proofs.Common.{◌≤◌, ◌<◌, ◌+◌, get_or, arith, refl, subst, sym}
+use Rattle.std.proofs.Common.{◌<◌, get_or, arith, refl, subst, sym}
 use Rattle.mr_pages.specs.PageBytes.{form_of, IsLayout}
 use Rattle.mr_pages.specs.declared.error.MapErr.TheVariants as errors
 use Rattle.mr_pages.proofs.Answered.{low_are_bytes, first_told}

@@ -1,10 +1,10 @@
-use Rattle.std.proofs.Common.{◌≡◌, ◌+◌, ◌<◌, ◌++◌, ◌∷◌, rules, [], length, map, take, false, arith, refl, sym, ap, subst, ◌∙◌}
+use Rattle.std.proofs.Common.{◌≡◌, ◌+◌, ◌<◌, ◌++◌, ◌∷◌, rules, [], map, take, false, arith, refl, sym, ap, subst, ◌∙◌}
 use Rattle.std.proofs.lemmas.List.{take_all, take_more, map-append}
 use Rattle.std.proofs.lemmas.Result.{err_from_is_err_and}
 use Rattle.mr_outside.specs.Faults.{next_count}
 use Rattle.mr_tree.specs.Digest.{by}
 use Rattle.mr_tree.specs.Nodes.{MapModel, ShowsNode}
-use Rattle.mr_tree.specs.View.{count_over, child_entry, preimage_of}
+use Rattle.mr_tree.specs.View.{IsView, count_over, child_entry, preimage_of}
 use Rattle.mr_tree.specs.declared.tree.Tree.TheVariants as tree
 use Rattle.mr_tree.specs.declared.tree.Tree.TheOpen.{Leaf, Inner}
 use Rattle.mr_store.specs.private.Walk.{SuitsEntry, IsCounted, IsFull, CanWalk, GathersAll, WalkedAll}
@@ -44,7 +44,8 @@ returns-then-level-eq0-clause-walked g t c =
     leaf_ended c.walk_leaf.result _ _ _
     (λ d made. leaf_walked x hash s c.args.root c.args.child.now c.records.result.now c.args.seen.now
     c.walk_leaf.new.seen (g.N.Nodes.fetches c.args.nodes.now) (g.N.Nodes.fetches c.look.new.nodes) _
-    c.requires.may shows digest suits c.look.ensures.counted made.1 (made.0 x c.args.root))
+    c.requires.may shows digest (subst IsView is c.in_ok-look.ensures.views).each
+    suits c.look.ensures.counted made.1 (made.0 x c.args.root))
     c.walk_leaf.ensures.gathers c.walk_leaf.ensures.adds
 
 pub returns-then-level-eq0-clause-fetched : goal.returns-then-level-eq0-clause-fetched
@@ -280,8 +281,9 @@ returns-in_ok-id-clause-walked g t c =
 pub returns-in_err-look-clause-blames : goal.returns-in_err-look-clause-blames
 returns-in_err-look-clause-blames g t c =
     let p = err_from_is_err_and c.from_residual.result c.from_residual.ensures.1 in
-    rw (p.1, p.2) (λ pages ns saw. look_stops g.N.Hash.Hashes.of (g.N.Nodes.stands c.args.nodes.now) c.args.root ns
-    c.args.child.now (g.N.Nodes.refusal c.look.new.nodes) c.in_err-look.field-0.0 c.in_err-look.ensures.blames)
+    rw (p.1, p.2) (λ pages ns saw. look_stops g.N.Hash.Hashes.of (g.N.Nodes.stands c.args.nodes.now)
+    (g.N.Nodes.asked c.look.new.nodes) c.args.root ns c.args.child.now c.look.new.view
+    (g.N.Nodes.refusal c.look.new.nodes) c.in_err-look.field-0.0 c.look.ensures.asks c.in_err-look.ensures.blames)
 
 pub returns-then-level-eq0-clause-blames : goal.returns-then-level-eq0-clause-blames
 returns-then-level-eq0-clause-blames g t c =
@@ -290,9 +292,10 @@ returns-then-level-eq0-clause-blames g t c =
     let is = c.records.ensures.leaf (sym c.level.ensures.value ∙ c.if-level-eq0.true)
     ∙ ap Leaf (sym c.records.ensures.value) in
     if_err c.walk_leaf.result _ _
-    (λ e h pages ns saw. leaf_stops hash s c.args.root pages ns c.args.child.now c.records.result.now
-    c.args.seen.now (g.N.Nodes.refusal c.look.new.nodes) e
-    (subst (ShowsNode hash s c.args.child.now) is c.in_ok-look.ensures.shows) saw h) c.walk_leaf.ensures.twice
+    (λ e h pages ns saw. leaf_stops hash s (g.N.Nodes.asked c.look.new.nodes) c.args.root pages ns c.args.child.now
+    c.records.result.now c.args.seen.now (g.N.Nodes.refusal c.look.new.nodes) e c.look.ensures.asks
+    (subst (ShowsNode hash s c.args.child.now) is c.in_ok-look.ensures.shows)
+    (subst IsView is c.in_ok-look.ensures.views) saw h) c.walk_leaf.ensures.twice
 
 pub returns-in_err-made-clause-blames : goal.returns-in_err-made-clause-blames
 returns-in_err-made-clause-blames g t c =
@@ -306,8 +309,9 @@ returns-in_err-made-clause-blames g t c =
     let shows = subst (ShowsNode hash s c.args.child.now) is c.in_ok-look.ensures.shows in
     let all = c.loop-one.invariant.all in
     let p = err_from_is_err_and c.from_residual-in_err-made.result c.from_residual-in_err-made.ensures.1 in
-    rw (p.1, p.2) (λ pages ns saw. below_stops hash s c.args.version (g.N.Nodes.stands c.loop-one.nodes) c.args.root
+    rw (p.1, p.2) (λ pages ns saw. below_stops hash s (g.N.Nodes.asked c.walk.new.nodes)
+    c.args.version (g.N.Nodes.stands c.loop-one.nodes) c.args.root
     c.args.child.now c.one-item.result c.deref-one-items.result.now c.loop-one.one-index all.below ns
     (g.N.Nodes.refusal c.walk.new.nodes) c.in_err-made.field-0.0 c.requires.version same shows
-    c.loop-one-test.true c.one-item.is all.known
+    (subst IsView is c.in_ok-look.ensures.views) c.loop-one-test.true c.one-item.is all.known all.fine
     (c.in_err-made.ensures.blames pages (ns ++ numbers_of (flat_map records all.below)) (all.met pages ns saw).1))

@@ -1,8 +1,7 @@
 use Rattle.std.proofs.Common.{◌≡◌, false, inl, refl, sym, subst, ◌∙◌}
 use Rattle.mr_tree.specs.View as view
-use Rattle.mr_tree.specs.Nodes.{MapModel}
 use Rattle.mr_tree.proofs.Told.{told_counts}
-use Rattle.mr_store.proofs.Walks.{suits_of, unfit_refuses, fetch_refuses}
+use Rattle.mr_store.proofs.Walks.{suits_of, unfit_refuses}
 use Rattle.mr_pages.specs.private.Judging.{fits_entry}
 use Rattle.mr_store.proofs.walk.look.Goals as goal
 
@@ -27,8 +26,8 @@ returns-clause-suits g c = λ counted.
 pub returns-then-not-is_fit-clause-blames : goal.returns-then-not-is_fit-clause-blames
 returns-then-not-is_fit-clause-blames g c = inl (record {
   page = refl;
-  node = c.fetch.new.into;
   shows = c.in_ok-fetch.ensures.shows;
+  views = c.is_view.ensures;
   unfit = subst (λ v. fits_entry v c.args.root c.args.child.now c.fetch.new.into ≡ false) (sym c.requires.version)
       (sym c.is_fit.ensures ∙ c.if-not-is_fit.true);
 })

@@ -1,4 +1,3 @@
-use Rattle.mr_pages.specs.PageBytes.{form_of}
 use Rattle.mr_store.specs.CachedFile.{state_of, name_of, page_form}
 use Rattle.mr_store.proofs.PageReads.{again_told, has_node, given_by, failed_given, if_shown}
 use Rattle.mr_store.proofs.cached_file.CachedFile.read_node.Goals as goal
