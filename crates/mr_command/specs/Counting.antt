@@ -126,8 +126,8 @@ IsToFault hash root q None n = ⊤
 IsToFault hash root q (Some bytes) n =
     (n ≤ 1) ⊎ IsUnsettled hash root (question q) (take ((n - 1) * 65536) bytes)
 
--- so many reads: each input once, and no more where the command stops; of a map in its own file
--- nothing is said
+-- so many reads: each input once, and no more where the command stops; nothing is said from where a
+-- journal is sought
 abbrev pub AllowsReads : Plan → Files → ℕ → Type 0
 AllowsReads (comes said) files n = n ≡ 0
 AllowsReads (reads name next) files n = (here : ℕ) × (rest : ℕ) × (n ≡ here + rest)

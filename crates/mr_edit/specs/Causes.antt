@@ -3,7 +3,7 @@ use Rattle.std.specs.Prelude.{◌≡◌, ◌≢◌, ⊤, ℕ, ◌<◌, ◌≤◌
 use Rattle.mr_tree.specs.Digest.{Scheme}
 use Rattle.mr_tree.specs.declared.child.Child.{Child}
 use Rattle.mr_outside.specs.Faults.{Rose}
-use Rattle.mr_pages.proofs.Building.{FilledAs}
+use Rattle.mr_tree.specs.WellFormed.{FilledAs}
 use Rattle.mr_pages.specs.Stands.{Placed, tree_of, pages_of, IsChain}
 use Rattle.mr_pages.specs.declared.rule.MapRule.{MapRule}
 use Rattle.mr_pages.specs.declared.rule.MapRule.TheVariants as rule

@@ -11,6 +11,7 @@ use Rattle.mr_record.specs.declared.record.Record.{Record}
 use Rattle.mr_tree.specs.Tree.{level, records, first_level}
 use Rattle.mr_tree.specs.Digest.{entry, entry_step, Scheme}
 use Rattle.mr_tree.specs.WellFormed.{HasOneLevel, IsFilled, IsFilledRoot}
+pub use Rattle.mr_tree.specs.WellFormed.{FilledAs}
 use Rattle.mr_tree.specs.declared.tree.Tree.{Tree}
 use Rattle.mr_tree.specs.declared.tree.Tree.TheVariants as tree
 use Rattle.mr_tree.specs.declared.tree.Tree.TheOpen.{Tree-F, Empty, Leaf, Inner}
@@ -122,11 +123,6 @@ said hash at link node f d r m c = λ i. record {
 }
 
 -- ---- how full nodes are
-
--- a root, or a node below it, with nodes as full as they have to be
-abbrev pub FilledAs : Bool → Tree → Type 0
-FilledAs true t = IsFilledRoot (out-Tree t)
-FilledAs false t = every-Tree IsFilled t
 
 pub filled_leaf : (root : Bool) (rs : List Record) → least_fill root (Leaf rs) ≤ length rs → length rs ≤ 16 →
     FilledAs root (tree.Leaf rs)

@@ -1,8 +1,9 @@
 -- The front of a file, read at once, with zeros behind it.
-use Rattle.std.proofs.Common.{◌≡◌, ℕ, zero, suc, ◌≤◌, min, List, [], ◌∷◌, ◌++◌, length, get_or, take, replicate, refl, ap, ◌∙◌, inl, inr, arith}
+use Rattle.std.proofs.Common.{◌≡◌, ℕ, zero, suc, ◌+◌, ◌-◌, ◌≤◌, min, List, [], ◌∷◌, ◌++◌, length, get_or, take, drop, replicate, refl, sym, ap, ◌∙◌, inl, inr, arith}
 use Rattle.std.specs.Prelude.{if◌then◌else◌, ◌==◌}
 use Rattle.std.proofs.lemmas.Bool.{cases_lt}
-use Rattle.std.proofs.lemmas.List.{take-append-le, take-take, take_all, length-take-le, get_or-take}
+use Rattle.std.proofs.Math.Seq.{take-append-add}
+use Rattle.std.proofs.lemmas.List.{append-nil, append_assoc, replicate-append-replicate, take-append-drop, take-append-le, take-replicate, take-take, take_all, length-take, length-take-le, get_or-take}
 use Rattle.mr_record.specs.declared.version.Version.TheVariants.{One, Two}
 use Rattle.mr_pages.specs.Source.{IsFrontOfFile}
 
@@ -41,3 +42,37 @@ is_front file front room n k cut is whole long =
           ∙ take-append-le m (take k file) (zeros n) (omega (arith, size, cut, in_room, in_file, long))
           ∙ take-take m k file (omega (arith, cut, in_room, in_file, long));
     }
+
+-- so much of a list with as many zeros behind it
+fill_to : (m n : ℕ) (xs : List ℕ) → n ≡ min m (length xs) → take m (xs ++ zeros m) ≡ take n xs ++ zeros (m - n)
+fill_to m n xs cut = elim (cases_lt (length xs) m) [
+  | inl short ↦
+      let all : n ≡ length xs = omega (arith, cut, short) in
+      let split : m ≡ length xs + (m - n) = omega (arith, all, short) in
+      ap (λ (i : ℕ). take i (xs ++ zeros m)) split
+      ∙ take-append-add xs (zeros m) (m - n)
+      ∙ ap (λ (ys : List ℕ). xs ++ ys) (take-replicate (m - n) m 0 (omega arith))
+      ∙ ap (λ (ys : List ℕ). ys ++ zeros (m - n)) (sym (take_all n xs (omega (arith, all))))
+  | inr long ↦
+      let all : n ≡ m = omega (arith, cut, long) in
+      let none : m - n ≡ 0 = omega (arith, all) in
+      take-append-le m xs (zeros m) long
+      ∙ ap (λ (i : ℕ). take i xs) (sym all)
+      ∙ sym (append-nil (take n xs))
+      ∙ ap (λ (i : ℕ). take n xs ++ zeros i) (sym none)
+]
+
+-- What a read of so much gave, and zeros behind it: so much of the file, and zeros.
+pub is_filled_front : (file front room : List ℕ) (size n k : ℕ) → k ≡ min size 8192 → n ≡ min k (length file - 0) →
+    take n front ≡ take n file → drop n front ≡ zeros (k - n) → room ≡ front ++ zeros (8192 - k) →
+    room ≡ take 8192 (take size file ++ zeros 8192)
+is_filled_front file front room size n k whole cut given rest is =
+    let part = take size file in
+    let few : n ≡ min 8192 (length part) = omega (arith, whole, cut, length-take size file) in
+    is
+    ∙ ap (λ (xs : List ℕ). xs ++ zeros (8192 - k)) (sym (take-append-drop n front) ∙ (λ i. given i ++ rest i))
+    ∙ append_assoc (take n file) (zeros (k - n)) (zeros (8192 - k))
+    ∙ ap (λ (xs : List ℕ). take n file ++ xs) (replicate-append-replicate (k - n) (8192 - k) 0)
+    ∙ ap (λ (i : ℕ). take n file ++ zeros i) (omega (arith, whole, cut))
+    ∙ ap (λ (xs : List ℕ). xs ++ zeros (8192 - n)) (sym (take-take n size file (omega (arith, whole, cut))))
+    ∙ sym (fill_to 8192 n part few)

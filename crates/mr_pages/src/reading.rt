@@ -1,6 +1,6 @@
 //! Reading a page of a file.
 
-ghost use Rattle.std.specs.Prelude.{◌≡◌, ◌+◌, ◌-◌, ◌≤◌, min, length, take, drop, replicate, IfOk, OnOk};
+ghost use Rattle.std.specs.Prelude.{◌≡◌, ◌+◌, ◌-◌, ◌≤◌, ◌++◌, min, length, take, drop, replicate, IfOk, OnOk};
 ghost use Rattle.mr_outside.specs.Told.{OfFile};
 ghost use Rattle.mr_outside.specs.Causes.{ShelfCauses, CountsRead};
 ghost use Rattle.mr_pages.specs.PageBytes.{form_of, IsLayout};
@@ -51,6 +51,9 @@ pub fn read_front<S: Shelf>(
     ensures version { IfOk result (λ v. v ≡ version_of room.new) }
     ensures told { OnOk result (OfFile (S.state shelf.old).files name.now ⊥
         (λ file. length file ≡ size → IsFrontOfFile file room.new)) }
+    // Of a told file so much as the size says, and zeros behind.
+    ensures exact { OnOk result (OfFile (S.state shelf.old).files name.now ⊥
+        (λ file. room.new ≡ take 8192 (take size file ++ replicate 8192 0))) }
     ensures behind { OnOk result
         (drop (min size 8192) room.new ≡ replicate (8192 - min size 8192) 0) }
     ensures causes { ShelfCauses name.now (S.state shelf.old) (S.state shelf.new) result }

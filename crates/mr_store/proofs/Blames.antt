@@ -14,13 +14,14 @@ use Rattle.mr_tree.specs.declared.nodes.NodesErr.{NodesErr}
 use Rattle.mr_tree.specs.declared.nodes.NodesErr.TheVariants as errors
 use Rattle.mr_tree.specs.declared.tree.Tree.{Tree}
 use Rattle.mr_tree.specs.declared.tree.Tree.TheOpen.{Leaf, Inner}
-use Rattle.mr_pages.specs.Faults.{numbers_of}
+use Rattle.mr_pages.specs.Faults.{numbers_of, repeats}
 use Rattle.mr_pages.specs.Walking.{Saw}
+use Rattle.mr_pages.specs.private.Judging.{fits_entry}
 use Rattle.mr_pages.specs.private.Numbers.{count_kept}
 use Rattle.mr_pages.specs.declared.visited.Visited.{Visited}
-use Rattle.mr_store.specs.Blamed.{IsBlamed, IsMiscounted, StopsAs, StopsAt}
-use Rattle.mr_store.specs.private.Walk.{IsFine, IsUnfit, IsTwice, Walked}
-use Rattle.mr_store.proofs.Walks.{records_fine}
+use Rattle.mr_pages.proofs.Lists.{Fresh, fresh_repeats}
+use Rattle.mr_store.specs.Blamed.{IsFine, IsBlamed, IsMiscounted, StopsAs, StopsAt}
+use Rattle.mr_store.specs.private.Walk.{IsUnfit, IsTwice, Walked}
 
 -- a refusal is told of whatever would have been answered
 pub told_on : {A B : Type 0} (before after : Option NodesErr) (e : NodesErr) →
@@ -56,99 +57,105 @@ stops_as P Q r errors.Missing f h = h
 stops_as P Q r errors.Fault f h = h
 stops_as P Q r errors.NoMemory f h = tt
 
-module _ (hash : List ℕ → List ℕ) (s : MapModel) where
-  -- a page that was asked for last, and is blamed by a walk from this child
-  abbrev Last : (ℕ → Type 0) → Bool → List ℕ → Child → ℕ → Type 0
-  Last asked root ns c page = asked page × IsBlamed hash s root ns c page
-
-  pub look_stops : (asked : ℕ → Type 0) (root : Bool) (ns : List ℕ) (c : Child) (node : Node) (r : Option NodesErr)
-      (e : NodesErr) → asked c.id → IsUnfit hash s root c node e ⊎ (r ≡ Some e) →
-      StopsAs (Last asked root ns c) r e
-  look_stops asked root ns c node r e last h = elim h [
-    | inl own ↦ page_stops (Last asked root ns c) r e c.id own.page (
-      last,
-      record {
-        down = [];
-        leads = record { page_is = refl; node = node; shows = own.shows; views = own.views; breaks = inl own.unfit };
-      },
-    )
-    | inr refused ↦ refusal_stops (Last asked root ns c) r e refused
+module _ (hash : List ℕ → List ℕ) (s : MapModel) (asked : Child → Type 0) where
+  pub look_stops : (root : Bool) (ns : List ℕ) (c : Child) (node : Node) (r : Option NodesErr)
+      (e : NodesErr) → asked c → IsUnfit hash s root c node e ⊎ (r ≡ Some e) →
+      StopsAs (IsBlamed hash s asked root ns c) r e
+  look_stops root ns c node r e last h = elim h [
+    | inl own ↦ page_stops (IsBlamed hash s asked root ns c) r e c.id own.page (record {
+      down = [];
+      leads = record {
+        page_is = refl;
+        last = last;
+        node = node;
+        shows = own.shows;
+        views = own.views;
+        breaks = inl own.unfit;
+      };
+    })
+    | inr refused ↦ refusal_stops (IsBlamed hash s asked root ns c) r e refused
   ]
 
-  pub leaf_stops : (asked : ℕ → Type 0) (root : Bool) (pages : ℕ) (ns : List ℕ) (c : Child) (rs : List Record)
-      (before : Visited) (r : Option NodesErr) (e : NodesErr) → asked c.id →
+  pub leaf_stops : (root : Bool) (pages : ℕ) (ns : List ℕ) (c : Child) (rs : List Record)
+      (before : Visited) (r : Option NodesErr) (e : NodesErr) → asked c →
       ShowsNode hash s c (Leaf rs) → IsView (Leaf rs) → Saw pages before [] ns →
-      IsTwice c.id before rs e → StopsAs (Last asked root ns c) r e
-  leaf_stops asked root pages ns c rs before r (errors.Page page) last shows views saw h = inr (
-    subst asked (sym h.0) last,
-    record {
-      down = [];
-      leads = record { page_is = h.0; node = Leaf rs; shows = shows; views = views; breaks = inr (h.1 pages ns saw) };
-    },
-  )
-  leaf_stops asked root pages ns c rs before r (errors.Changed page held found) last shows views saw h = absurd h
-  leaf_stops asked root pages ns c rs before r (errors.Outside page) last shows views saw h = absurd h
-  leaf_stops asked root pages ns c rs before r errors.Missing last shows views saw h = absurd h
-  leaf_stops asked root pages ns c rs before r errors.Fault last shows views saw h = absurd h
-  leaf_stops asked root pages ns c rs before r errors.NoMemory last shows views saw h = tt
+      IsTwice c.id before rs e → StopsAs (IsBlamed hash s asked root ns c) r e
+  leaf_stops root pages ns c rs before r (errors.Page page) last shows views saw h = inr (record {
+    down = [];
+    leads = record {
+      page_is = h.0;
+      last = last;
+      node = Leaf rs;
+      shows = shows;
+      views = views;
+      breaks = inr (h.1 pages ns saw);
+    };
+  })
+  leaf_stops root pages ns c rs before r (errors.Changed page held found) last shows views saw h = absurd h
+  leaf_stops root pages ns c rs before r (errors.Outside page) last shows views saw h = absurd h
+  leaf_stops root pages ns c rs before r errors.Missing last shows views saw h = absurd h
+  leaf_stops root pages ns c rs before r errors.Fault last shows views saw h = absurd h
+  leaf_stops root pages ns c rs before r errors.NoMemory last shows views saw h = tt
 
   -- what stops a walk from a child that a node names
-  pub below_stops : (asked : ℕ → Type 0) (v : Version) (s' : MapModel) (root : Bool) (c d : Child)
+  pub below_stops : (v : Version) (s' : MapModel) (root : Bool) (c d : Child)
       (children : List Child) (i : ℕ) (left : List Tree) (ns : List ℕ) (r : Option NodesErr) (e : NodesErr) →
       s.version ≡ v → s' ≡ s → ShowsNode hash s c (Inner children) → IsView (Inner children) →
+      fits_entry v root c (Inner children) ≡ true →
       i < length children → d ≡ get_or children i d →
       map child_entry (take i children) ≡ map (entry (by v hash)) left →
-      AllByRecursion (IsFine v false) left →
-      StopsAs (λ page. asked page × IsBlamed hash s' false (ns ++ numbers_of (flat_map records left)) d page) r e →
-      StopsAs (Last asked root ns c) r e
-  below_stops asked v s' root c d children i left ns r e one same shows views within is known fine h =
+      AllByRecursion (IsFine v false) left → Fresh ns (numbers_of (flat_map records left)) →
+      StopsAs (IsBlamed hash s' asked false (ns ++ numbers_of (flat_map records left)) d) r e →
+      StopsAs (IsBlamed hash s asked root ns c) r e
+  below_stops v s' root c d children i left ns r e one same shows views fits within is known fine fresh h =
       let met = ns ++ numbers_of (flat_map records left) in
-      stops_as (λ page. asked page × IsBlamed hash s' false met d page) (Last asked root ns c) r e
-      (λ page blamed.
-      let q = subst (λ y. IsBlamed hash y false met d page) same blamed.1 in (
-        blamed.0,
-        record {
-          down = (d, left) ∷ q.down;
-          leads = (
-            record {
-              children = children;
-              place = i;
-              shows = shows;
-              views = views;
-              within = within;
-              is = is;
-              known = subst (λ w. map child_entry (take i children) ≡ map (entry (by w hash)) left) (sym one) known;
-              each = records_fine v left fine;
-            },
-            q.leads,
-          );
-        },
-      )) h
+      stops_as (IsBlamed hash s' asked false met d) (IsBlamed hash s asked root ns c) r e (λ page blamed.
+      let q = subst (λ y. IsBlamed hash y asked false met d page) same blamed in record {
+        down = (d, left) ∷ q.down;
+        leads = (
+          record {
+            children = children;
+            place = i;
+            shows = shows;
+            views = views;
+            fits = subst (λ w. fits_entry w root c (Inner children) ≡ true) (sym one) fits;
+            within = within;
+            is = is;
+            known = subst (λ w. map child_entry (take i children) ≡ map (entry (by w hash)) left) (sym one) known;
+            fine = subst (λ w. AllByRecursion (IsFine w false) left) (sym one) fine;
+            fresh = fresh_repeats ns (numbers_of (flat_map records left)) fresh;
+          },
+          q.leads,
+        );
+      }) h
 
   -- a walk from the root
-  pub walk_stops : (asked : ℕ → Type 0) (c : Child) (count : ℕ) (r : Option NodesErr) (e : NodesErr) →
-      StopsAs (Last asked true [] c) r e → StopsAt hash s (Some c) count asked r e
-  walk_stops asked c count r e h = stops_as (Last asked true [] c)
-      (λ page. IsMiscounted hash s c count page ⊎ Last asked true [] c page) r e (λ page blamed. inr blamed) h
+  pub walk_stops : (c : Child) (count : ℕ) (r : Option NodesErr) (e : NodesErr) →
+      StopsAs (IsBlamed hash s asked true [] c) r e → StopsAt hash s (Some c) count asked r e
+  walk_stops c count r e h = stops_as (IsBlamed hash s asked true [] c)
+      (λ page. IsMiscounted hash s c count page ⊎ IsBlamed hash s asked true [] c page) r e
+      (λ page blamed. inr blamed) h
 
-  pub root_stops : (asked : ℕ → Type 0) (v : Version) (c : Child) (count met pages : ℕ) (before after : Visited)
+  pub root_stops : (v : Version) (c : Child) (count met pages : ℕ) (before after : Visited)
       (f f' : ℕ) (made : Tree → Type 0) (r : Option NodesErr) (e : NodesErr) → s.version ≡ v → e ≡ errors.Page c.id →
       Saw pages before [] [] → Walked (by v hash) s true c before after f f' made →
       met ≡ count_kept after.numbers → met ≢ count → StopsAt hash s (Some c) count asked r e
-  root_stops asked v c count met pages before after f f' made r e one is start walked counted other =
+  root_stops v c count met pages before after f f' made r e one is start walked counted other =
       let t = walked.under in
-      let saw = (walked.met pages [] start).1 in
+      let adds = walked.met pages [] start in
       let all : met ≡ length (records t) =
-      counted ∙ saw.met.count ∙ length-map (records t) (λ (y : Record). y.number) in
-      page_stops (λ page. IsMiscounted hash s c count page ⊎ Last asked true [] c page) r e c.id is (inl (record {
+      counted ∙ adds.1.met.count ∙ length-map (records t) (λ (y : Record). y.number) in
+      page_stops (λ page. IsMiscounted hash s c count page ⊎ IsBlamed hash s asked true [] c page) r e c.id is
+      (inl (record {
         page_is = refl;
         tree = t;
         digest = subst (λ w. (entry (by w hash) t).digest ≡ c.digest) (sym one) walked.digest;
-        each = walked.each;
+        fine = subst (λ w. IsFine w true t) (sym one) walked.fine;
+        fresh = fresh_repeats [] (numbers_of (records t)) adds.0;
         other = λ same. other (all ∙ same);
       }))
 
   -- what stops a walk from the root that is said
-  pub said_stops : (asked : ℕ → Type 0) (root : Option Child) (c : Child) (count : ℕ) (r : Option NodesErr)
+  pub said_stops : (root : Option Child) (c : Child) (count : ℕ) (r : Option NodesErr)
       (e : NodesErr) → root ≡ Some c → StopsAt hash s (Some c) count asked r e → StopsAt hash s root count asked r e
-  said_stops asked root c count r e is h = subst (λ o. StopsAt hash s o count asked r e) (sym is) h
+  said_stops root c count r e is h = subst (λ o. StopsAt hash s o count asked r e) (sym is) h

@@ -133,7 +133,7 @@ module _ (x : Scheme) (s : MapModel) (root : Child) (start all : DirectoryEntrie
       record {
         tree = t;
         known = made.known;
-        fine = made.fine;
+        fine = walked.fine;
         apart = records_apart (records t) (fresh_apart [] (numbers_of (records t)) (walked.met none.0 [] none.1).0);
         counted = many;
         lists = made.made ∙ ap (λ before. before ++ map directory_entry (records t)) empty;

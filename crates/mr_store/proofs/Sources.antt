@@ -3,7 +3,7 @@ use Rattle.std.proofs.Common.{◌≡◌, ◌≢◌, ℕ, ◌+◌, ◌<◌, ◌�
 use Rattle.std.specs.Prelude.{◌==◌, ◌⊎◌, nat_eq, Contains, Option, Some, None, option_map, Result, Ok, Err, IfSome, IsSome, OnOk, OnErr}
 use Rattle.std.specs.List.{AllByRecursion, IsDistinct}
 use Rattle.std.specs.Map.{lookup, keys_of}
-use Rattle.std.proofs.lemmas.Bool.{ne_eqb}
+use Rattle.std.proofs.lemmas.Bool.{ltb-false, ne_eqb}
 use Rattle.std.proofs.lemmas.List.{length-map}
 use Rattle.std.proofs.lemmas.Map.Steps.{length-le_from_distinct_below}
 use Rattle.lru.specs.LruCache.{LruCache, IsValid}
@@ -13,6 +13,7 @@ use Rattle.mr_tree.specs.Digest.{by}
 use Rattle.mr_tree.specs.View as view
 use Rattle.mr_tree.specs.declared.child.Child.{Child}
 use Rattle.mr_pages.specs.declared.node.Node as owned_type
+use Rattle.mr_pages.specs.declared.node.Node.TheVariants as owned_node
 use Rattle.mr_pages.specs.Page.{Form}
 use Rattle.mr_pages.specs.File.{file_of}
 use Rattle.mr_pages.specs.Walking.{page_node}
@@ -20,7 +21,7 @@ use Rattle.mr_pages.specs.Source.{told_bytes, MayKeep}
 use Rattle.mr_pages.specs.private.Walks.{HasWholePages, IsPaged}
 use Rattle.mr_pages.proofs.Lists.{all_has}
 use Rattle.mr_store.specs.declared.cached_node.CachedNode.{CachedNode}
-use Rattle.mr_store.specs.Kept.{CacheEntries, room, node_of, AreInside, IsKeptOf, GainsNode}
+use Rattle.mr_store.specs.Kept.{CacheEntries, room, node_of, keeps_opened, AreInside, IsKeptOf, GainsNode}
 use Rattle.mr_store.specs.private.Paging.{HoldsPage, IsGoodEntry, IsFileOf, IsPaging, IsUnchecked}
 use Rattle.mr_store.specs.declared.cached_file.CachedFile.{CachedFile}
 use Rattle.mr_store.specs.CachedFile.{state_of, name_of, page_form, entries_of, OnlyKeeps}
@@ -42,6 +43,11 @@ paged form hash told name pages first es size s =
     of_bytes (Some bytes) f = record { are = f.are; even = f.even; count = f.count }
 
 -- ---- what is kept
+
+-- a node that is not kept, since there is no room
+no_room : (count : ℕ) (n : owned_type.Node) → keeps_opened count n ≡ false → room ≤ count
+no_room count (owned_node.Inner children) e = let none : true ≡ false = e in cc
+no_room count (owned_node.Leaf records) e = ltb-false count room e
 
 module _ (form : Form) (hash : List ℕ → List ℕ) (told : Option Files) (name : List ℕ) (pages : ℕ) (first : List ℕ)
     (c d : LruCache ℕ CachedNode) (s : IsPaging form hash told name pages first c.entries c.cap) (child : Child) (n :
@@ -139,6 +145,13 @@ module _ (form : Form) (hash : List ℕ → List ℕ) (told : Option Files) (nam
       IsSome (lookup (nat_eq child.id) c.entries) ⊎ (length c.entries < c.cap)
   roomy valid small None e = inr (omega (arith, many valid.0 e, small, s.cap))
   roomy valid small (Some k) e = inl (subst (IsSome {T = CachedNode}) (sym e) refl)
+
+  -- a node that is not kept for want of room is kept already, where there is room for all pages
+  pub held_full : IsValid nat_eq c → keeps_opened (length c.entries) n ≡ false → HoldsPage pages c.entries child.id
+  held_full valid full small = elim (roomy valid small (lookup (nat_eq child.id) c.entries) refl) [
+    | inl there ↦ there
+    | inr less ↦ absurd (omega (arith, less, s.cap, no_room (length c.entries) n full))
+  ]
 
   pub keeps_more : {A E : Type 0} (r : Result A E) → IsValid nat_eq c →
       OnOk r (GainsNode c.cap c.entries d.entries child (node_of n)) → OnErr r (d ≡ c) →

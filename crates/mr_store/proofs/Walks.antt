@@ -27,9 +27,9 @@ use Rattle.mr_tree.specs.declared.tree.Tree.TheFolds.{every-Tree}
 use Rattle.mr_tree.proofs.Equations.{entry_level, entry-Leaf, entry-Inner, records-Leaf, records-Inner}
 use Rattle.mr_tree.proofs.Induction.{every-Leaf, every-Inner}
 use Rattle.mr_tree.proofs.Subtrees.{subtrees-Leaf, subtrees-Inner}
-use Rattle.mr_pages.specs.Faults.{numbers_of, repeats, same_rect, least_fill}
+use Rattle.mr_pages.specs.Faults.{numbers_of, repeats, same_rect, least_fill, size}
 use Rattle.mr_pages.specs.private.Judging.{fills_node, has_said, fits_entry}
-use Rattle.mr_pages.specs.Walking.{child_link, Saw, MeetsNumbers}
+use Rattle.mr_pages.specs.Walking.{child_link, Saw, MeetsNumbers, page_node}
 use Rattle.mr_pages.specs.declared.visited.Visited.{Visited}
 use Rattle.mr_pages.proofs.Building.{FilledAs, leaf_there, inner_there, filled_leaf, filled_inner, first_is, one_of, leaf_filled, inner_filled, filled_below, of_images}
 use Rattle.mr_pages.proofs.Fits.{first_of_both, second_of_both, level_known, rect_known, mask_known, count_known}
@@ -94,6 +94,11 @@ has_count : (root : Bool) (a b : ℕ) → (root || a == b) ≡ true → (root �
 has_count true a b e counted = sym (counted refl)
 has_count false a b e counted = eqb-true a b e
 
+-- a node that fits is as full as it has to be
+fill_of : (v : Version) (root : Bool) (c : Child) (n : view.Node) → fits_entry v root c n ≡ true →
+    least_fill root (page_node n) ≤ size (page_node n)
+fill_of v root c n fit = ltb-false _ _ (not_true _ (second_of_both (has_said v root c n) (fills_node root n) fit))
+
 pub suits_of : (v : Version) (hash : List ℕ → List ℕ) (s : MapModel) (root : Bool) (c : Child) (n : view.Node) →
     s.version ≡ v → ShowsNode hash s c n → view.IsView n → fits_entry v root c n ≡ true →
     IsCounted root c (view.count_over v n) → SuitsEntry (by v hash) root c n
@@ -114,7 +119,7 @@ suits_of v hash s root c n one shows is fit counted =
             (second_of_both (view.mask_over v n == c.mask) _ sums) counted)) i;
         digest = (sym shows.digest ∙ ap (λ u. hash (view.preimage_of u n)) one) i;
       };
-      full = ltb-false _ _ (not_true _ (second_of_both (has_said v root c n) (fills_node root n) fit));
+      full = fill_of v root c n fit;
     }
 
 entries_told : (scheme : Scheme) (s : MapModel) (cs : List Child) (ts : List Tree) →
@@ -217,13 +222,15 @@ next_count-≤ n = omega arith
 pub leaf_walked : (x : Scheme) (hash : List ℕ → List ℕ) (s : MapModel) (root : Bool) (child : Child)
     (rs : List Record) (before after : Visited) (f f' : ℕ) (made : Tree → Type 0) → MayFetch hash s child →
     ShowsNode hash s child (Leaf rs) → x.of (view.preimage_of x.version (Leaf rs)) ≡ child.digest →
-    All IsRecord rs → (IsCounted root child (view.count_over x.version (Leaf rs)) → SuitsEntry x root child (Leaf rs)) →
+    s.version ≡ x.version → view.IsView (Leaf rs) → fits_entry x.version root child (Leaf rs) ≡ true →
+    (IsCounted root child (view.count_over x.version (Leaf rs)) → SuitsEntry x root child (Leaf rs)) →
     f' ≡ next_count f → AddsNumbers before after rs → (SuitsEntry x root child (Leaf rs) → made (tree.Leaf rs)) →
     Walked x s root child before after f f' made
-leaf_walked x hash s root child rs before after f f' made may shows digest are suits count met is = record {
+leaf_walked x hash s root child rs before after f f' made may shows digest one views fits suits count met is = record {
   under = tree.Leaf rs;
   digest = ap (λ (e : Entry). e.digest) (entry-Leaf x rs) ∙ digest;
-  each = subst (All IsRecord) (sym (records-Leaf rs)) are;
+  fine = fine_leaf x.version root rs (fill_of x.version root child (Leaf rs) fits) views.few views.each
+      (subst (λ v. view.AreTold v (Leaf rs)) one shows.told).layers;
   met = subst (AddsNumbers before after) (sym (records-Leaf rs)) met;
   same = λ told. told_leaf s (s.node child.id) rs (some_of (s.node child.id) _ (may.known told)) shows.node;
   once = omega (arith, count, next_count-≤ f, ap length (subtrees-Leaf rs));
@@ -233,7 +240,6 @@ leaf_walked x hash s root child rs before after f f' made may shows digest are s
       let fit = suits (λ r. counted r ∙ same) in
       record {
         known = fit.known ∙ sym (entry-Leaf x rs);
-        fine = fine_leaf x.version root rs fit.full fit.fits.few fit.fits.each fit.told.layers;
         made = is fit;
       };
 }
@@ -294,19 +300,21 @@ fine_inner x root cs us fits known full fine =
 pub inner_walked : (x : Scheme) (hash : List ℕ → List ℕ) (s : MapModel) (root : Bool) (child : Child)
     (children : List Child) (before after : Visited) (f f' : ℕ) (made : Tree → Type 0) (made_all : List Tree → Type 0) →
     MayFetch hash s child → ShowsNode hash s child (Inner children) →
-    x.of (view.preimage_of x.version (Inner children)) ≡ child.digest →
+    x.of (view.preimage_of x.version (Inner children)) ≡ child.digest → view.IsView (Inner children) →
+    fits_entry x.version root child (Inner children) ≡ true →
     (IsCounted root child (view.count_over x.version (Inner children)) → SuitsEntry x root child (Inner children)) →
     WalkedAll x s children before after (f + 1) f' made_all →
     (SuitsEntry x root child (Inner children) → (us : List Tree) → made_all us → made (tree.Inner us)) →
     Walked x s root child before after f f' made
-inner_walked x hash s root child children before after f f' made made_all may shows digest suits all is =
+inner_walked x hash s root child children before after f f' made made_all may shows digest views fits suits all is =
     let us = all.below in
     let nodes = ap length (subtrees-Inner us) ∙ length-append (flat_map subtrees us) (tree.Inner us ∷ []) in
     record {
       under = tree.Inner us;
       digest = ap (λ (e : Entry). e.digest) (entry-Inner x us ∙ ap (λ es. entry_step x (Inner es)) (sym all.known))
           ∙ digest;
-      each = subst (All IsRecord) (sym (records-Inner us ∙ of_images us)) (records_fine x.version us all.fine);
+      fine = fine_inner x root children us views all.known (fill_of x.version root child (Inner children) fits)
+          all.fine;
       met = subst (AddsNumbers before after) (sym (records-Inner us ∙ of_images us)) all.met;
       same = λ told. told_inner s (s.node child.id) children us (some_of (s.node child.id) _ (may.known told))
           shows.node (all.same told);
@@ -318,7 +326,6 @@ inner_walked x hash s root child children before after f f' made made_all may sh
           let fit = suits (λ r. counted r ∙ same) in
           record {
             known = fit.known ∙ ap (λ es. entry_step x (Inner es)) all.known ∙ sym (entry-Inner x us);
-            fine = fine_inner x root children us fit.fits all.known fit.full all.fine;
             made = is fit us all.made;
           };
     }
@@ -396,7 +403,7 @@ next_walked x s s' cs d i a b e f g h made made' one same within here all next m
       below = us ++ t ∷ [];
       known = ap (map view.child_entry) list ∙ map-append view.child_entry (take i cs) (d ∷ [])
           ∙ (λ k. all.known k ++ below.known k ∷ []) ∙ sym (map-append (entry x) us (t ∷ []));
-      fine = all_append (IsFine x.version false) us (t ∷ []) all.fine (below.fine, tt);
+      fine = all_append (IsFine x.version false) us (t ∷ []) all.fine (next.fine, tt);
       met = subst (AddsNumbers a e) (flat_more records us t)
           (adds_more a b e (flat_map records us) (records t) all.met next.met);
       same = λ is. ap (map nodes) list ∙ map-append nodes (take i cs) (d ∷ [])

@@ -155,11 +155,11 @@ module _ (hash : List ℕ → List ℕ) (s : MapModel) (top : Top) (r c : Child)
 
     well : WellFormed t
     well = record {
-      one_level = built.fine.one_level;
+      one_level = walked.fine.one_level;
       shallow = omega (arith, may.low, ap (λ (e : Entry). e.level) built.known, entry_level x t);
-      filled = built.fine.filled;
+      filled = walked.fine.filled;
       distinct = records_apart (records t) (fresh_apart [] (numbers_of (records t)) (walked.met pages [] start).0);
-      each = built.fine.each;
+      each = walked.fine.each;
       few = omega (arith, is.few, same, counted);
     }
 
@@ -175,7 +175,7 @@ module _ (hash : List ℕ → List ℕ) (s : MapModel) (top : Top) (r c : Child)
     }
 
     pub whole_snapshot : IsSnapshot hash ns whole_top
-    whole_snapshot = snapshot_of x top.batch top.count t well built.fine.layers (same ∙ counted) ns (Some c) rooted
+    whole_snapshot = snapshot_of x top.batch top.count t well walked.fine.layers (same ∙ counted) ns (Some c) rooted
 
     pub whole_stands : IsSnapshotOf s ns whole_top
     whole_stands u is_told = stands_as hash s top (tree_at (trees ns) c.id) u is (here ∙ told_tree u is_told)

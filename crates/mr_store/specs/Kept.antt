@@ -1,5 +1,5 @@
 -- What a cache of node pages holds.
-use Rattle.std.specs.Prelude.{◌≡◌, ◌≢◌, ℕ, ◌<◌, ◌≤◌, ◌⊎◌, ◌+◌, Bool, true, false, List, length, All, Contains, Some, IsSome, IsSomeAnd, nat_eq, nat_le}
+use Rattle.std.specs.Prelude.{◌≡◌, ◌≢◌, ℕ, ◌<◌, ◌≤◌, ◌⊎◌, ◌+◌, Bool, true, false, List, length, All, Contains, Some, IsSome, IsSomeAnd, nat_eq, ltb}
 use Rattle.std.specs.Map.{lookup}
 use Rattle.lru.specs.LruCache.{lru_cache, promoted, put_entries}
 use Rattle.mr_tree.specs.Digest.{Scheme}
@@ -18,11 +18,11 @@ node_of = owned
 abbrev pub room : ℕ
 room = 256
 
--- whether a node of a file of so many pages is kept as its pages are judged: an inner node always,
--- and a leaf where there is room for all nodes
-abbrev pub keeps_opened : (pages : ℕ) → owned_type.Node → Bool
-keeps_opened pages (owned_node.Inner children) = true
-keeps_opened pages (owned_node.Leaf records) = nat_le pages (room + 1)
+-- whether a node is kept as the pages of a file are judged, where so many are kept already: an
+-- inner node always, and a leaf where there is room
+abbrev pub keeps_opened : (count : ℕ) → owned_type.Node → Bool
+keeps_opened count (owned_node.Inner children) = true
+keeps_opened count (owned_node.Leaf records) = ltb count room
 
 -- the pages with what is kept of them
 abbrev pub CacheEntries : Type 0

@@ -8,7 +8,7 @@ use Rattle.mr_record.specs.declared.version.Version.{Version}
 use Rattle.mr_record.specs.Version as version
 use Rattle.mr_tree.specs.Limits.{count_limit, level_limit}
 use Rattle.mr_tree.specs.Digest.{by, entry}
-use Rattle.mr_tree.specs.Nodes.{MapModel, IsTop, subtrees}
+use Rattle.mr_tree.specs.Nodes.{MapModel, subtrees}
 use Rattle.mr_tree.specs.View.{MayTell, child_entry}
 use Rattle.mr_tree.specs.Snapshot.{snapshot_model, tree_model}
 use Rattle.mr_tree.specs.declared.nodes.Top.{Top}
@@ -123,12 +123,6 @@ pub record IsListedAs (hash : List ℕ → List ℕ) (top : Top) (fetches fetche
   pub count : length (records tree) ≡ top.count
   pub root : IfSome top.root (λ c. entry (by top.version hash) tree ≡ child_entry c)
   pub few : fetches' ≤ fetches + length (subtrees tree)
-
--- the same of what a map that stands so says of itself
-abbrev pub IsListed : (List ℕ → List ℕ) → MapModel → (fetches fetches' : ℕ) → DirectoryEntries
-    → Type 0
-IsListed hash s fetches fetches' d =
-    (top : Top) × IsTop hash s top × IsListedAs hash top fetches fetches' d
 
 -- the file of these bytes stands for the map
 abbrev pub IsMapOf : Form → (List ℕ → List ℕ) → MapModel → List ℕ → Type 0

@@ -9,10 +9,10 @@ ghost use Rattle.mr_tree.specs.Tree.{records as records_in};
 ghost use Rattle.mr_tree.specs.declared.nodes.NodesErr.TheVariants as errors;
 ghost use Rattle.mr_tree.specs.Nodes.{IsTop, MayFetch, HasSomeCause, TellsRefusal, subtrees};
 ghost use Rattle.mr_batch.specs.Directory.{IsDirectoryOf};
-ghost use Rattle.mr_store.specs.Blamed.{StopsAt, StopsMap};
+ghost use Rattle.mr_store.specs.Blamed.{StopsAt};
 ghost use Rattle.mr_store.specs.private.Walk.{HasSeenNone, StopsWalk, nodes_at};
 ghost use Rattle.mr_store.specs.private.Listing.{directory_entry, ListsAt, ListsMore, ListsNode, GathersDirectory, HasAt, ListsTree, CanListAll};
-ghost use Rattle.mr_store.specs.Stored.{IsListed, IsListedAs};
+ghost use Rattle.mr_store.specs.Stored.{IsListedAs};
 
 use crate::record_list::RecordList;
 use crate::walk::{Gather, walk};
@@ -226,9 +226,9 @@ pub fn directory<N: Nodes>(alloc: Global, nodes: &mut N) -> Result<Directory, No
     ensures kept { N.kept nodes.old nodes.new }
     ensures lists { IfOk result (λ d. IfSome (N.stands nodes.old).tree
         (λ t. IsDirectoryOf d (records_in t))) }
-    // Told or not, it is of a map that says of itself what this one may, and there were no more
+    // Told or not, it is of a map that says of itself what this one says, and there were no more
     // fetches than nodes of that one.
-    ensures says { IfOk result (IsListed N.Hash.of (N.stands nodes.old)
+    ensures says { IfOk result (IsListedAs N.Hash.of (N.says nodes.old)
         (N.fetches nodes.old) (N.fetches nodes.new)) }
     // There are no more fetches than nodes.
     ensures fetched { IfSome (N.stands nodes.old).tree (λ t. N.fetches nodes.new
@@ -240,7 +240,8 @@ pub fn directory<N: Nodes>(alloc: Global, nodes: &mut N) -> Result<Directory, No
         (N.faults nodes.old) (N.faults nodes.new)) }
     // Told or not, it stops with what a fetch refused, or blames a node that breaks a rule, or the
     // root for its count; or memory ran out.
-    ensures blames { IfErr result (StopsMap N.Hash.of (N.stands nodes.old)
+    ensures blames { IfErr result (StopsAt N.Hash.of (N.stands nodes.old)
+        (N.says nodes.old).root (N.says nodes.old).count
         (N.asked nodes.new) (N.refusal nodes.new)) }
 {
     let top = nodes.top();

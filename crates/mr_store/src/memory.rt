@@ -1,6 +1,6 @@
 //! Maps that are taken into memory whole.
 
-ghost use Rattle.std.specs.Prelude.{◌≡◌, ◌≤◌, ◌+◌, length, IfOk, IfErr, IfSome, OnOk};
+ghost use Rattle.std.specs.Prelude.{◌≡◌, ◌≤◌, ◌+◌, length, Some, IfOk, IfErr, IfSome, OnOk};
 ghost use Rattle.mr_tree.specs.Nodes.{HasSomeCause, TellsRefusal, subtrees};
 ghost use Rattle.mr_tree.specs.Snapshot.{snapshot_model, tree_of};
 ghost use Rattle.mr_store.specs.Blamed.{StopsAt};
@@ -51,7 +51,7 @@ impl<S: Shelf, H: Hash32> Paged<S, H> {
         // Told or not, it stops with what a fetch refused, or blames a node that breaks a rule, or
         // the root for its count; or memory ran out.
         ensures blames { IfErr result (StopsAt H.of (stands_for self.old) self.old.head.root
-            self.old.head.count (λ page. self.new.asked ≡ page) self.new.refusal) }
+            self.old.head.count (λ c. self.new.asked ≡ Some c) self.new.refusal) }
         ensures quiet { OnOk result ((shelved self.new).faults ≡ (shelved self.old).faults) }
         // What a fetch refused is what is answered.
         ensures answered { TellsRefusal (λ e. e) self.old.refusal self.new.refusal result }

@@ -116,16 +116,7 @@ fn over<S: Shelf, H: Hash32>(
         hash: _,
     } = paging;
     are_sized::<H>();
-    let paged = Paged {
-        alloc,
-        file,
-        head,
-        fetches: 0,
-        refusal: None,
-        asked: 0,
-        hash: PhantomData,
-    };
-    (paged, list.entries)
+    (Paged::over(alloc, file, head), list.entries)
 }
 
 // The map whose pages are these, or its first fault; and the number and the rectangle of each of
@@ -232,8 +223,9 @@ fn open_named<S: Shelf, H: Hash32>(
 impl<S: Shelf, H: Hash32> Paged<S, H> {
     /// Opens the map in a file of the shelf, which is handed back beside a refusal.
     ///
-    /// Each page is read at most once, and checked; up to 256 nodes are kept. Of a map of more than
-    /// 257 pages no leaf is kept as it is opened, but each node is once it is fetched.
+    /// Each page is read at most once, and checked; up to 256 nodes are kept. Where 256 are kept as
+    /// a map is opened, an inner node takes the place of the one that was kept first, and a leaf is
+    /// not kept. Once it is fetched, each node is kept.
     /// The file's length is what `size` gives, and what a read gives short counts as zeros. It is
     /// read in version 2 where its byte 4 is 2, else in version 1; one that is smaller than any
     /// page is not read at all.

@@ -1,6 +1,6 @@
 //! A map on disk whose nodes are fetched page by page.
 
-ghost use Rattle.std.specs.Prelude.{◌≡◌, ◌≤◌, ◌+◌, length, Some, IfOk, IfErr, OnOk, OnErr, IsOk};
+ghost use Rattle.std.specs.Prelude.{◌≡◌, ◌≤◌, ◌+◌, length, Some, None, IfOk, IfErr, OnOk, OnErr, IsOk};
 ghost use Rattle.mr_outside.specs.Faults.{next_count};
 ghost use Rattle.mr_tree.specs.Nodes.{MayFetch, ShowsNode, HasFetchCause};
 ghost use Rattle.mr_store.specs.Kept.{room, used, PutsNode};
@@ -10,7 +10,7 @@ ghost use Rattle.mr_outside.specs.Causes.{ShelfCauses};
 ghost use Rattle.mr_outside.specs.Told.{OfFile};
 ghost use Rattle.std.proofs.Props.{props};
 ghost use Rattle.mr_store.specs.CachedFile.{entries_of, name_of, page_form, OfBytes, IsHeld, IsGiven};
-ghost use Rattle.mr_store.specs.Stored.{IsStore, IsMapOf};
+ghost use Rattle.mr_store.specs.Stored.{top_in, IsStore, IsMapOf};
 
 use crate::cached_file::CachedFile;
 use crate::fetching::show_node;
@@ -29,18 +29,20 @@ pub struct Paged<S: Shelf, H: Hash32> {
     pub(crate) head: MapHead,
     pub(crate) fetches: u64,
     pub(crate) refusal: Option<NodesErr>,
-    pub(crate) asked: u32,
+    asked: Option<Child>,
     pub(crate) hash: PhantomData<H>,
     ghost store: { IsStore H.of file head } by { Prim.hlevel props },
 }
 
 impl<S: Shelf, H: Hash32> Nodes for Paged<S, H> {
     ghost use Rattle.mr_store.specs.Paged.{shelved, stands_for, Keeps};
-    ghost use Rattle.mr_store.specs.private.Laws.{keeps_self, keeps_on, keeps_stands, is_well_formed, is_layered, has_ids};
+    ghost use Rattle.mr_store.specs.private.Laws.{keeps_self, keeps_on, keeps_stands, keeps_says, is_well_formed, is_layered, has_ids};
 
     type Hash = H;
 
     ghost stands = { λ s. stands_for s };
+
+    ghost says = { λ s. top_in s.file.layout.version s.head };
 
     ghost fetches = { λ s. s.fetches };
 
@@ -48,7 +50,7 @@ impl<S: Shelf, H: Hash32> Nodes for Paged<S, H> {
 
     ghost refusal = { λ s. s.refusal };
 
-    ghost asked = { λ s page. s.asked ≡ page };
+    ghost asked = { λ s c. s.asked ≡ Some c };
 
     ghost kept = { λ s t. Keeps s t };
 
@@ -71,7 +73,7 @@ impl<S: Shelf, H: Hash32> Nodes for Paged<S, H> {
         ensures quiet { OnOk result ((shelved self.new).faults ≡ (shelved self.old).faults) }
         ensures refused { IfErr result (λ e. self.new.refusal ≡ Some e) }
         ensures unrefused { OnOk result (self.new.refusal ≡ self.old.refusal) }
-        ensures asks { self.new.asked ≡ child.now.id }
+        ensures asks { self.new.asked ≡ Some child.now }
         // A page that is kept is not read, and any other is read once at most.
         ensures held { IsHeld self.old.file child.now →
             IsOk result × ((shelved self.new).reads ≡ (shelved self.old).reads) }
@@ -91,7 +93,7 @@ impl<S: Shelf, H: Hash32> Nodes for Paged<S, H> {
         ensures length_at_most { length (entries_of self.new.file) ≤ room }
     {
         self.fetches = self.fetches.saturating_add(1);
-        self.asked = child.id;
+        self.asked = Some(*child);
         let result = show_node::<H, S>(self.alloc, &mut self.file, &self.head, child, into);
         if let Err(error) = &result {
             self.refusal = Some(*error);
@@ -106,6 +108,8 @@ impl<S: Shelf, H: Hash32> Nodes for Paged<S, H> {
 
     ghost kept_stands = { λ s t k. keeps_stands s t k };
 
+    ghost kept_says = { λ s t k. keeps_says s t k };
+
     ghost kept_fetches = { λ s t k. k.fetches };
 
     ghost kept_faults = { λ s t k. k.faults };
@@ -119,6 +123,26 @@ impl<S: Shelf, H: Hash32> Nodes for Paged<S, H> {
 
 impl<S: Shelf, H: Hash32> Paged<S, H> {
     ghost use Rattle.mr_store.specs.Paged.{shelved, stands_for, IsSameMap};
+
+    // The map that stands in a file whose page 0 says this, and none of whose nodes was fetched.
+    pub(crate) fn over(alloc: Global, file: CachedFile<S>, head: MapHead) -> Paged<S, H>
+        requires store { IsStore H.of file head }
+        ensures file { result.file ≡ file }
+        ensures head { result.head ≡ head }
+        ensures fetches { result.fetches ≡ 0 }
+        ensures refusal { result.refusal ≡ None }
+        ensures asked { result.asked ≡ None }
+    {
+        Paged {
+            alloc,
+            file,
+            head,
+            fetches: 0,
+            refusal: None,
+            asked: None,
+            hash: PhantomData,
+        }
+    }
 
     /// Does nothing: it is there for proofs, which learn what the map's file stands for.
     pub fn is_map(&self)
@@ -154,6 +178,7 @@ impl<S: Shelf, H: Hash32> Paged<S, H> {
             OfFile (shelved self.old).files name.now (after ≡ before)
             (λ bytes. after ≤ before + piece_count (length bytes)) }
         ensures refusal { self.new.refusal ≡ self.old.refusal }
+        ensures asked { self.new.asked ≡ self.old.asked }
     {
         read_all(self.alloc, &mut self.file.shelf, name)
     }

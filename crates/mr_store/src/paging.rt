@@ -1,6 +1,6 @@
 //! A file of pages on a shelf, of which it is not known yet whether it stands for a map.
 
-ghost use Rattle.std.specs.Prelude.{◌≡◌, ℕ, Bool, true, false, List, IfOk, OnOk};
+ghost use Rattle.std.specs.Prelude.{◌≡◌, ℕ, Bool, true, false, List, length, IfOk, OnOk};
 ghost use Rattle.std.proofs.Props.{props};
 ghost use Rattle.mr_tree.specs.Tree.{records};
 ghost use Rattle.mr_tree.specs.declared.tree.Tree.{Tree};
@@ -26,8 +26,8 @@ use std::alloc::AllocError;
 use std::marker::PhantomData;
 
 /// A file of whole pages, of which page 0 was read and the others are read one by one. With it come
-/// the nodes of it that are kept, 256 at most: inner ones, and leaves where there is room for all
-/// nodes. The records that were met come too, where they are wanted.
+/// the nodes of it that are kept, 256 at most: inner ones, and leaves while there is room. The
+/// records that were met come too, where they are wanted.
 pub(crate) struct Paging<'a, S: Shelf, H: Hashes> {
     pub(crate) file: CachedFile<S>,
     pub(crate) first: &'a [u8],
@@ -36,14 +36,14 @@ pub(crate) struct Paging<'a, S: Shelf, H: Hashes> {
     ghost paging: { IsUnchecked H.of file first.now } by { Prim.hlevel props },
 }
 
-// Whether a node of a file of so many pages is kept as its pages are judged: an inner node always,
-// and a leaf where there is room for all nodes.
-fn is_kept(pages: u32, node: &Node) -> bool
-    ensures { result ≡ keeps_opened pages node.now }
+// Whether a node is kept as the pages of a file are judged, where so many are kept already: an
+// inner node always, and a leaf where there is room.
+fn is_kept(count: usize, node: &Node) -> bool
+    ensures { result ≡ keeps_opened count node.now }
 {
     match node {
         Node::Inner(_) => true,
-        Node::Leaf(_) => pages as usize <= ROOM + 1,
+        Node::Leaf(_) => count < ROOM,
     }
 }
 
@@ -100,18 +100,18 @@ impl<S: Shelf, H: Hashes> Source for Paging<'_, S, H> {
             ListsMore before self.new.list (records (tree_over node ts))) }
         ensures kept { OnOk result
             (HoldsPage self.new.file.pages (entries_of self.new.file) child.now.id) }
-        ensures puts { keeps_opened self.old.file.pages node ≡ true →
+        ensures puts { keeps_opened (length (entries_of self.old.file)) node ≡ true →
             OnOk result (PutsNode self.old.file.cache.cap (entries_of self.old.file)
             (entries_of self.new.file) child.now (node_of node)) }
-        // A leaf of a larger file is not kept.
-        ensures passes { keeps_opened self.old.file.pages node ≡ false →
+        // A leaf is not kept where there is no room.
+        ensures passes { keeps_opened (length (entries_of self.old.file)) node ≡ false →
             entries_of self.new.file ≡ entries_of self.old.file }
         ensures stay { Stay (HoldsPage self.old.file.pages (entries_of self.old.file))
             (HoldsPage self.new.file.pages (entries_of self.new.file)) }
     {
-        let _len = self.file.cache.len();
+        let count = self.file.cache.len();
         list_node(&mut self.list, &node)?;
-        if !is_kept(self.file.pages, &node) {
+        if !is_kept(count, &node) {
             return Ok(());
         }
         self.file.keep(child, node)

@@ -1,6 +1,6 @@
 //! A walk over the nodes of a map, each of which is fetched once.
 
-ghost use Rattle.std.specs.Prelude.{◌≡◌, ◌≤◌, ◌⊎◌, ◌+◌, ℕ, Bool, List, [], map, length, Some, IfOk, IfErr, IsSome, OnOk};
+ghost use Rattle.std.specs.Prelude.{◌≡◌, ◌≤◌, ◌⊎◌, ◌+◌, ℕ, Bool, true, List, [], map, length, Some, IfOk, IfErr, IsSome, OnOk};
 ghost use Rattle.mr_outside.specs.Faults.{next_count};
 ghost use Rattle.mr_tree.specs.Digest.{Scheme, by};
 ghost use Rattle.mr_tree.specs.Nodes.{MayFetch, ShowsNode, TellsRefusal};
@@ -11,6 +11,7 @@ ghost use Rattle.mr_tree.specs.declared.tree.Tree as trees;
 ghost use Rattle.mr_tree.specs.declared.tree.Tree.TheVariants as tree;
 ghost use Rattle.mr_tree.specs.declared.tree.Tree.TheOpen.{Leaf, Inner};
 ghost use Rattle.mr_pages.specs.Walking.{Saw};
+ghost use Rattle.mr_pages.specs.private.Judging.{fits_entry};
 ghost use Rattle.mr_store.specs.Blamed.{StopsAs, IsBlamed};
 ghost use Rattle.mr_store.specs.private.Walk.{SuitsEntry, IsCounted, IsFull, CanWalk, AddsNumbers, moved, nodes_at, GathersAll, Walked, StopsWalk, IsUnfit, IsTwice};
 
@@ -64,8 +65,9 @@ fn look<N: Nodes>(
     ensures answered { TellsRefusal (λ e. e) (N.refusal nodes.old) (N.refusal nodes.new) result }
     ensures cause { IfErr result (StopsWalk (N.stands nodes.old) (N.faults nodes.old)
         (N.faults nodes.new) (IsFull (N.stands nodes.old) root child.now)) }
+    ensures fits { OnOk result (fits_entry version root child.now view.new ≡ true) }
+    ensures asks { N.asked nodes.new child.now }
     // The child's page is blamed for what was shown, or else this is what the fetch refused.
-    ensures asks { N.asked nodes.new child.now.id }
     ensures blames { IfErr result (λ e. IsUnfit N.Hash.of (N.stands nodes.old) root child.now
         view.new e ⊎ (N.refusal nodes.new ≡ Some e)) }
 {
@@ -134,8 +136,7 @@ pub(crate) fn walk<N: Nodes, G: Gather>(
     ensures cause { IfErr result (StopsWalk (N.stands nodes.old) (N.faults nodes.old)
         (N.faults nodes.new) (CanWalk (N.stands nodes.old) root seen.old child.now)) }
     ensures blames { IfErr result (λ e. (pages : ℕ) (ns : List ℕ) → Saw pages seen.old [] ns →
-        StopsAs (λ page. N.asked nodes.new page
-        × IsBlamed N.Hash.of (N.stands nodes.old) root ns child.now page)
+        StopsAs (IsBlamed N.Hash.of (N.stands nodes.old) (N.asked nodes.new) root ns child.now)
         (N.refusal nodes.new) e) }
 {
     look(version, nodes, child, root, view)?;

@@ -151,8 +151,8 @@ struct Row {
 }
 
 // Page 3 is the first leaf's, and page 257 the fifth inner node's below the root. Neither is kept
-// when it is sought: no leaf is as the map is opened, and 251 of them come before page 257. The
-// first child of that is page 258.
+// when it is sought: page 3 gives way to page 257 as the map is opened, and page 257 to the last of
+// the 251 leaves before it. The first child of that is page 258.
 const ROWS: &[Row] = &[
     Row {
         name: "a proof of a map that stays",

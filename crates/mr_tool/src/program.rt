@@ -248,12 +248,12 @@ pub fn run<H: Hash32, S: Shelf, W: Sink, G: Gate, R: Threads + Sync>(
     ensures quiet { let before = world (S.state shelf) (W.state out.old) in
         let after = world (S.state result.1) (W.state out.new) in
         StaysQuiet (map string_bytes words.now) before after result.0 }
-    // Where the files are told, no input that is read whole is read twice; of a map in its own file
-    // nothing is said. A map that is read page by page takes its pages once. A large one takes the
-    // nodes besides that the proof opens, and for nearest records these twice. `apply`, where the
-    // batch may be applied, takes the pages once more for the copy, and what the changes read of
-    // the new file. Of a proof that `check` judges no piece is read behind the one that fixes a
-    // fault.
+    // Where the files are told, no input that is read whole is read twice; of the commands that
+    // change a map in its own file nothing is said. A map that is read page by page takes its pages
+    // once. A large one takes the nodes besides that the proof opens, and for nearest records these
+    // twice. `apply`, where the batch may be applied, takes the pages once more for the copy, and
+    // what the changes read of the new file. Of a proof that `check` judges no piece is read behind
+    // the one that fixes a fault.
     ensures reads { let before = world (S.state shelf) (W.state out.old) in
         let after = world (S.state result.1) (W.state out.new) in
         ReadsFewWords H.of (map string_bytes words.now) before after }

@@ -2,8 +2,10 @@
 
 ghost use Rattle.std.specs.Prelude.{◌≡◌, ℕ, ◌≤◌, Option, Some, IfSome, IfErr, OnOk};
 ghost use Rattle.mr_outside.specs.Faults.{next_count};
+ghost use Rattle.mr_tree.specs.declared.child.Child as entry;
 ghost use Rattle.mr_tree.specs.declared.nodes.NodesErr as error;
 ghost use Rattle.mr_tree.specs.declared.nodes.NodesErr.TheVariants as variants;
+ghost use Rattle.mr_tree.specs.declared.nodes.Top as head;
 ghost use Rattle.mr_tree.specs.WellFormed.{WellFormed, HasLayers};
 ghost use Rattle.mr_tree.specs.Nodes.{MapModel, HasIds, IsTop, MayFetch, ShowsNode, HasFetchCause, root_entry, of_shelf};
 
@@ -96,6 +98,9 @@ pub trait Nodes {
     // each id
     ghost stands: { Self → MapModel };
 
+    // what the map says of itself, which no call changes either
+    ghost says: { Self → head.Top };
+
     // how many fetches there were
     ghost fetches: { Self → ℕ };
 
@@ -105,8 +110,8 @@ pub trait Nodes {
     // the last refusal of a fetch, where one was refused
     ghost refusal: { Self → Option error.NodesErr };
 
-    // that the node which was fetched last, or was refused, is on this page
-    ghost asked: { Self → ℕ → Type 0 };
+    // holds of the child that was asked for last, also where it was refused; it may hold of others
+    ghost asked: { Self → entry.Child → Type 0 };
 
     // what a call leaves of the object, from what it was before it
     ghost kept: { Self → Self → Type 0 };
@@ -114,7 +119,8 @@ pub trait Nodes {
     /// Version, batch and count of the map, and the entry of its root, whose count is that of the
     /// map in version 2 and 0 in version 1.
     fn top(&self) -> Top
-        ensures { IsTop Self.Hash.of (stands self.now) result };
+        ensures is { IsTop Self.Hash.of (stands self.now) result }
+        ensures says { result ≡ says self.now };
 
     /// Reads the node of which the child is the entry. After a refusal the view shows any node.
     fn fetch(&mut self, child: &Child, into: &mut NodeView) -> Result<(), NodesErr>
@@ -127,13 +133,15 @@ pub trait Nodes {
         ensures quiet { OnOk result (faults self.new ≡ faults self.old) }
         ensures refused { IfErr result (λ e. refusal self.new ≡ Some e) }
         ensures unrefused { OnOk result (refusal self.new ≡ refusal self.old) }
-        ensures asks { asked self.new child.now.id };
+        ensures asks { asked self.new child.now };
 
     ghost kept_self: { (s : Self) → kept s s };
 
     ghost kept_on: { (s t u : Self) → kept s t → kept t u → kept s u };
 
     ghost kept_stands: { (s t : Self) → kept s t → stands t ≡ stands s };
+
+    ghost kept_says: { (s t : Self) → kept s t → says t ≡ says s };
 
     ghost kept_fetches: { (s t : Self) → kept s t → fetches s ≤ fetches t };
 

@@ -147,14 +147,16 @@ impl<'a, H: Hashes> Nodes for Reader<'a, H> {
 
     ghost stands = { λ r. snapshot_model r.snapshot.now.nodes.items r.snapshot.now.top };
 
+    ghost says = { λ r. r.snapshot.now.top };
+
     ghost fetches = { λ r. r.fetches };
 
     ghost faults = { λ r. 0 };
 
     ghost refusal = { λ r. None };
 
-    // No page is blamed, so that none is remembered.
-    ghost asked = { λ r page. ⊤ };
+    // No node is blamed, so that none is remembered.
+    ghost asked = { λ r c. ⊤ };
 
     ghost kept = { λ s t. (t.snapshot ≡ s.snapshot) × (s.fetches ≤ t.fetches) };
 
@@ -190,6 +192,8 @@ impl<'a, H: Hashes> Nodes for Reader<'a, H> {
     ghost kept_on = { Prim.search rules };
 
     ghost kept_stands = { Prim.search rules };
+
+    ghost kept_says = { Prim.search rules };
 
     ghost kept_fetches = { Prim.search rules };
 

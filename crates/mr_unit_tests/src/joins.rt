@@ -289,7 +289,7 @@ fn stopping<H: Hashes>(map: &Snapshot<H>, left: u64) -> Stopping<'_, H>
         fetches: 0,
         faults: 0,
         refusal: None,
-        asked: 0,
+        asked: None,
     }
 }
 

@@ -1,6 +1,6 @@
 //! A map whose nodes are fetched up to a number of them, and no further.
 
-ghost use Rattle.std.specs.Prelude.{◌≡◌, ◌≤◌, IfOk, IfErr, OnOk};
+ghost use Rattle.std.specs.Prelude.{◌≡◌, ◌≤◌, IfOk, IfErr, OnOk, Some};
 ghost use Rattle.std.proofs.Common.{rules};
 ghost use Rattle.mr_outside.specs.Faults.{next_count};
 ghost use Rattle.mr_tree.specs.Nodes.{IsTop, MayFetch, ShowsNode, HasFetchCause};
@@ -17,7 +17,7 @@ pub struct Stopping<'a, H: Hashes> {
     pub fetches: u64,
     pub faults: u64,
     pub refusal: Option<NodesErr>,
-    pub asked: u32,
+    pub asked: Option<Child>,
 }
 
 impl<'a, H: Hashes> Nodes for Stopping<'a, H> {
@@ -26,13 +26,15 @@ impl<'a, H: Hashes> Nodes for Stopping<'a, H> {
     ghost stands = { λ r.
         snapshot_model r.reader.snapshot.now.nodes.items r.reader.snapshot.now.top };
 
+    ghost says = { λ r. r.reader.snapshot.now.top };
+
     ghost fetches = { λ r. r.fetches };
 
     ghost faults = { λ r. r.faults };
 
     ghost refusal = { λ r. r.refusal };
 
-    ghost asked = { λ r page. r.asked ≡ page };
+    ghost asked = { λ r c. r.asked ≡ Some c };
 
     ghost kept = { λ s t. (t.reader.snapshot ≡ s.reader.snapshot) × (s.fetches ≤ t.fetches)
         × (s.faults ≤ t.faults) };
@@ -43,7 +45,7 @@ impl<'a, H: Hashes> Nodes for Stopping<'a, H> {
 
     fn fetch(&mut self, child: &Child, into: &mut NodeView) -> Result<(), NodesErr> {
         self.fetches = self.fetches.saturating_add(1);
-        self.asked = child.id;
+        self.asked = Some(*child);
         if self.left == 0 {
             self.faults = self.faults.saturating_add(1);
             self.refusal = Some(NodesErr::Fault);
@@ -58,6 +60,8 @@ impl<'a, H: Hashes> Nodes for Stopping<'a, H> {
     ghost kept_on = { Prim.search rules };
 
     ghost kept_stands = { Prim.search rules };
+
+    ghost kept_says = { Prim.search rules };
 
     ghost kept_fetches = { Prim.search rules };
 

@@ -22,7 +22,7 @@ use Rattle.mr_store.specs.declared.paged.Paged.{Paged}
 use Rattle.mr_store.specs.CachedFile.{page_form, bytes_of, IsSameFile}
 use Rattle.mr_store.specs.Parts.{whole_parts}
 use Rattle.mr_store.specs.Kept.{CacheEntries, room}
-use Rattle.mr_store.specs.Stored.{told_bytes, nodes_on_pages, read_map, map_on, IsOpen, IsStore}
+use Rattle.mr_store.specs.Stored.{told_bytes, nodes_on_pages, read_map, map_on, top_in, IsOpen, IsStore}
 use Rattle.mr_store.specs.Paged.{shelved, stands_for, ReadsFew, Keeps}
 use Rattle.mr_store.specs.private.Ids.{ArePages, are_pages, ids}
 
@@ -131,6 +131,10 @@ module _ {S H : Type 0} {G : shelf.Ghosts S} {K : hashes.Ghosts H} where
     still = λ told small. b.still (subst (IsSome {T = Files}) (sym a.files) told)
         (subst (λ (k : MapHead). k.pages ≤ room + 1) (sym a.head) small) ∙ a.still told small;
   }
+
+  pub keeps_says : (p p' : Paged S H G K) → Keeps p p' →
+      top_in p'.file.layout.version p'.head ≡ top_in p.file.layout.version p.head
+  keeps_says p p' k = λ i. top_in (k.file.layout i).version (k.head i)
 
   pub keeps_stands : (p p' : Paged S H G K) → Keeps p p' → stands_for p' ≡ stands_for p
   keeps_stands p p' k = λ i. read_map (form_of (k.file.layout i)) (k.head i)

@@ -1,39 +1,28 @@
 -- What a walk over the nodes of a map knows on its way. Nothing of this has to be believed: no
 -- public contract cites it.
-use Rattle.std.specs.Prelude.{◌≡◌, ◌≢◌, ⊤, ℕ, ◌+◌, ◌≤◌, Bool, true, false, List, [], ◌++◌, map, length, All, Option, Some, None, IsSome}
+use Rattle.std.specs.Prelude.{◌≡◌, ⊤, ℕ, ◌+◌, ◌≤◌, Bool, true, false, List, [], ◌++◌, map, length, Option, Some, None, IsSome}
 use Rattle.std.specs.List.{flat_map, sum_by, AllByRecursion}
-use Rattle.mr_record.specs.Record.{IsRecord}
 use Rattle.mr_record.specs.declared.record.Record.{Record}
 use Rattle.mr_record.specs.declared.version.Version.{Version}
 use Rattle.mr_tree.specs.Tree.{records}
 use Rattle.mr_tree.specs.Digest.{Scheme, entry}
-use Rattle.mr_tree.specs.WellFormed.{HasOneLevel, HasLayers}
+use Rattle.mr_tree.specs.WellFormed.{FilledAs}
 use Rattle.mr_tree.specs.View as view
 use Rattle.mr_tree.specs.Nodes.{MapModel, IsId, ShowsNode, HasSomeCause, subtrees}
 use Rattle.mr_tree.specs.declared.child.Child.{Child}
 use Rattle.mr_tree.specs.declared.nodes.NodesErr.{NodesErr}
 use Rattle.mr_tree.specs.declared.nodes.NodesErr.TheVariants as errors
 use Rattle.mr_tree.specs.declared.tree.Tree.{Tree}
-use Rattle.mr_tree.specs.declared.tree.Tree.TheVariants as tree
-use Rattle.mr_tree.specs.declared.tree.Tree.TheFolds.{every-Tree}
 use Rattle.mr_pages.specs.Faults.{numbers_of, repeats}
 pub use Rattle.mr_pages.specs.Gathering.{SuitsEntry, IsCounted, moved}
 unfoldable pub use Rattle.mr_pages.specs.Gathering.{GathersAll}
 use Rattle.mr_pages.specs.private.Judging.{fits_entry}
 use Rattle.mr_pages.specs.Walking.{Saw}
 use Rattle.mr_pages.specs.declared.visited.Visited.{Visited}
-use Rattle.mr_pages.proofs.Building.{FilledAs}
 use Rattle.mr_pages.proofs.Lists.{Fresh}
+pub use Rattle.mr_store.specs.Blamed.{IsFine}
 
 -- ---- one node
-
--- a tree that may stand in a map of this version below this place
-pub record IsFine (v : Version) (root : Bool) (t : Tree) : Type 0 where
-  pub one_level : every-Tree HasOneLevel t
-  pub there : t ≢ tree.Empty
-  pub filled : FilledAs root t
-  pub each : All IsRecord (records t)
-  pub layers : HasLayers v t
 
 -- the tree below the child is as full as it has to be, where it is told
 abbrev pub IsFull : MapModel → Bool → Child → Type 0
@@ -69,20 +58,20 @@ nodes_in s children = sum_by (λ (d : Child). nodes_at (s.node d.id)) children
 
 -- ---- what was walked over
 
--- the tree is the one that is said of, and breaks no rule, and this was made of it
+-- the tree is the one that is said of, and this was made of it
 pub record IsMadeOf (x : Scheme) (root : Bool) (c : Child) (t : Tree) (Made : Type 0)
     : Type 0 where
   pub known : view.child_entry c ≡ entry x t
-  pub fine : IsFine x.version root t
   pub made : Made
 
 -- Below the child stands this tree, told or not, of which each node was fetched once. It has the
--- digest that is said, and is the one that is said of, where a root has the count that is said.
+-- digest that is said and breaks no rule, and is the one that is said of, where a root has the
+-- count that is said.
 pub record Walked (x : Scheme) (s : MapModel) (root : Bool) (c : Child) (before after : Visited)
     (fetches fetches' : ℕ) (Made : Tree → Type 0) : Type 0 where
   pub under : Tree
   pub digest : (entry x under).digest ≡ c.digest
-  pub each : All IsRecord (records under)
+  pub fine : IsFine x.version root under
   pub met : AddsNumbers before after (records under)
   pub same : IsSome s.tree → s.node c.id ≡ Some under
   pub once : fetches' ≤ fetches + length (subtrees under)

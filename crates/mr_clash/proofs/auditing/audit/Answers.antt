@@ -17,7 +17,7 @@ returns-clause-honest g c =
     let s = g.N.Nodes.stands c.args.nodes.now in
     let fits : IsBytes c.args.proof.now = λ i. omega (arith, c.type_inv.proof i) in
     honest_told g.N.Hash.Hashes.of c.args.q.now c.args.proof.now s c.top-top.result c.in_ok-finding_of.field-0
-    c.top-top.ensures c.are_words.ensures.batch (c.honest_is_accepted.ensures.accepted s.version)
+    c.top-top.ensures.is c.are_words.ensures.batch (c.honest_is_accepted.ensures.accepted s.version)
     (c.accepted_is_honest.ensures.accepted s.version) (c.accepted_is_honest.ensures.quiet s.version)
     (g.met.N.Nodes.well_formed c.args.nodes.now) (g.met.N.Nodes.layered c.args.nodes.now)
     (told_from c.args.q.now c.args.proof.now c.is_query.ensures fits (by s.version g.N.Hash.Hashes.of) s.tree s.batch

@@ -6,7 +6,7 @@ returns-clause-honest g c =
     let a = g.A.AsQuestion.question c.args.q.now in
     let s = g.N.Nodes.stands c.args.nodes.now in
     honest_proof_told g.N.Hash.Hashes.of a c.args.proof.now s c.top-top.result
-    c.audited_by.result c.top-top.ensures c.are_words.ensures.batch
+    c.audited_by.result c.top-top.ensures.is c.are_words.ensures.batch
     (c.honest_proof_is_accepted.ensures.accepted s.version a c.requires)
     (c.accepted_matches_honest.ensures s.version a c.requires)
     (c.honest_proof_is_accepted.ensures.quiet s.version a c.requires)

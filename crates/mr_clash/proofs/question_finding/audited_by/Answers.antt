@@ -13,14 +13,14 @@ pub returns-in-Err-clause-told : goal.returns-in-Err-clause-told
 returns-in-Err-clause-told g c =
     declined_told g.N.Hash.Hashes.of (g.N.Nodes.stands c.args.nodes.now) c.top-top.result
     (g.A.AsQuestion.question c.args.q.now)
-    c.args.proof.now c.root_of.result c.top-top.ensures c.root_of.ensures c.in-Err.error c.declined.result
+    c.args.proof.now c.root_of.result c.top-top.ensures.is c.root_of.ensures c.in-Err.error c.declined.result
     c.in-Err.ensures.exact c.declined.ensures
 
 pub returns-in-Err-clause-judged : goal.returns-in-Err-clause-judged
 returns-in-Err-clause-judged g c =
     declined_for g.N.Hash.Hashes.of (g.N.Nodes.stands c.args.nodes.now) c.top-top.result
     (g.A.AsQuestion.question c.args.q.now)
-    c.args.proof.now c.root_of.result c.top-top.ensures c.root_of.ensures c.in-Err.error c.declined.result
+    c.args.proof.now c.root_of.result c.top-top.ensures.is c.root_of.ensures c.in-Err.error c.declined.result
     c.in-Err.ensures.exact c.declined.ensures
 
 pub returns-in-Err-clause-causes : goal.returns-in-Err-clause-causes
@@ -49,7 +49,7 @@ returns-in_ok-pair-in-Ok-clause-told g c =
     let shows = shows_from hash c.root_of.result a c.args.proof.now x.0 c.requires fits x.1 in
     let pair = c.in_ok-pair-in-Ok.ensures.compared x.0.head x.0.part (shows.kind ∙ sym c.kind.ensures) shows.spelled
     (shows.held ∙ c.root_of.ensures) in
-    accepted_told hash s c.top-top.result a c.args.proof.now c.root_of.result c.top-top.ensures c.root_of.ensures
+    accepted_told hash s c.top-top.result a c.args.proof.now c.root_of.result c.top-top.ensures.is c.root_of.ensures
     c.in-Ok.collected (option_map pair_of c.in_ok-pair-in-Ok.pair) c.question_finding_of.result x
     (rw (sym c.kind.ensures) pair.told)
     c.question_finding_of.ensures
@@ -58,7 +58,7 @@ pub returns-in_ok-pair-in-Ok-clause-judged : goal.returns-in_ok-pair-in-Ok-claus
 returns-in_ok-pair-in-Ok-clause-judged g c =
     accepted_for g.N.Hash.Hashes.of (g.N.Nodes.stands c.args.nodes.now) c.top-top.result
     (g.A.AsQuestion.question c.args.q.now)
-    c.args.proof.now c.root_of.result c.top-top.ensures c.root_of.ensures c.in-Ok.collected
+    c.args.proof.now c.root_of.result c.top-top.ensures.is c.root_of.ensures c.in-Ok.collected
     (option_map pair_of c.in_ok-pair-in-Ok.pair) c.question_finding_of.result c.in-Ok.ensures.exact
     c.question_finding_of.ensures
 
@@ -83,7 +83,7 @@ returns-in_err-pair-in-Ok-clause-fetched g c =
     let x = c.in-Ok.ensures.exact in
     let shows = shows_from hash c.root_of.result a c.args.proof.now x.0 c.requires fits x.1 in
     few_opened hash (g.N.Nodes.stands c.args.nodes.now) c.top-top.result a c.args.proof.now c.root_of.result
-    c.top-top.ensures c.root_of.ensures x.0 (g.N.Nodes.fetches c.args.nodes.now)
+    c.top-top.ensures.is c.root_of.ensures x.0 (g.N.Nodes.fetches c.args.nodes.now)
     (g.N.Nodes.fetches c.compare_map.new.nodes) x.1
     (c.in_err-pair-in-Ok.ensures.fetched x.0.head x.0.part (shows.kind ∙ sym c.kind.ensures) shows.spelled)
 
@@ -95,7 +95,7 @@ returns-in_ok-pair-in-Ok-clause-fetched g c =
     let x = c.in-Ok.ensures.exact in
     let shows = shows_from hash c.root_of.result a c.args.proof.now x.0 c.requires fits x.1 in
     few_opened hash (g.N.Nodes.stands c.args.nodes.now) c.top-top.result a c.args.proof.now c.root_of.result
-    c.top-top.ensures c.root_of.ensures x.0 (g.N.Nodes.fetches c.args.nodes.now)
+    c.top-top.ensures.is c.root_of.ensures x.0 (g.N.Nodes.fetches c.args.nodes.now)
     (g.N.Nodes.fetches c.compare_map.new.nodes) x.1
     (c.in_ok-pair-in-Ok.ensures.fetched x.0.head x.0.part (shows.kind ∙ sym c.kind.ensures) shows.spelled)
 
@@ -103,7 +103,7 @@ pub returns-in-Err-clause-fetches : goal.returns-in-Err-clause-fetches
 returns-in-Err-clause-fetches g c =
     none_for g.N.Hash.Hashes.of (g.N.Nodes.stands c.args.nodes.now) c.top-top.result
     (g.A.AsQuestion.question c.args.q.now)
-    c.args.proof.now c.root_of.result c.top-top.ensures c.root_of.ensures (g.N.Nodes.fetches c.args.nodes.now)
+    c.args.proof.now c.root_of.result c.top-top.ensures.is c.root_of.ensures (g.N.Nodes.fetches c.args.nodes.now)
 
 pub returns-in_err-pair-in-Ok-clause-fetches : goal.returns-in_err-pair-in-Ok-clause-fetches
 returns-in_err-pair-in-Ok-clause-fetches g c =
@@ -113,7 +113,7 @@ returns-in_err-pair-in-Ok-clause-fetches g c =
     let x = c.in-Ok.ensures.exact in
     let shows = shows_from hash c.root_of.result a c.args.proof.now x.0 c.requires fits x.1 in
     few_for hash (g.N.Nodes.stands c.args.nodes.now) c.top-top.result a c.args.proof.now c.root_of.result
-    c.top-top.ensures c.root_of.ensures x.0 (g.N.Nodes.fetches c.args.nodes.now)
+    c.top-top.ensures.is c.root_of.ensures x.0 (g.N.Nodes.fetches c.args.nodes.now)
     (g.N.Nodes.fetches c.compare_map.new.nodes) x.1
     (c.in_err-pair-in-Ok.ensures.fetched x.0.head x.0.part (shows.kind ∙ sym c.kind.ensures) shows.spelled)
 
@@ -125,6 +125,6 @@ returns-in_ok-pair-in-Ok-clause-fetches g c =
     let x = c.in-Ok.ensures.exact in
     let shows = shows_from hash c.root_of.result a c.args.proof.now x.0 c.requires fits x.1 in
     few_for hash (g.N.Nodes.stands c.args.nodes.now) c.top-top.result a c.args.proof.now c.root_of.result
-    c.top-top.ensures c.root_of.ensures x.0 (g.N.Nodes.fetches c.args.nodes.now)
+    c.top-top.ensures.is c.root_of.ensures x.0 (g.N.Nodes.fetches c.args.nodes.now)
     (g.N.Nodes.fetches c.compare_map.new.nodes) x.1
     (c.in_ok-pair-in-Ok.ensures.fetched x.0.head x.0.part (shows.kind ∙ sym c.kind.ensures) shows.spelled)

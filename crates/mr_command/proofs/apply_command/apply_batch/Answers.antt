@@ -13,7 +13,7 @@ change-requires-clause-may g c κs within =
     let hash = g.H.Hashes.of in
     let paged = c.args.paged in
     may_apply hash c.args.map.now c.args.new.now c.args.new.now paged c.args.batch.now
-    (well_in hash paged c.is_map.ensures) c.args.dir c.requires.lists c.top.result.batch c.top.ensures.batch
+    (well_in hash paged c.is_map.ensures) c.args.dir c.requires.lists c.top.result.batch c.top.ensures.is.batch
     (λ rs numbers. (c.in-Ok.ensures.admissible rs numbers).0 refl)
 
 pub change-requires-clause-layers : goal.change-requires-clause-layers
@@ -32,7 +32,7 @@ returns-in-Err g c = λ name.
     c.bad_batch.result)
     (sym (ap g.S.Shelf.state c.close.ensures))
     (unadmitted hash c.args.map.now c.args.new.now name paged c.args.batch.now
-    (well_in hash paged c.is_map.ensures) c.args.dir c.requires.lists c.top.result.batch c.top.ensures.batch
+    (well_in hash paged c.is_map.ensures) c.args.dir c.requires.lists c.top.result.batch c.top.ensures.is.batch
     text.0 c.in-Err.fault c.bad_batch.result text.1 text.2 c.in-Err.ensures.some_records
     c.in-Err.ensures.exact c.bad_batch.ensures)
 
@@ -41,6 +41,6 @@ returns-in-Ok g c = λ name.
     let hash = g.H.Hashes.of in
     let paged = c.args.paged in
     admitted hash c.args.map.now c.args.new.now name paged c.args.batch.now
-    (well_in hash paged c.is_map.ensures) c.args.dir c.requires.lists c.top.result.batch c.top.ensures.batch
+    (well_in hash paged c.is_map.ensures) c.args.dir c.requires.lists c.top.result.batch c.top.ensures.is.batch
     (λ rs numbers. (c.in-Ok.ensures.admissible rs numbers).0 refl) (g.S.Shelf.state c.change.result.1)
     c.change.result.0 (c.change.ensures name)

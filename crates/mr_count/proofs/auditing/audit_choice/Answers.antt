@@ -25,7 +25,7 @@ returns-clause-given g c =
     let s = g.N.Nodes.stands c.args.nodes.now in
     let way = g.C.Choice.ways c.args.choice.now in
     let law = c.choice_is_lawful.ensures in
-    let low = subst (λ (b : ℕ). b < 2 ^ 64) c.top-top.ensures.batch c.is_word.ensures in
+    let low = subst (λ (b : ℕ). b < 2 ^ 64) c.top-top.ensures.is.batch c.is_word.ensures in
     given_from (by s.version g.N.Hash.Hashes.of) s.batch c.args.kind way c.args.proof.now c.in_ok-finding.finding
     c.finding_of.result c.finding_of.ensures s.tree (law.narrow None)
     (c.accepted_matches_honest.ensures s.version (chosen c.args.kind way) law) low
@@ -58,7 +58,7 @@ pub returns-clause-fetched_honest : goal.returns-clause-fetched_honest
 returns-clause-fetched_honest g c =
     let s = g.N.Nodes.stands c.args.nodes.now in
     let way = g.C.Choice.ways c.args.choice.now in
-    let low = subst (λ (b : ℕ). b < 2 ^ 64) c.top-top.ensures.batch c.is_word.ensures in
+    let low = subst (λ (b : ℕ). b < 2 ^ 64) c.top-top.ensures.is.batch c.is_word.ensures in
     honest_few g.N.Hash.Hashes.of s c.args.kind way c.args.proof.now _ _
     (c.honest_proof_is_accepted.ensures.accepted s.version (chosen c.args.kind way) c.choice_is_lawful.ensures) low
     s.tree (g.met.N.Nodes.well_formed c.args.nodes.now) (g.met.N.Nodes.layered c.args.nodes.now)
@@ -68,7 +68,7 @@ pub returns-in_err-finding-clause-fetched_honest : goal.returns-in_err-finding-c
 returns-in_err-finding-clause-fetched_honest g c =
     let s = g.N.Nodes.stands c.args.nodes.now in
     let way = g.C.Choice.ways c.args.choice.now in
-    let low = subst (λ (b : ℕ). b < 2 ^ 64) c.top-top.ensures.batch c.is_word.ensures in
+    let low = subst (λ (b : ℕ). b < 2 ^ 64) c.top-top.ensures.is.batch c.is_word.ensures in
     honest_few g.N.Hash.Hashes.of s c.args.kind way c.args.proof.now _ _
     (c.honest_proof_is_accepted.ensures.accepted s.version (chosen c.args.kind way) c.choice_is_lawful.ensures) low
     s.tree (g.met.N.Nodes.well_formed c.args.nodes.now) (g.met.N.Nodes.layered c.args.nodes.now)

@@ -15,7 +15,7 @@ pub returns-in-Err-clause-made : goal.returns-in-Err-clause-made
 returns-in-Err-clause-made g c t told =
     let paged = c.args.paged in
     let held : c.top.result.batch ≡ paged.head.batch =
-    c.top.ensures.batch ∙ batch_in (page_form paged.file) paged.head (bytes_of paged.file) in
+    c.top.ensures.is.batch ∙ batch_in (page_form paged.file) paged.head (bytes_of paged.file) in
     let lists = subst (λ (o : Option Tree). IfSome o (λ u. IsDirectoryOf c.args.dir (records u))) told
     c.requires.lists in
     let well = well_in g.H.Hashes.of paged c.is_map.ensures t told in
@@ -27,7 +27,7 @@ returns-in-Ok-clause-made g c t told =
     let hash = g.H.Hashes.of in
     let paged = c.args.paged in
     let held : c.top.result.batch ≡ paged.head.batch =
-    c.top.ensures.batch ∙ batch_in (page_form paged.file) paged.head (bytes_of paged.file) in
+    c.top.ensures.is.batch ∙ batch_in (page_form paged.file) paged.head (bytes_of paged.file) in
     let lists = subst (λ (o : Option Tree). IfSome o (λ u. IsDirectoryOf c.args.dir (records u))) told
     c.requires.lists in
     let well = well_in hash paged c.is_map.ensures t told in

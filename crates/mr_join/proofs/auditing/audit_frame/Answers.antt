@@ -12,7 +12,7 @@ returns-in-Err-clause-told g c =
     declined_told g.A.Hash.Hashes.of g.B.Hash.Hashes.of (g.A.Nodes.stands c.args.first.now)
     (g.B.Nodes.stands c.args.second.now) c.top-one.result c.top-other.result c.root_of-one.result
     c.root_of-other.result
-    c.top-one.ensures c.top-other.ensures c.root_of-one.ensures c.root_of-other.ensures c.args.at
+    c.top-one.ensures.is c.top-other.ensures.is c.root_of-one.ensures c.root_of-other.ensures c.args.at
     (frame_value c.args.frame.now) c.declined.result c.in-Err.error c.declined.ensures c.in-Err.ensures
 
 pub returns-in-Ok-clause-told : goal.returns-in-Ok-clause-told
@@ -20,7 +20,7 @@ returns-in-Ok-clause-told g c =
     joined_told g.A.Hash.Hashes.of g.B.Hash.Hashes.of (g.A.Nodes.stands c.args.first.now)
     (g.B.Nodes.stands c.args.second.now) c.top-one.result c.top-other.result c.root_of-one.result
     c.root_of-other.result
-    c.top-one.ensures c.top-other.ensures c.root_of-one.ensures c.root_of-other.ensures c.args.at
+    c.top-one.ensures.is c.top-other.ensures.is c.root_of-one.ensures c.root_of-other.ensures c.args.at
     (frame_value c.args.frame.now) c.audit_parts.result c.in-Ok.joined c.in-Ok.ensures c.audit_parts.ensures.told
 
 pub returns-in-Err-clause-judged : goal.returns-in-Err-clause-judged
@@ -28,7 +28,7 @@ returns-in-Err-clause-judged g c =
     declined_judged g.A.Hash.Hashes.of g.B.Hash.Hashes.of (g.A.Nodes.stands c.args.first.now)
     (g.B.Nodes.stands c.args.second.now) c.top-one.result c.top-other.result c.root_of-one.result
     c.root_of-other.result
-    c.top-one.ensures c.top-other.ensures c.root_of-one.ensures c.root_of-other.ensures c.args.at
+    c.top-one.ensures.is c.top-other.ensures.is c.root_of-one.ensures c.root_of-other.ensures c.args.at
     (frame_value c.args.frame.now) c.declined.result c.in-Err.error c.declined.ensures c.in-Err.ensures
 
 pub returns-in-Ok-clause-judged : goal.returns-in-Ok-clause-judged
@@ -36,7 +36,7 @@ returns-in-Ok-clause-judged g c =
     parts_judged g.A.Hash.Hashes.of g.B.Hash.Hashes.of (g.A.Nodes.stands c.args.first.now)
     (g.B.Nodes.stands c.args.second.now) c.top-one.result c.top-other.result c.root_of-one.result
     c.root_of-other.result
-    c.top-one.ensures c.top-other.ensures c.root_of-one.ensures c.root_of-other.ensures c.args.at
+    c.top-one.ensures.is c.top-other.ensures.is c.root_of-one.ensures c.root_of-other.ensures c.args.at
     (frame_value c.args.frame.now) c.audit_parts.result c.in-Ok.joined c.in-Ok.ensures
     c.audit_parts.ensures.judged
 
@@ -48,7 +48,7 @@ returns-in-Err-clause-fetches g c =
     (watched (g.B.Nodes.stands c.args.second.now) (g.B.Nodes.fetches c.args.second.now)
     (g.B.Nodes.fetches c.args.second.now)) c.top-one.result c.top-other.result c.root_of-one.result
     c.root_of-other.result
-    c.top-one.ensures c.top-other.ensures c.root_of-one.ensures c.root_of-other.ensures c.args.at
+    c.top-one.ensures.is c.top-other.ensures.is c.root_of-one.ensures c.root_of-other.ensures c.args.at
     (frame_value c.args.frame.now) (omega arith) (omega arith)
 
 pub returns-in-Ok-clause-fetches : goal.returns-in-Ok-clause-fetches
@@ -59,7 +59,7 @@ returns-in-Ok-clause-fetches g c =
     (watched (g.B.Nodes.stands c.args.second.now) (g.B.Nodes.fetches c.args.second.now)
     (g.B.Nodes.fetches c.audit_parts.new.second)) c.top-one.result c.top-other.result c.root_of-one.result
     c.root_of-other.result
-    c.top-one.ensures c.top-other.ensures c.root_of-one.ensures c.root_of-other.ensures c.args.at
+    c.top-one.ensures.is c.top-other.ensures.is c.root_of-one.ensures c.root_of-other.ensures c.args.at
     (frame_value c.args.frame.now) c.in-Ok.joined (IsBytes-from c.args.frame.now.first.now c.are_bytes.ensures)
     (IsBytes-from c.args.frame.now.second.now c.are_bytes-2.ensures) c.in-Ok.ensures
     c.audit_parts.ensures.fetches_first

@@ -18,7 +18,7 @@ pub returns-in-Err-clause-honest : goal.returns-in-Err-clause-honest
 returns-in-Err-clause-honest g c =
     honest_told g.A.Hash.Hashes.of g.B.Hash.Hashes.of (g.A.Nodes.stands c.args.first.now)
     (g.B.Nodes.stands c.args.second.now) c.top.result c.top-2.result c.args.proof.now
-    (Ok (findings.Refused c.in-Err.fault)) c.top.ensures c.top-2.ensures c.is_word.ensures c.is_word-2.ensures
+    (Ok (findings.Refused c.in-Err.fault)) c.top.ensures.is c.top-2.ensures.is c.is_word.ensures c.is_word-2.ensures
     c.accepted_join_is_honest.ensures c.honest_join_is_accepted.ensures
     (unread_told g.A.Hash.Hashes.of g.B.Hash.Hashes.of (g.A.Nodes.stands c.args.first.now)
     (g.B.Nodes.stands c.args.second.now) c.args.proof.now (Ok (findings.Refused c.in-Err.fault)) c.in-Err.fault
@@ -34,7 +34,7 @@ pub returns-in-Ok-clause-honest : goal.returns-in-Ok-clause-honest
 returns-in-Ok-clause-honest g c =
     honest_told g.A.Hash.Hashes.of g.B.Hash.Hashes.of (g.A.Nodes.stands c.args.first.now)
     (g.B.Nodes.stands c.args.second.now) c.top.result c.top-2.result c.args.proof.now c.audit_frame.result
-    c.top.ensures c.top-2.ensures c.is_word.ensures c.is_word-2.ensures c.accepted_join_is_honest.ensures
+    c.top.ensures.is c.top-2.ensures.is c.is_word.ensures c.is_word-2.ensures c.accepted_join_is_honest.ensures
     c.honest_join_is_accepted.ensures
     (read_told g.A.Hash.Hashes.of g.B.Hash.Hashes.of (g.A.Nodes.stands c.args.first.now)
     (g.B.Nodes.stands c.args.second.now) c.args.proof.now c.audit_frame.result (frame_value c.in-Ok.frame)
@@ -43,16 +43,16 @@ returns-in-Ok-clause-honest g c =
 pub returns-in-Err-clause-judged : goal.returns-in-Err-clause-judged
 returns-in-Err-clause-judged g c =
     unread_judged g.A.Hash.Hashes.of g.B.Hash.Hashes.of (g.A.Nodes.stands c.args.first.now)
-    (g.B.Nodes.stands c.args.second.now) c.top.result c.top-2.result c.args.proof.now c.in-Err.fault c.top.ensures
-    c.top-2.ensures c.in-Err.ensures
+    (g.B.Nodes.stands c.args.second.now) c.top.result c.top-2.result c.args.proof.now c.in-Err.fault c.top.ensures.is
+    c.top-2.ensures.is c.in-Err.ensures
 
 pub returns-in-Err-clause-rules : goal.returns-in-Err-clause-rules
 returns-in-Err-clause-rules g c =
     finding_breaks g.A.Hash.Hashes.of g.B.Hash.Hashes.of (g.A.Nodes.stands c.args.first.now)
     (g.B.Nodes.stands c.args.second.now) c.args.proof.now (Ok (findings.Refused c.in-Err.fault)) (unread_judged
     g.A.Hash.Hashes.of g.B.Hash.Hashes.of (g.A.Nodes.stands c.args.first.now)
-    (g.B.Nodes.stands c.args.second.now) c.top.result c.top-2.result c.args.proof.now c.in-Err.fault c.top.ensures
-    c.top-2.ensures c.in-Err.ensures)
+    (g.B.Nodes.stands c.args.second.now) c.top.result c.top-2.result c.args.proof.now c.in-Err.fault c.top.ensures.is
+    c.top-2.ensures.is c.in-Err.ensures)
 
 pub returns-in-Err-clause-fetches : goal.returns-in-Err-clause-fetches
 returns-in-Err-clause-fetches g c =
@@ -61,7 +61,7 @@ returns-in-Err-clause-fetches g c =
     (g.A.Nodes.fetches c.args.first.now)) (watched (g.B.Nodes.stands c.args.second.now) (g.B.Nodes.fetches
     c.args.second.now)
     (g.B.Nodes.fetches c.args.second.now)) c.args.proof.now c.top.result c.top-2.result
-    c.top.ensures c.top-2.ensures (omega arith) (omega arith)
+    c.top.ensures.is c.top-2.ensures.is (omega arith) (omega arith)
 
 pub returns-in-Err-clause-fetched_first : goal.returns-in-Err-clause-fetched_first
 returns-in-Err-clause-fetched_first g c =
@@ -82,7 +82,7 @@ returns-in-Err-clause-fetched_honest_first g c =
     (watched (g.B.Nodes.stands c.args.second.now) (g.B.Nodes.fetches c.args.second.now)
     (g.B.Nodes.fetches c.args.second.now)) c.args.proof.now
     c.top.result c.top-2.result (record { accepts = one.accepted; honest = one.honest; quiet = one.quiet })
-    (record { accepts = two.accepted; honest = two.honest; quiet = two.quiet }) c.top.ensures c.top-2.ensures
+    (record { accepts = two.accepted; honest = two.honest; quiet = two.quiet }) c.top.ensures.is c.top-2.ensures.is
     c.is_word.ensures c.is_word-2.ensures (returns-in-Err-clause-fetches g c)
     (g.met.A.Nodes.well_formed c.args.first.now) (g.met.B.Nodes.well_formed c.args.second.now)
 
@@ -105,7 +105,7 @@ returns-in-Err-clause-fetched_honest_second g c =
     (watched (g.B.Nodes.stands c.args.second.now) (g.B.Nodes.fetches c.args.second.now)
     (g.B.Nodes.fetches c.args.second.now)) c.args.proof.now
     c.top.result c.top-2.result (record { accepts = one.accepted; honest = one.honest; quiet = one.quiet })
-    (record { accepts = two.accepted; honest = two.honest; quiet = two.quiet }) c.top.ensures c.top-2.ensures
+    (record { accepts = two.accepted; honest = two.honest; quiet = two.quiet }) c.top.ensures.is c.top-2.ensures.is
     c.is_word.ensures c.is_word-2.ensures (returns-in-Err-clause-fetches g c)
     (g.met.A.Nodes.well_formed c.args.first.now) (g.met.B.Nodes.well_formed c.args.second.now)
 
@@ -151,7 +151,7 @@ returns-in-Ok-clause-fetched_honest_first g c =
     (watched (g.B.Nodes.stands c.args.second.now) (g.B.Nodes.fetches c.args.second.now)
     (g.B.Nodes.fetches c.audit_frame.new.second)) c.args.proof.now
     c.top.result c.top-2.result (record { accepts = one.accepted; honest = one.honest; quiet = one.quiet })
-    (record { accepts = two.accepted; honest = two.honest; quiet = two.quiet }) c.top.ensures c.top-2.ensures
+    (record { accepts = two.accepted; honest = two.honest; quiet = two.quiet }) c.top.ensures.is c.top-2.ensures.is
     c.is_word.ensures c.is_word-2.ensures (returns-in-Ok-clause-fetches g c)
     (g.met.A.Nodes.well_formed c.args.first.now) (g.met.B.Nodes.well_formed c.args.second.now)
 
@@ -174,6 +174,6 @@ returns-in-Ok-clause-fetched_honest_second g c =
     (watched (g.B.Nodes.stands c.args.second.now) (g.B.Nodes.fetches c.args.second.now)
     (g.B.Nodes.fetches c.audit_frame.new.second)) c.args.proof.now
     c.top.result c.top-2.result (record { accepts = one.accepted; honest = one.honest; quiet = one.quiet })
-    (record { accepts = two.accepted; honest = two.honest; quiet = two.quiet }) c.top.ensures c.top-2.ensures
+    (record { accepts = two.accepted; honest = two.honest; quiet = two.quiet }) c.top.ensures.is c.top-2.ensures.is
     c.is_word.ensures c.is_word-2.ensures (returns-in-Ok-clause-fetches g c)
     (g.met.A.Nodes.well_formed c.args.first.now) (g.met.B.Nodes.well_formed c.args.second.now)

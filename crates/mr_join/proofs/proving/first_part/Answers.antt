@@ -13,7 +13,7 @@ returns-clause-given g c =
     let ms = c.in_ok-meets.meets in
     first_given hash (g.N.Nodes.stands c.args.nodes.now) c.top-top.result c.args.rect.now ms
     c.in_ok-part.part.bytes.items c.in_ok-taken.taken
-    (record { accepts = honest.accepted; honest = honest.honest; quiet = honest.quiet }) c.top-top.ensures c.requires
+    (record { accepts = honest.accepted; honest = honest.honest; quiet = honest.quiet }) c.top-top.ensures.is c.requires
     c.is_word.ensures c.in_ok-meets.ensures
     (subst (λ (bytes : List ℕ). verdict_for hash (hash (root_at c.top-top.result)) letter (meets_way ms) bytes
     ≡ Ok c.in_ok-taken.taken) c.deref.ensures.value c.in_ok-taken.ensures)

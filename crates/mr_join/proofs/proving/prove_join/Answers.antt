@@ -20,7 +20,7 @@ returns-in-None-clause-written g c =
     for_all s.tree (λ (t : Tree). IfSome v.tree (λ u. OnOk r (TakesBytes from to (join_proof f h (owned s t)
     (owned v u)))))
     (λ (t : Tree).
-    second_told f h s v c.top-top.result None c.top-top.ensures c.in-None.ensures
+    second_told f h s v c.top-top.result None c.top-top.ensures.is c.in-None.ensures
     (λ (bytes : List ℕ). OnOk r (TakesBytes from to bytes)) t v.tree refl c.write_alone.ensures.written)
 
 pub returns-in-None-clause-front : goal.returns-in-None-clause-front
@@ -35,7 +35,7 @@ returns-in-None-clause-front g c =
     for_all s.tree (λ (t : Tree). IfSome v.tree (λ u. OnErr r (TakesFront from to (join_proof f h (owned s t)
     (owned v u)))))
     (λ (t : Tree).
-    second_told f h s v c.top-top.result None c.top-top.ensures c.in-None.ensures
+    second_told f h s v c.top-top.result None c.top-top.ensures.is c.in-None.ensures
     (λ (bytes : List ℕ). OnErr r (TakesFront from to bytes)) t v.tree refl c.write_alone.ensures.front)
 
 pub returns-in-Some-clause-written : goal.returns-in-Some-clause-written
@@ -51,7 +51,7 @@ returns-in-Some-clause-written g c =
     (λ (t : Tree). IfSome v.tree (λ u. OnOk r (TakesBytes from to (join_proof f h (owned s t) (owned v u)))))
     (λ (t : Tree). told_prop v.tree r from to (λ u. join_proof f h (owned s t) (owned v u)))
     (g.met.A.Nodes.well_formed c.args.first.now)
-    (both_told f h s v c.top-top.result (Some c.in-Some.rect) c.top-top.ensures c.in-Some.ensures
+    (both_told f h s v c.top-top.result (Some c.in-Some.rect) c.top-top.ensures.is c.in-Some.ensures
     (λ (bytes : List ℕ). OnOk r (TakesBytes from to bytes)) s.tree c.write_both.ensures.written)
 
 pub returns-in-Some-clause-front : goal.returns-in-Some-clause-front
@@ -65,7 +65,7 @@ returns-in-Some-clause-front g c =
     let r = c.write_both.result in
     fronts_once s.tree v.tree r from to (λ t u. join_proof f h (owned s t) (owned v u))
     (g.met.A.Nodes.well_formed c.args.first.now)
-    (both_told f h s v c.top-top.result (Some c.in-Some.rect) c.top-top.ensures c.in-Some.ensures
+    (both_told f h s v c.top-top.result (Some c.in-Some.rect) c.top-top.ensures.is c.in-Some.ensures
     (λ (bytes : List ℕ). OnErr r (TakesFront from to bytes)) s.tree c.write_both.ensures.front)
 
 pub returns-in-None-clause-fetched_first : goal.returns-in-None-clause-fetched_first
@@ -84,7 +84,7 @@ returns-in-None-clause-fetched_second g c =
     let to = g.B.Nodes.fetches c.write_alone.new.nodes in
     for_all s.tree (λ (t : Tree). IfSome v.tree (λ u. to ≤ from
     + second_opens f h (owned s t) (owned v u) (trees.rect u)))
-    (λ (t : Tree). rect_known h v c.top-top.result None c.top-top.ensures c.in-None.ensures
+    (λ (t : Tree). rect_known h v c.top-top.result None c.top-top.ensures.is c.in-None.ensures
     (λ u o. to ≤ from + second_opens f h (owned s t) (owned v u) o) c.write_alone.ensures.fetched)
 
 pub returns-in-Some-clause-fetched_first : goal.returns-in-Some-clause-fetched_first
@@ -96,7 +96,7 @@ returns-in-Some-clause-fetched_first g c =
     let to = g.A.Nodes.fetches c.write_both.new.first in
     for_each s.tree (λ t. to ≤ from + first_opens f (owned s t) (Some c.in-Some.rect))
     (λ t. IfSome v.tree (λ u. to ≤ from + first_opens f (owned s t) (trees.rect u)))
-    (λ t few. rect_known g.B.Hash.Hashes.of v c.top-top.result (Some c.in-Some.rect) c.top-top.ensures
+    (λ t few. rect_known g.B.Hash.Hashes.of v c.top-top.result (Some c.in-Some.rect) c.top-top.ensures.is
     c.in-Some.ensures (λ u o. to ≤ from + first_opens f (owned s t) o)
     (for_all v.tree (λ u. to ≤ from + first_opens f (owned s t) (Some c.in-Some.rect)) (λ u. few)))
     c.write_both.ensures.fetched_first
@@ -112,7 +112,7 @@ returns-in-Some-clause-fetched_second g c =
     for_each s.tree (λ t. IfSome v.tree (λ u. to ≤ from
     + second_opens f h (owned s t) (owned v u) (Some c.in-Some.rect)))
     (λ t. IfSome v.tree (λ u. to ≤ from + second_opens f h (owned s t) (owned v u) (trees.rect u)))
-    (λ t few. rect_known h v c.top-top.result (Some c.in-Some.rect) c.top-top.ensures c.in-Some.ensures
+    (λ t few. rect_known h v c.top-top.result (Some c.in-Some.rect) c.top-top.ensures.is c.in-Some.ensures
     (λ u o. to ≤ from + second_opens f h (owned s t) (owned v u) o) few)
     (few_once s.tree v.tree from to
     (λ t u. second_opens f h (owned s t) (owned v u) (Some c.in-Some.rect)) (g.met.A.Nodes.well_formed c.args.first.now)

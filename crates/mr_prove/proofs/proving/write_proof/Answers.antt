@@ -14,7 +14,7 @@ returns-in_err-write_head-clause-front g c =
     (g.A.AsQuestion.question c.args.q.now) s.tree))
     (front_of_head g.N.Hash.Hashes.of s c.top-top.result (g.A.AsQuestion.question c.args.q.now) c.args.radius
     c.head_of-head.result
-    (g.W.Sink.state c.args.out.now) (g.W.Sink.state c.write_head.new.out) c.top-top.ensures c.requires.right
+    (g.W.Sink.state c.args.out.now) (g.W.Sink.state c.write_head.new.out) c.top-top.ensures.is c.requires.right
     c.head_of-head.ensures
     c.write_head.ensures.front)
 
@@ -23,7 +23,7 @@ returns-in-None-clause-whole g c =
     whole_of_empty g.N.Hash.Hashes.of (g.N.Nodes.stands c.args.nodes.now) c.top-top.result
     (g.A.AsQuestion.question c.args.q.now) c.args.radius
     c.head_of-head.result
-    (g.W.Sink.state c.args.out.now) (g.W.Sink.state c.write_head.new.out) c.top-top.ensures c.requires.right
+    (g.W.Sink.state c.args.out.now) (g.W.Sink.state c.write_head.new.out) c.top-top.ensures.is c.requires.right
     c.in-None.is
     c.head_of-head.ensures c.in_ok-write_head.ensures.whole
 
@@ -37,7 +37,7 @@ returns-in-Some-clause-whole g c =
     (IsSome s.tree → TakesBytes (g.W.Sink.state c.write_head.new.out) (g.W.Sink.state c.write_part.new.out) part)
     (IsSome s.tree → TakesBytes (g.W.Sink.state c.args.out.now) (g.W.Sink.state c.write_part.new.out)
     (proof_at (by s.version hash) s.batch q s.tree))
-    (whole_with_root hash s c.top-top.result c.in-Some.root q c.args.radius c.head_of-head.result c.top-top.ensures
+    (whole_with_root hash s c.top-top.result c.in-Some.root q c.args.radius c.head_of-head.result c.top-top.ensures.is
     c.requires.right c.in-Some.is c.head_of-head.ensures (g.W.Sink.state c.args.out.now)
     (g.W.Sink.state c.write_head.new.out) (g.W.Sink.state c.write_part.new.out) c.in_ok-write_head.ensures.whole)
     (rw c.in-Some.root-is at c.write_part.ensures.whole)
@@ -52,7 +52,7 @@ returns-in-Some-clause-front g c =
     (IsSome s.tree → TakesFront (g.W.Sink.state c.write_head.new.out) (g.W.Sink.state c.write_part.new.out) part)
     (IsSome s.tree → TakesFront (g.W.Sink.state c.args.out.now) (g.W.Sink.state c.write_part.new.out)
     (proof_at (by s.version hash) s.batch q s.tree))
-    (front_with_root hash s c.top-top.result c.in-Some.root q c.args.radius c.head_of-head.result c.top-top.ensures
+    (front_with_root hash s c.top-top.result c.in-Some.root q c.args.radius c.head_of-head.result c.top-top.ensures.is
     c.requires.right c.in-Some.is c.head_of-head.ensures (g.W.Sink.state c.args.out.now)
     (g.W.Sink.state c.write_head.new.out) (g.W.Sink.state c.write_part.new.out) c.in_ok-write_head.ensures.whole)
     (rw c.in-Some.root-is at c.write_part.ensures.front)
@@ -60,6 +60,6 @@ returns-in-Some-clause-front g c =
 pub returns-in-Some-clause-fetched : goal.returns-in-Some-clause-fetched
 returns-in-Some-clause-fetched g c =
     fetched_with_root g.N.Hash.Hashes.of (g.N.Nodes.stands c.args.nodes.now) c.top-top.result c.in-Some.root
-    (g.A.AsQuestion.question c.args.q.now) c.args.radius c.head_of-head.result c.top-top.ensures c.requires.right
+    (g.A.AsQuestion.question c.args.q.now) c.args.radius c.head_of-head.result c.top-top.ensures.is c.requires.right
     c.in-Some.is c.head_of-head.ensures (g.N.Nodes.fetches c.args.nodes.now)
     (g.N.Nodes.fetches c.write_part.new.nodes) (rw c.in-Some.root-is at c.write_part.ensures.fetched)

@@ -1,4 +1,4 @@
-use Rattle.std.proofs.Common.{◌≡◌, ◌+◌, ◌<◌, ◌++◌, ◌∷◌, rules, [], map, take, false, arith, refl, sym, ap, subst, ◌∙◌}
+use Rattle.std.proofs.Common.{◌≡◌, ◌+◌, ◌<◌, ◌++◌, ◌∷◌, rules, [], map, take, true, false, arith, refl, sym, ap, subst, ◌∙◌}
 use Rattle.std.proofs.lemmas.List.{take_all, take_more, map-append}
 use Rattle.std.proofs.lemmas.Result.{err_from_is_err_and}
 use Rattle.mr_outside.specs.Faults.{next_count}
@@ -13,6 +13,7 @@ use Rattle.mr_store.proofs.Counted.{one_fetch, some_fetches, fetched_more}
 use Rattle.std.specs.List.{flat_map}
 use Rattle.mr_tree.specs.Tree.{records}
 use Rattle.mr_pages.specs.Faults.{numbers_of}
+use Rattle.mr_pages.specs.private.Judging.{fits_entry}
 use Rattle.mr_store.proofs.Blames.{look_stops, leaf_stops, below_stops}
 use Rattle.mr_store.proofs.walk.+walk.Goals as goal
 
@@ -44,7 +45,8 @@ returns-then-level-eq0-clause-walked g t c =
     leaf_ended c.walk_leaf.result _ _ _
     (λ d made. leaf_walked x hash s c.args.root c.args.child.now c.records.result.now c.args.seen.now
     c.walk_leaf.new.seen (g.N.Nodes.fetches c.args.nodes.now) (g.N.Nodes.fetches c.look.new.nodes) _
-    c.requires.may shows digest (subst IsView is c.in_ok-look.ensures.views).each
+    c.requires.may shows digest c.requires.version (subst IsView is c.in_ok-look.ensures.views)
+    (subst (λ n. fits_entry c.args.version c.args.root c.args.child.now n ≡ true) is c.in_ok-look.ensures.fits)
     suits c.look.ensures.counted made.1 (made.0 x c.args.root))
     c.walk_leaf.ensures.gathers c.walk_leaf.ensures.adds
 
@@ -273,7 +275,10 @@ returns-in_ok-id-clause-walked g t c =
     let digest = subst (λ v. hash (preimage_of v (Inner c.deref-one-items.result.now)) ≡ c.args.child.now.digest)
     c.requires.version shows.digest in
     inner_walked x hash s c.args.root c.args.child.now c.deref-one-items.result.now c.args.seen.now c.loop-one.seen
-    (g.N.Nodes.fetches c.args.nodes.now) (g.N.Nodes.fetches c.loop-one.nodes) _ _ c.requires.may shows digest suits all
+    (g.N.Nodes.fetches c.args.nodes.now) (g.N.Nodes.fetches c.loop-one.nodes) _ _ c.requires.may shows digest
+    (subst IsView is c.in_ok-look.ensures.views)
+    (subst (λ n. fits_entry c.args.version c.args.root c.args.child.now n ≡ true) is c.in_ok-look.ensures.fits)
+    suits all
     (λ fit us made. subst (λ d. g.G.Gather.gathers x c.args.into.now c.inner.new.self d (tree.Inner us))
     (sym c.moved_to.ensures) (c.in_ok-id.ensures.gathers x c.args.into.now c.args.root c.deref-one-items.result.now us
     fit (c.loop-one.invariant.same ∙ ap (map child_entry) whole) made))
@@ -313,5 +318,7 @@ returns-in_err-made-clause-blames g t c =
     c.args.version (g.N.Nodes.stands c.loop-one.nodes) c.args.root
     c.args.child.now c.one-item.result c.deref-one-items.result.now c.loop-one.one-index all.below ns
     (g.N.Nodes.refusal c.walk.new.nodes) c.in_err-made.field-0.0 c.requires.version same shows
-    (subst IsView is c.in_ok-look.ensures.views) c.loop-one-test.true c.one-item.is all.known all.fine
+    (subst IsView is c.in_ok-look.ensures.views)
+    (subst (λ n. fits_entry c.args.version c.args.root c.args.child.now n ≡ true) is c.in_ok-look.ensures.fits)
+    c.loop-one-test.true c.one-item.is all.known all.fine (all.met pages ns saw).0
     (c.in_err-made.ensures.blames pages (ns ++ numbers_of (flat_map records all.below)) (all.met pages ns saw).1))

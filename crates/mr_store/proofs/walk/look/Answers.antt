@@ -31,3 +31,6 @@ returns-then-not-is_fit-clause-blames g c = inl (record {
   unfit = subst (λ v. fits_entry v c.args.root c.args.child.now c.fetch.new.into ≡ false) (sym c.requires.version)
       (sym c.is_fit.ensures ∙ c.if-not-is_fit.true);
 })
+
+pub returns-clause-fits : goal.returns-clause-fits
+returns-clause-fits g c = sym c.is_fit.ensures ∙ c.if-not-is_fit.false
