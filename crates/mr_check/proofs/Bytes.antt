@@ -1,7 +1,7 @@
 -- What was fed are bytes.
 use Rattle.std.proofs.Common.{ℕ, ◌<◌, ◌^◌, List, [], ◌++◌, take}
 use Rattle.std.proofs.lemmas.List.Elements.{All-nil, All-append}
-use Rattle.mr_record.specs.private.Bytes.{AreBytes}
+use Rattle.mr_outside.specs.Bytes.{AreBytes}
 use Rattle.mr_record.proofs.Encodings.{IsBytes, IsBytes-take, AreBytes-from}
 use Rattle.mr_check.specs.declared.fed.Fed.{Fed}
 use Rattle.mr_check.specs.declared.fed.Fed.TheVariants as fed

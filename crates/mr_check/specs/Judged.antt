@@ -1,7 +1,7 @@
 -- What a verifier and a judge stand for. They do not keep the bytes that they were fed, so
 -- contracts go by a relation between them and a byte string, which is known by what they say of it.
 use Rattle.std.specs.Prelude.{◌≡◌, ℕ, List, ◌++◌, filter, vec_capacity, ⊤, Result, Ok, Err}
-use Rattle.mr_record.specs.private.Bytes.{AreBytes}
+use Rattle.mr_outside.specs.Bytes.{AreBytes}
 use Rattle.mr_record.specs.declared.record.Record.{Record}
 use Rattle.mr_query.specs.Word.{IsQuery}
 use Rattle.mr_query.specs.declared.query.Query.{Query}

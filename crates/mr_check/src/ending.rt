@@ -3,7 +3,7 @@
 ghost use Rattle.std.specs.Prelude.{◌≡◌, ◌^◌, ◌<◌, ℕ, List, None};
 ghost use Rattle.mr_query.specs.Word.{IsQuery};
 ghost use Rattle.mr_query.specs.declared.query.Query as queries;
-ghost use Rattle.mr_record.specs.private.Bytes.{AreBytes};
+ghost use Rattle.mr_outside.specs.Bytes.{AreBytes};
 ghost use Rattle.mr_record.specs.declared.version.Version.{Version};
 ghost use Rattle.mr_tree.specs.Digest.{by};
 ghost use Rattle.mr_proof.specs.Tight.{IsLawful};

@@ -1,31 +1,17 @@
--- What is said of cuts: their levels, and that no more records are counted than a word counts.
-use Rattle.std.proofs.Common.{◌≡◌, ℕ, zero, suc, ◌+◌, ◌-◌, ◌*◌, ◌≤◌, ◌<◌, ◌^◌, refl, sym, ap, subst, arith}
+-- What is said of cuts: no more records are counted than a word counts.
+use Rattle.std.proofs.Common.{◌≡◌, ℕ, zero, suc, ◌+◌, ◌-◌, ◌*◌, ◌≤◌, ◌<◌, ◌^◌, ap, subst, arith}
 use Rattle.std.specs.Prelude.{sum}
 use Rattle.std.proofs.lemmas.List.Sums.{sum_by-cons}
 use Rattle.std.proofs.lemmas.Nat.{mul-le}
 use Rattle.mr_record.specs.Version.{told}
 use Rattle.mr_record.specs.declared.version.Version.{Version}
 use Rattle.mr_record.specs.declared.version.Version.TheVariants.{One, Two}
-use Rattle.mr_tree.specs.Digest.{Scheme, level_over}
+use Rattle.mr_tree.specs.Digest.{Scheme}
 use Rattle.mr_tree.specs.Limits.{level_limit}
 use Rattle.mr_proof.specs.Limits.{count_limit, leaf_limit}
 use Rattle.mr_proof.specs.Cut.{Cut, Cuts, Pruned, Leaf, Inner, no_more, first, number_of_cuts, entry, entries}
 use Rattle.mr_proof.specs.Spelling.{FitsCut, FitCuts}
 use Rattle.mr_clash.specs.private.Steps.{counts_of, HaveSum}
-
-mutual
-  pub entry_at_level : (s : Scheme) (v : ℕ) (P : Cut) → FitsCut s.version v P → (entry s v P).level ≡ v
-  entry_at_level s v (Pruned part) fits = refl
-  entry_at_level s v (Leaf rs) fits = sym fits.at_leaf
-  entry_at_level s v (Inner cuts) fits =
-      let below = first_at_level s (v - 1) cuts fits.0.some fits.1 in
-      let above = fits.0.above in
-      omega (arith, below)
-
-  pub first_at_level : (s : Scheme) (w : ℕ) (Ps : Cuts) → 1 ≤ number_of_cuts Ps → FitCuts s.version w Ps
-      → level_over (entries s w Ps) ≡ w + 1
-  first_at_level s w no_more some fits = absurd (omega arith)
-  first_at_level s w (first P Ps) some fits = ap (λ n. n + 1) (entry_at_level s w P fits.0)
 
 -- ---- counts
 

@@ -15,9 +15,10 @@ use Rattle.mr_tree.specs.declared.tree.Tree.TheOpen as node
 use Rattle.mr_proof.specs.Cut.{Cut, Cuts, Pruned, Leaf, Inner, number_of_cuts, entry, entries}
 use Rattle.mr_proof.specs.declared.pruned_entry.PrunedEntry.{PrunedEntry}
 use Rattle.mr_proof.specs.Spelling.{cut_bytes, FitsCut, FitCuts}
+use Rattle.mr_proof.proofs.CutLevels.{first_at_level}
 use Rattle.mr_clash.specs.private.Steps.{string_over, leaf_summary, inner_summary, entry_with, HaveSum, is_pruned, Passed}
 use Rattle.mr_clash.proofs.Taking.{take_front}
-use Rattle.mr_clash.proofs.Levels.{first_at_level, children_have_sum}
+use Rattle.mr_clash.proofs.Levels.{children_have_sum}
 
 -- ---- entries
 

@@ -11,7 +11,7 @@ use Rattle.mr_proof.specs.Tight.{Question}
 use Rattle.mr_proof.specs.Honest.{opened_of}
 use Rattle.mr_proof.specs.Spelling.{Parsed}
 use Rattle.mr_proof.specs.Reading.{checked}
-use Rattle.mr_proof.specs.Clash.{Pair, clash_of, IsCollision}
+use Rattle.mr_proof.specs.Clash.{Pair, clash_of}
 use Rattle.mr_check.specs.declared.error.CheckErr.{CheckErr}
 use Rattle.mr_check.specs.declared.error.CheckErr.TheVariants as errors
 use Rattle.mr_check.specs.declared.outline.Collected.{Collected}
@@ -21,6 +21,7 @@ use Rattle.mr_clash.specs.Causes.{AuditCauses}
 use Rattle.mr_clash.specs.declared.question_finding.QuestionFinding.{QuestionFinding}
 use Rattle.mr_clash.specs.declared.error.AuditErr.{AuditErr}
 use Rattle.mr_clash.specs.QuestionFindings.{IsQuestionFindingBy, IsQuestionFinding, QuestionFindingFor, QuestionFindingCollides, opened_checked, opened_checked_by, FetchesFor, DeclinesCheck, QuestionFindingOf}
+use Rattle.mr_clash.specs.private.Steps.{IsClash, AreByteStrings}
 use Rattle.mr_clash.proofs.Roots.{root_told}
 
 -- ---- by the verdict and the pair
@@ -36,11 +37,13 @@ question_finding_by a r x o found (Some p) question_finding e is same of =
 
 pub question_finding_collides : (hash : List ℕ → List ℕ) (o : Collected) (pair : Option Pair)
     (question_finding : QuestionFinding)
-    → IfSome pair (IsCollision hash) → QuestionFindingOf o pair question_finding
+    → IfSome pair (IsClash hash) → IfSome pair AreByteStrings → QuestionFindingOf o pair question_finding
     → QuestionFindingCollides hash question_finding
-question_finding_collides hash o None question_finding collides of = subst (QuestionFindingCollides hash) (sym of) tt
-question_finding_collides hash o (Some p) question_finding collides of = subst (QuestionFindingCollides hash) (sym of)
-    collides
+question_finding_collides hash o None question_finding clash bytes of =
+    subst (QuestionFindingCollides hash) (sym of) tt
+question_finding_collides hash o (Some p) question_finding clash bytes of =
+    subst (QuestionFindingCollides hash) (sym of)
+    (record { differ = clash.apart; same = clash.same; owned_bytes = bytes.0; shown_bytes = bytes.1 })
 
 -- ---- bytes that are not accepted
 
@@ -72,12 +75,12 @@ module _ (hash : List ℕ → List ℕ) (s : MapModel) (top : Top) (a : Question
 
   pub declined_for : (error : CheckErr) (r : Result QuestionFinding AuditErr)
       → AnswersCollected hash root a bytes (Err error)
-      → DeclinesCheck error r → IfOk r (QuestionFindingFor hash s a bytes)
+      → DeclinesCheck error r → IfOk r (QuestionFindingFor hash s top a bytes)
   declined_for (errors.Fault f) r exact declines =
-      subst (λ (r : Result QuestionFinding AuditErr). IfOk r (QuestionFindingFor hash s a bytes)) (sym declines)
-      (top, is, None, ap (λ x. checked hash x a bytes) (sym e) ∙ exact)
+      subst (λ (r : Result QuestionFinding AuditErr). IfOk r (QuestionFindingFor hash s top a bytes)) (sym declines)
+      (is, None, ap (λ x. checked hash x a bytes) (sym e) ∙ exact)
   declined_for errors.NoMemory r exact declines =
-      subst (λ (r : Result QuestionFinding AuditErr). IfOk r (QuestionFindingFor hash s a bytes)) (sym declines) tt
+      subst (λ (r : Result QuestionFinding AuditErr). IfOk r (QuestionFindingFor hash s top a bytes)) (sym declines) tt
 
   -- ---- bytes that are accepted
 
@@ -99,9 +102,8 @@ module _ (hash : List ℕ → List ℕ) (s : MapModel) (top : Top) (a : Question
 
   pub accepted_for : (o : Collected) (pair : Option Pair) (question_finding : QuestionFinding)
       → AnswersCollected hash root a bytes (Ok o)
-      → QuestionFindingOf o pair question_finding → QuestionFindingFor hash s a bytes question_finding
+      → QuestionFindingOf o pair question_finding → QuestionFindingFor hash s top a bytes question_finding
   accepted_for o pair question_finding g of = (
-    top,
     is,
     pair,
     question_finding_by a (checked hash (hash (root_at top)) a bytes) g.0 o pair pair question_finding
@@ -119,14 +121,14 @@ module _ (hash : List ℕ → List ℕ) (s : MapModel) (top : Top) (a : Question
           let is_verdict = ap opened_checked (checked_is t told ∙ exact) in omega (arith, is_verdict, few)
 
   pub few_for : (x : Parsed) (old new : ℕ) → checked hash root a bytes ≡ Ok x → new ≤ old + opened_of x.part
-      → FetchesFor hash s a bytes old new
+      → FetchesFor hash s top a bytes old new
   few_for x old new exact few =
       let is_verdict : opened_checked (checked hash (hash (root_at top)) a bytes) ≡ opened_of x.part =
       ap opened_checked (ap (λ r. checked hash r a bytes) (sym e) ∙ exact) in
-      (top, is, omega (arith, is_verdict, few))
+      (is, omega (arith, is_verdict, few))
 
-  pub none_for : (n : ℕ) → FetchesFor hash s a bytes n n
-  none_for n = (top, is, omega arith)
+  pub none_for : (n : ℕ) → FetchesFor hash s top a bytes n n
+  none_for n = (is, omega arith)
 
 pub declined_causes : (s : MapModel) (n : ℕ) (error : CheckErr) (r : Result QuestionFinding AuditErr) → DeclinesCheck
     error r

@@ -16,6 +16,7 @@ use Rattle.mr_proof.specs.Cut.{Cut, rect, mask, digest, entry}
 use Rattle.mr_proof.specs.Spelling.{cut_bytes, part_bytes, FitsCut, IsSpelled}
 use Rattle.mr_proof.specs.Accepted.{proof_preimage, root_found}
 use Rattle.mr_proof.specs.Clash.{Pair, differ, or_else, node_clash, part_clash, pair_clash, if_said, clash_of}
+use Rattle.mr_proof.proofs.CutLevels.{entry_at_level}
 use Rattle.mr_proof.proofs.Full.{IsThere}
 use Rattle.mr_proof.proofs.Pairs.{pair_found_of}
 use Rattle.mr_proof.proofs.Preimages.{entry-rect, entry-mask}
@@ -25,7 +26,6 @@ use Rattle.mr_proof.proofs.Worth.{version_said}
 use Rattle.mr_clash.specs.Finding.{root_at}
 use Rattle.mr_clash.specs.private.Steps.{pair_of, PassesRoot, WalksCut, WalkedOne, WalkedRoot, Compared, ComparedMap}
 use Rattle.mr_clash.specs.declared.walked.Walked.{Walked}
-use Rattle.mr_clash.proofs.Levels.{entry_at_level}
 use Rattle.mr_clash.proofs.Walks.{node_collides, same_strings, some_node}
 
 -- ---- the strings of the roots
@@ -46,6 +46,15 @@ root_of_cut hash h P x fits e = λ i. root_preimage h.version h.batch h.count (r
 pub root_of_none : (hash : List ℕ → List ℕ) (h : Head) (e : Entry) → h.count ≡ 0
     → root_preimage h.version h.batch h.count e ≡ proof_preimage hash h None
 root_of_none hash h e none = λ i. root_preimage h.version h.batch (none i) e
+
+-- that of what the map says of itself
+pub is_said : (hash : List ℕ → List ℕ) (s : MapModel) (top said : Top) → top ≡ said → IsTop hash s top
+    → IsTop hash s said
+is_said hash s top said says is = subst (IsTop hash s) says is
+
+pub root_said : (hash : List ℕ → List ℕ) (top said : Top) (root : List ℕ) → top ≡ said → root ≡ hash (root_at top)
+    → root ≡ hash (root_at said)
+root_said hash top said root says is = is ∙ ap (λ (t : Top). hash (root_at t)) says
 
 -- that of the map, where its tree is told
 pub root_told : (hash : List ℕ → List ℕ) (s : MapModel) (top : Top) (t : Tree) → IsTop hash s top → s.tree ≡ Some t

@@ -11,11 +11,12 @@ use Rattle.mr_tree.specs.declared.child.Child.{Child}
 use Rattle.mr_tree.specs.declared.tree.Tree.{Tree}
 use Rattle.mr_proof.specs.Cut.{Cut, Cuts, no_more, first, number_of_cuts, entries, digest}
 use Rattle.mr_proof.specs.Spelling.{cut_bytes, cuts_bytes, FitsCut, FitCuts}
-use Rattle.mr_proof.specs.Clash.{Pair, or_else, node_clash, children_clash, IsCollision}
-use Rattle.mr_clash.specs.private.Steps.{pair_of, held_of, shown_digests, PassedAll, Compared, WalkedOne, WalkedAll}
+use Rattle.mr_proof.specs.Clash.{Pair, or_else, node_clash, children_clash}
+use Rattle.mr_proof.proofs.CutLevels.{length-entries}
+use Rattle.mr_clash.specs.private.Steps.{pair_of, held_of, shown_digests, IsClash, PassedAll, Compared, WalkedOne, WalkedAll}
 use Rattle.mr_clash.specs.declared.walked.Row.{Row}
 use Rattle.mr_clash.specs.declared.walked.Walked.{Walked}
-use Rattle.mr_clash.proofs.Taking.{drop_cuts, drop_all, length-entries}
+use Rattle.mr_clash.proofs.Taking.{drop_cuts, drop_all}
 use Rattle.mr_clash.proofs.Walks.{head_is, tail_is, some_node}
 
 -- the child at this place, and the cut of it
@@ -73,15 +74,15 @@ or_none : (a : Option Pair) → or_else a None ≡ a
 or_none None = refl
 or_none (Some p) = refl
 
-first_collides : (scheme : Scheme) (a b : Option Pair) → IfSome a (IsCollision scheme.of)
-    → IfSome b (IsCollision scheme.of) → IfSome (or_else a b) (IsCollision scheme.of)
+first_collides : (scheme : Scheme) (a b : Option Pair) → IfSome a (IsClash scheme.of)
+    → IfSome b (IsClash scheme.of) → IfSome (or_else a b) (IsClash scheme.of)
 first_collides scheme None b p q = q
 first_collides scheme (Some x) b p q = p
 
 -- the pair of so many of them, where what is said of all is one
 pub record FirstOf (scheme : Scheme) (s : MapModel) (w : ℕ) (cs : List Child) (Ps : Cuts) (i : ℕ)
     (pair : Option Pair) : Type 0 where
-  pub collides : IfSome pair (IsCollision scheme.of)
+  pub collides : IfSome pair (IsClash scheme.of)
   pub told : IsSome s.tree → (ts : List Tree) → map (λ (c : Child). s.node c.id) cs ≡ map Some ts
       → children_clash scheme scheme w ts Ps
       ≡ or_else pair (children_clash scheme scheme w (drop i ts) (drop_cuts i Ps))

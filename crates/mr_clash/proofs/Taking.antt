@@ -21,6 +21,7 @@ use Rattle.mr_proof.specs.declared.head.Kind.TheVariants as kind
 use Rattle.mr_proof.specs.Cut.{Cut, Cuts, no_more, first, number_of_cuts, entry, entries}
 use Rattle.mr_proof.specs.declared.pruned_entry.PrunedEntry.{PrunedEntry}
 use Rattle.mr_proof.specs.Spelling.{shown_bytes, cut_bytes, cuts_bytes, radius_bytes, FitsCut, FitCuts}
+use Rattle.mr_proof.proofs.CutLevels.{length-entries}
 use Rattle.mr_clash.specs.private.Steps.{record_summary, leaf_summary, Passed, PassedAll}
 use Rattle.mr_clash.specs.declared.summary.Summary.{Summary}
 
@@ -199,11 +200,6 @@ next_cut scheme w (first P Ps) zero lt fits = record { cut = P; fits = fits.0; h
 next_cut scheme w (first P Ps) (suc i) lt fits =
     let n = next_cut scheme w Ps i (omega arith) fits.1 in
     record { cut = n.cut; fits = n.fits; here = n.here; more = ap (λ xs. entry scheme w P ∷ xs) n.more }
-
-pub length-entries : (scheme : Scheme) (w : ℕ) (Ps : Cuts) → length (entries scheme w Ps) ≡
-    number_of_cuts Ps
-length-entries scheme w no_more = refl
-length-entries scheme w (first P Ps) = let rest = length-entries scheme w Ps in omega arith
 
 -- so many of them were passed over
 pub record PassedSome (scheme : Scheme) (w : ℕ) (Ps : Cuts) (rest : List ℕ) (i : ℕ) (xs : List Entry)

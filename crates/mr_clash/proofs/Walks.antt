@@ -1,7 +1,7 @@
 -- A node of the map beside the cut of it that a proof shows.
 use Rattle.std.proofs.Common.{◌≡◌, ℕ, ◌+◌, ◌-◌, ◌≤◌, true, false, List, [], ◌∷◌, ◌++◌, length, map, refl, sym, ap, subst, ◌∙◌, inl, inr, arith}
 use Rattle.std.specs.Prelude.{Option, Some, None, IfSome, IsSome, IsSomeAnd, option_map, All, Result, Ok, Err, IfOk, bytes_eq}
-use Rattle.std.proofs.lemmas.Bool.{cases_Bool}
+use Rattle.std.proofs.lemmas.Bool.{cases_Bool, false≢true}
 use Rattle.std.proofs.lemmas.List.Elements.{recursion_from_All}
 use Rattle.std.specs.List.{flat_map, AllByRecursion}
 use Rattle.mr_record.specs.declared.record.Record.{Record}
@@ -19,10 +19,11 @@ use Rattle.mr_tree.specs.declared.tree.Tree.TheOpen as node
 use Rattle.mr_proof.specs.declared.pruned_entry.PrunedEntry.{PrunedEntry}
 use Rattle.mr_proof.specs.Cut.{Cut, Cuts, Pruned, Leaf, Inner, no_more, first, entry, entries, digest, preimage}
 use Rattle.mr_proof.specs.Spelling.{cut_bytes, FitsCut, FitCuts}
-use Rattle.mr_proof.specs.Clash.{Pair, differ, or_else, children, children_in as trees_in, node_clash, children_clash, IsCollision, NoneAnd}
-use Rattle.mr_proof.proofs.Values.{same_bytes}
-use Rattle.mr_proof.proofs.SameNodes.{IsNamed, entry_front, named_cut, none_differ, preimage-Leaf, preimage-Inner}
-use Rattle.mr_clash.specs.private.Steps.{pair_of, held_of, shown_digests, is_pruned, string_over, Passed, Compared, ComparedAll, WalkedOne, WalkedAll, WalkedLeaf, Closed}
+use Rattle.mr_proof.specs.Clash.{Pair, differ, or_else, children, children_in as trees_in, node_clash, children_clash}
+use Rattle.mr_proof.proofs.Values.{same_bytes, bytes_same}
+use Rattle.mr_proof.proofs.PreimageBytes.{preimage-Leaf, preimage-Inner}
+use Rattle.mr_proof.proofs.SameNodes.{IsNamed, entry_front, named_cut}
+use Rattle.mr_clash.specs.private.Steps.{pair_of, held_of, shown_digests, is_pruned, string_over, IsClash, Passed, Compared, ComparedAll, WalkedOne, WalkedAll, WalkedLeaf, Closed}
 use Rattle.mr_clash.specs.declared.finding.Clash.{Clash}
 use Rattle.mr_clash.specs.declared.walked.Row.{Row}
 use Rattle.mr_clash.specs.declared.walked.Walked.{Walked}
@@ -140,17 +141,17 @@ digest_shown scheme v (Inner cuts) y e =
     same_some : (a b : List ℕ) → ◌≡◌ {A = Option (List ℕ)} (Some a) (Some b) → a ≡ b
     same_some a b e = cc
 
-pair_collides : (hash : List ℕ → List ℕ) (pair : Option Pair) (K : Type 0) → NoneAnd hash pair K
-    → IfSome pair (IsCollision hash)
-pair_collides hash None K h = tt
-pair_collides hash (Some p) K h = h
+strings_clash : (hash : List ℕ → List ℕ) (x y : List ℕ) → hash x ≡ hash y → IfSome (differ x (Some y)) (IsClash hash)
+strings_clash hash x y e = elim (cases_Bool (bytes_eq x y)) [
+  | inl t ↦ rw t tt
+  | inr f ↦ rw f (record { apart = λ is. false≢true (sym f ∙ bytes_same x y is); same = e })
+]
 
--- two strings with one digest that differ are a collision
+-- two strings with one digest that differ have one hash
 pub node_collides : (hash : List ℕ → List ℕ) (x y digest : List ℕ) (pair : Option Pair) → hash x ≡ digest
-    → digest ≡ hash y → pair ≡ differ x (Some y) → IfSome pair (IsCollision hash)
+    → digest ≡ hash y → pair ≡ differ x (Some y) → IfSome pair (IsClash hash)
 node_collides hash x y digest pair p q e =
-    subst (λ (o : Option Pair). IfSome o (IsCollision hash)) (sym e)
-    (pair_collides hash (differ x (Some y)) (x ≡ y) (none_differ hash x y (p ∙ q)))
+    subst (λ (o : Option Pair). IfSome o (IsClash hash)) (sym e) (strings_clash hash x y (p ∙ q))
 
 -- the pair of a node comes first
 clash_here : (scheme : Scheme) (v : ℕ) (t : Tree) (P : Cut) (y : List ℕ) (p : Pair)

@@ -89,20 +89,19 @@ module _ (q : Query) (bytes : List ℕ) (is : IsQuery q) (fits : IsBytes bytes) 
   told_from s None b w v is_found of = tt
   told_from s (Some t) b w v is_found of = found_from s t b w v is_found of
 
-  pub judged_from : (hash : List ℕ → List ℕ) (s : MapModel) (w : QuestionFinding) (v : Finding)
-      → QuestionFindingFor hash s (question q) bytes w → FindsOf q w v → FindsFor hash s q bytes v
-  judged_from hash s (question_findings.Refused f) v (top, at, pair, is_found) of = (
-    top,
+  pub judged_from : (hash : List ℕ → List ℕ) (s : MapModel) (top : Top) (w : QuestionFinding) (v : Finding)
+      → QuestionFindingFor hash s top (question q) bytes w → FindsOf q w v → FindsFor hash s top q bytes v
+  judged_from hash s top (question_findings.Refused f) v (at, pair, is_found) of = (
     at,
     pair,
     of ∙ sym (ap (λ r. finding_of r pair) (refused hash (hash (root_at top)) q bytes f is_found)),
   )
-  judged_from hash s (question_findings.Sound o) v (top, at, pair, is_found) of =
+  judged_from hash s top (question_findings.Sound o) v (at, pair, is_found) of =
       let exact = answered hash (hash (root_at top)) q bytes o of.0 is fits (is_found.0, is_found.1, is_found.2) of.2 in
-      (top, at, pair, of.1 ∙ sym (λ i. finding_of (exact i) (is_found.3 i)))
-  judged_from hash s (question_findings.Collision owned shown) v (top, at, pair, is_found) of =
+      (at, pair, of.1 ∙ sym (λ i. finding_of (exact i) (is_found.3 i)))
+  judged_from hash s top (question_findings.Collision owned shown) v (at, pair, is_found) of =
       let exact = accepted hash (hash (root_at top)) q bytes is_found.0 is_found.1 in
-      (top, at, pair, of ∙ sym (λ i. finding_of (exact i) (is_found.2 i)))
+      (at, pair, of ∙ sym (λ i. finding_of (exact i) (is_found.2 i)))
 
   -- accepted bytes open what they spell
   opened_alike : (hash : List ℕ → List ℕ) (root : List ℕ) (r : Result Parsed Fault)
@@ -121,12 +120,12 @@ module _ (q : Query) (bytes : List ℕ) (is : IsQuery q) (fits : IsBytes bytes) 
       let root = digests.root s t b in
       let same = opened_alike s.of root (checked s.of root (question q) bytes) refl in omega (arith, few, same)
 
-  pub few_from : (hash : List ℕ → List ℕ) (s : MapModel) (before after : ℕ)
-      → FetchesFor hash s (question q) bytes before after → FetchesFew hash s q bytes before after
-  few_from hash s before after few =
-      let root = hash (root_at few.0) in
+  pub few_from : (hash : List ℕ → List ℕ) (s : MapModel) (top : Top) (before after : ℕ)
+      → FetchesFor hash s top (question q) bytes before after → FetchesFew hash s top q bytes before after
+  few_from hash s top before after few =
+      let root = hash (root_at top) in
       let same = opened_alike hash root (checked hash root (question q) bytes) refl in
-      (few.0, few.1, omega (arith, few.2, same))
+      (few.0, omega (arith, few.1, same))
 
 pub finding_collides : (hash : List ℕ → List ℕ) (q : Query) (w : QuestionFinding) (v : Finding)
     → QuestionFindingCollides hash w

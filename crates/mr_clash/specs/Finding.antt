@@ -42,7 +42,7 @@ FindsHonest s t batch q bytes finding =
     (IsSound finding ↔ IsProof s t batch q bytes)
     × ((answer : List Record) → finding ≡ findings.Sound answer → answer ≡ scan (records t) q)
 
--- two strings that are shown differ and have one hash
+-- two byte strings that are shown differ and have one hash
 abbrev pub ShowsCollision : (List ℕ → List ℕ) → Finding → Type 0
 ShowsCollision hash (findings.Collision owned shown) =
     IsCollision hash (record { owned = owned; shown = shown })
@@ -54,10 +54,11 @@ ShowsCollision hash _ = ⊤
 abbrev pub root_at : Top → List ℕ
 root_at top = root_preimage top.version top.batch top.count (root_entry top.root)
 
--- by the verdict of the bytes against the root digest of what a map that stands so says of itself:
--- what is refused has its fault, what is sound its answer, and a pair is shown where it accepts
-abbrev pub FindsFor : (List ℕ → List ℕ) → MapModel → Query → List ℕ → Finding → Type 0
-FindsFor hash s q bytes finding = (top : Top) × IsTop hash s top × (pair : Option Pair)
+-- by the verdict of the bytes against the root digest of what a map that stands so says of itself,
+-- which is this: what is refused has its fault, what is sound its answer, and a pair is shown where
+-- it accepts
+abbrev pub FindsFor : (List ℕ → List ℕ) → MapModel → Top → Query → List ℕ → Finding → Type 0
+FindsFor hash s top q bytes finding = IsTop hash s top × (pair : Option Pair)
     × (finding ≡ finding_of (verdict hash (hash (root_at top)) q bytes) pair)
 
 -- ---- how many nodes are fetched
@@ -80,7 +81,8 @@ abbrev pub opened_accepted : Scheme → Tree → (batch : ℕ) → Query → Lis
 opened_accepted s t batch q bytes = opened_by (verdict s.of (root s t batch) q bytes) bytes
 
 -- told or not, between these counts: by the verdict against the root digest of what a map that
--- stands so says of itself
-abbrev pub FetchesFew : (List ℕ → List ℕ) → MapModel → Query → List ℕ → (before after : ℕ) → Type 0
-FetchesFew hash s q bytes before after = (top : Top) × IsTop hash s top
+-- stands so says of itself, which is this
+abbrev pub FetchesFew : (List ℕ → List ℕ) → MapModel → Top → Query → List ℕ → (before after : ℕ)
+    → Type 0
+FetchesFew hash s top q bytes before after = IsTop hash s top
     × (after ≤ before + opened_by (verdict hash (hash (root_at top)) q bytes) bytes)

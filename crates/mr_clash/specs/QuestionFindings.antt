@@ -52,14 +52,14 @@ abbrev pub FindsHonestProof : Scheme → Tree → (batch : ℕ) → Question →
 FindsHonestProof s t batch a bytes finding =
     IsSoundProof finding ↔ IsProofFor s a t batch bytes
 
--- told or not: by the verdict against the root digest of what a map that stands so says of itself
-abbrev pub QuestionFindingFor : (List ℕ → List ℕ) → MapModel → Question → List ℕ → QuestionFinding
-    → Type 0
-QuestionFindingFor hash s a bytes question_finding = (top : Top) × IsTop hash s top
-    × (pair : Option Pair)
+-- told or not: by the verdict against the root digest of what a map that stands so says of itself,
+-- which is this
+abbrev pub QuestionFindingFor : (List ℕ → List ℕ) → MapModel → Top → Question → List ℕ
+    → QuestionFinding → Type 0
+QuestionFindingFor hash s top a bytes question_finding = IsTop hash s top × (pair : Option Pair)
     × IsQuestionFindingBy a (checked hash (hash (root_at top)) a bytes) pair question_finding
 
--- two strings that are shown differ and have one hash
+-- two byte strings that are shown differ and have one hash
 abbrev pub QuestionFindingCollides : (List ℕ → List ℕ) → QuestionFinding → Type 0
 QuestionFindingCollides hash (question_findings.Collision owned shown) =
     IsCollision hash (record { owned = owned; shown = shown })
@@ -74,10 +74,10 @@ abbrev pub opened_checked_by : Scheme → Tree → (batch : ℕ) → Question �
 opened_checked_by s t batch a bytes = opened_checked (checked s.of (root s t batch) a bytes)
 
 -- told or not, no more nodes are fetched between these counts than accepted bytes open, by the
--- verdict against the root digest of what a map that stands so says of itself
-abbrev pub FetchesFor : (List ℕ → List ℕ) → MapModel → Question → List ℕ → (before after : ℕ)
+-- verdict against the root digest of what a map that stands so says of itself, which is this
+abbrev pub FetchesFor : (List ℕ → List ℕ) → MapModel → Top → Question → List ℕ → (before after : ℕ)
     → Type 0
-FetchesFor hash s a bytes before after = (top : Top) × IsTop hash s top
+FetchesFor hash s top a bytes before after = IsTop hash s top
     × (after ≤ before + opened_checked (checked hash (hash (root_at top)) a bytes))
 
 -- ---- for private functions

@@ -212,15 +212,14 @@ pub fn audit<N: Nodes>(
     ensures honest { IfSome (N.stands nodes.old).tree (λ t. IfOk result (λ v.
         FindsHonest (by (N.stands nodes.old).version N.Hash.of) t (N.stands nodes.old).batch
         q.now proof.now v)) }
-    // Told or not, what is found goes by the verdict against the root digest of a head that such a
-    // map may tell.
-    ensures judged { IfOk result (λ v.
-        FindsFor N.Hash.of (N.stands nodes.old) q.now proof.now v) }
+    // Told or not, what is found goes by the verdict against the root digest of what the map says
+    // of itself.
+    ensures judged { IfOk result (λ v. FindsFor N.Hash.of (N.stands nodes.old) (N.says nodes.old)
+        q.now proof.now v) }
     ensures collides { IfOk result (λ v. ShowsCollision N.Hash.of v) }
     // No more nodes are fetched than accepted bytes open, and none for bytes that are refused: by
-    // the verdict against the root digest of a head that such a map may tell, and where the tree is
-    // told, of that.
-    ensures fetches { FetchesFew N.Hash.of (N.stands nodes.old) q.now proof.now
+    // that verdict, and where the tree is told, by the verdict against the root digest of that.
+    ensures fetches { FetchesFew N.Hash.of (N.stands nodes.old) (N.says nodes.old) q.now proof.now
         (N.fetches nodes.old) (N.fetches nodes.new) }
     ensures fetched { IfSome (N.stands nodes.old).tree (λ t. N.fetches nodes.new ≤
         N.fetches nodes.old + opened_accepted (by (N.stands nodes.old).version N.Hash.of) t

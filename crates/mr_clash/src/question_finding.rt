@@ -1,12 +1,13 @@
 //! The audit of a proof, whatever it has to show.
 
 ghost use Rattle.std.specs.Prelude.{◌≡◌, ◌+◌, ◌≤◌, IfOk, IfErr, IfSome, option_map};
+ghost use Rattle.mr_outside.specs.Bytes.{AreBytes};
 ghost use Rattle.mr_tree.specs.Digest.{by};
 ghost use Rattle.mr_tree.specs.Nodes.{TellsRefusal};
 ghost use Rattle.mr_proof.specs.Tight.{IsLawful};
 ghost use Rattle.mr_clash.specs.Causes.{AuditCauses, IsHandedOn, of_nodes};
 ghost use Rattle.mr_clash.specs.QuestionFindings.{IsQuestionFinding, QuestionFindingFor, QuestionFindingCollides, QuestionFindingOf, opened_checked_by, FetchesFor, FindsHonestProof, DeclinesCheck};
-ghost use Rattle.mr_clash.specs.private.Steps.{pair_of};
+ghost use Rattle.mr_clash.specs.private.Steps.{pair_of, AreByteStrings};
 
 use crate::AuditErr;
 use crate::auditing::{are_words, compare_map, root_of};
@@ -39,6 +40,20 @@ fn declined(error: CheckErr) -> Result<QuestionFinding, AuditErr>
     }
 }
 
+// What the types tell of their values.
+fn are_bytes(_bytes: &[u8])
+    ensures { AreBytes _bytes.now }
+{}
+
+fn are_strings(pair: &Option<Clash>)
+    ensures { IfSome (option_map pair_of pair.now) AreByteStrings }
+{
+    if let Some(clash) = pair {
+        are_bytes(&clash.owned);
+        are_bytes(&clash.shown);
+    }
+}
+
 // What is found of bytes that are accepted and show this.
 fn question_finding_of(collected: Collected, pair: Option<Clash>) -> QuestionFinding
     ensures { QuestionFindingOf collected (option_map pair_of pair) result }
@@ -65,11 +80,11 @@ fn audited_by<N: Nodes, A: AsQuestion>(
     ensures told { IfSome (N.stands nodes.old).tree (λ t. IfOk result
         (IsQuestionFinding (by (N.stands nodes.old).version N.Hash.of) t (N.stands nodes.old).batch
         (A.question q.now) proof.now)) }
-    ensures judged { IfOk result
-        (QuestionFindingFor N.Hash.of (N.stands nodes.old) (A.question q.now) proof.now) }
+    ensures judged { IfOk result (QuestionFindingFor N.Hash.of (N.stands nodes.old)
+        (N.says nodes.old) (A.question q.now) proof.now) }
     ensures collides { IfOk result (QuestionFindingCollides N.Hash.of) }
-    ensures fetches { FetchesFor N.Hash.of (N.stands nodes.old) (A.question q.now) proof.now
-        (N.fetches nodes.old) (N.fetches nodes.new) }
+    ensures fetches { FetchesFor N.Hash.of (N.stands nodes.old) (N.says nodes.old)
+        (A.question q.now) proof.now (N.fetches nodes.old) (N.fetches nodes.new) }
     ensures fetched { IfSome (N.stands nodes.old).tree (λ t. N.fetches nodes.new ≤
         N.fetches nodes.old + opened_checked_by (by (N.stands nodes.old).version N.Hash.of) t
         (N.stands nodes.old).batch (A.question q.now) proof.now) }
@@ -80,6 +95,7 @@ fn audited_by<N: Nodes, A: AsQuestion>(
         Err(error) => declined(error),
         Ok(collected) => {
             let pair = compare_map(alloc, nodes, &top, q.kind(), proof)?;
+            are_strings(&pair);
             Ok(question_finding_of(collected, pair))
         }
     }
@@ -109,12 +125,14 @@ pub fn audit_question<N: Nodes, A: AsQuestion>(
     ensures honest { IfSome (N.stands nodes.old).tree (λ t. IfOk result
         (FindsHonestProof (by (N.stands nodes.old).version N.Hash.of) t (N.stands nodes.old).batch
         (A.question q.now) proof.now)) }
-    ensures judged { IfOk result
-        (QuestionFindingFor N.Hash.of (N.stands nodes.old) (A.question q.now) proof.now) }
+    // Told or not, what is found goes by the verdict against the root digest of what the map says
+    // of itself, and so does how many nodes are fetched. That is no more than accepted bytes open,
+    // and none for others.
+    ensures judged { IfOk result (QuestionFindingFor N.Hash.of (N.stands nodes.old)
+        (N.says nodes.old) (A.question q.now) proof.now) }
     ensures collides { IfOk result (QuestionFindingCollides N.Hash.of) }
-    // Told or not, no more nodes are fetched than accepted bytes open, and none for others.
-    ensures fetches { FetchesFor N.Hash.of (N.stands nodes.old) (A.question q.now) proof.now
-        (N.fetches nodes.old) (N.fetches nodes.new) }
+    ensures fetches { FetchesFor N.Hash.of (N.stands nodes.old) (N.says nodes.old)
+        (A.question q.now) proof.now (N.fetches nodes.old) (N.fetches nodes.new) }
     ensures fetched { IfSome (N.stands nodes.old).tree (λ t. N.fetches nodes.new ≤
         N.fetches nodes.old + opened_checked_by (by (N.stands nodes.old).version N.Hash.of) t
         (N.stands nodes.old).batch (A.question q.now) proof.now) }

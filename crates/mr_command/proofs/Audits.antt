@@ -8,7 +8,7 @@ use Rattle.mr_outside.specs.Faults.{Rose}
 use Rattle.mr_outside.specs.State.{Shelved}
 use Rattle.mr_outside.specs.Told.{OfFile, OfFiles}
 use Rattle.mr_outside.specs.declared.shelf.Shelf as shelves
-use Rattle.mr_record.specs.private.Bytes.{AreBytes}
+use Rattle.mr_outside.specs.Bytes.{AreBytes}
 use Rattle.mr_tree.specs.Digest.{by}
 use Rattle.mr_tree.specs.Nodes.{MapModel, HasSomeCause}
 use Rattle.mr_tree.specs.declared.hash.Hashes as hashes
@@ -21,6 +21,7 @@ use Rattle.mr_query.specs.declared.key.Key.{Key}
 use Rattle.mr_query.specs.declared.query.Query.{Query}
 use Rattle.mr_proof.specs.declared.way.Way.{Way}
 use Rattle.mr_check.specs.Versions.{proof_version}
+use Rattle.mr_tree.specs.declared.nodes.Top.{Top}
 use Rattle.mr_clash.specs.Finding.{found, ShowsCollision, FindsFor}
 use Rattle.mr_clash.specs.declared.finding.Finding.{Finding}
 use Rattle.mr_count.specs.Finding as choices
@@ -133,13 +134,14 @@ module _ (hash : List ℕ → List ℕ) (map : List ℕ) (q : Query) (proof byte
       (λ t same. says_finding hash q (map_at s t) bytes f same) is)
       (finding_writes (proof_version bytes) f) quiet gives
 
-  pub found_untold : (f : Finding) (result : Result Ending Halt) → AreBytes bytes → FindsFor hash s q bytes f
+  pub found_untold : (top : Top) (f : Finding) (result : Result Ending Halt) → AreBytes bytes
+      → FindsFor hash s top q bytes f
       → ShowsCollision hash f → new.faults ≡ old.faults
       → IsEndingOrHalt (say_finding (proof_version bytes) f) result
       → SaysUntold (MaySayAudit hash map q proof) old new result
-  found_untold f result are judged collides quiet gives =
+  found_untold top f result are judged collides quiet gives =
       says_given (MaySayAudit hash map q proof) (say_finding (proof_version bytes) f) old new
-      (inr (inr (bytes, f, record { stands = s; are = are; judged = judged; collides = collides }, refl)))
+      (inr (inr (bytes, f, record { stands = s; top = top; are = are; judged = judged; collides = collides }, refl)))
       (finding_writes (proof_version bytes) f) files quiet result gives
 
 -- of a count
@@ -157,13 +159,13 @@ module _ (hash : List ℕ → List ℕ) (map : List ℕ) (way : Key → Way) (pr
       (λ t same. says_count_finding hash way (map_at s t) bytes f same) is)
       (count_finding_writes way f) quiet gives
 
-  pub count_found_untold : (f : ChoiceFinding) (result : Result Ending Halt) → AreBytes bytes
-      → choices.FindsForChoice hash s count_letter way bytes f → choices.ShowsCollision hash f
+  pub count_found_untold : (top : Top) (f : ChoiceFinding) (result : Result Ending Halt) → AreBytes bytes
+      → choices.FindsForChoice hash s top count_letter way bytes f → choices.ShowsCollision hash f
       → new.faults ≡ old.faults → IsEndingOrHalt (say_count_finding way f) result
       → SaysUntold (MaySayAuditCount hash map way proof) old new result
-  count_found_untold f result are judged collides quiet gives =
+  count_found_untold top f result are judged collides quiet gives =
       says_given (MaySayAuditCount hash map way proof) (say_count_finding way f) old new
-      (inr (inr (bytes, f, record { stands = s; are = are; judged = judged; collides = collides }, refl)))
+      (inr (inr (bytes, f, record { stands = s; top = top; are = are; judged = judged; collides = collides }, refl)))
       (count_finding_writes way f) files quiet result gives
 
 -- ---- behind the file of a proof

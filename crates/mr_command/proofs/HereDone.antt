@@ -6,7 +6,7 @@ use Rattle.mr_outside.specs.Files.{Files, file}
 use Rattle.mr_outside.specs.State.{Shelved}
 use Rattle.mr_outside.specs.Told.{OfFile, OfFiles}
 use Rattle.mr_record.specs.declared.version.Version.{Version}
-use Rattle.mr_record.specs.private.Bytes.{AreBytes}
+use Rattle.mr_outside.specs.Bytes.{AreBytes}
 use Rattle.mr_pages.specs.File.{version_of}
 use Rattle.mr_pages.specs.Law.{AgreesWithFault}
 use Rattle.mr_pages.specs.PageBytes.{form_by}

@@ -9,7 +9,7 @@ use Rattle.mr_record.specs.declared.text_fault.TextErr.{TextErr}
 use Rattle.mr_record.specs.declared.text_fault.TextErr.TheVariants as texts
 use Rattle.mr_record.specs.declared.text_fault.TextFault.{TextFault}
 use Rattle.mr_record.specs.declared.version.Version.{Version}
-use Rattle.mr_record.specs.private.Bytes.{AreBytes}
+use Rattle.mr_outside.specs.Bytes.{AreBytes}
 use Rattle.mr_pages.specs.File.{version_of}
 use Rattle.mr_pages.specs.Law.{AgreesWithFault}
 use Rattle.mr_pages.specs.PageBytes.{form_by}

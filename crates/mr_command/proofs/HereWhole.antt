@@ -1,20 +1,26 @@
 -- `apply-here` as a whole: what its plan comes to, over files that are told and over others.
-use Rattle.std.proofs.Common.{◌≡◌, ℕ, false, List, [], Some, None, Result, Ok, Err, refl, sym, ap, subst, ◌∙◌, inl, inr}
+use Rattle.std.proofs.Common.{◌≡◌, ℕ, false, true, List, [], Some, None, Result, Ok, Err, refl, sym, ap, subst, ◌∙◌, inl, inr}
+use Rattle.std.specs.Prelude.{All}
+use Rattle.std.specs.List.{list_any}
+use Rattle.std.proofs.lemmas.Bool.{false≢true}
 use Rattle.mr_outside.specs.Faults.{Rose}
 use Rattle.mr_outside.specs.Files.{Files}
 use Rattle.mr_outside.specs.State.{Shelved}
 use Rattle.mr_record.specs.declared.version.Version.{Version}
-use Rattle.mr_record.specs.private.Bytes.{AreBytes}
-use Rattle.mr_tree.specs.Tree.{records}
+use Rattle.mr_record.specs.declared.version.Version.TheVariants.{One, Two}
+use Rattle.mr_outside.specs.Bytes.{AreBytes}
 use Rattle.mr_pages.specs.File.{version_of}
 use Rattle.mr_pages.specs.Law.{AgreesWithFault, map_root}
 use Rattle.mr_pages.specs.PageBytes.{form_by}
 use Rattle.mr_batch.specs.BatchText.{batch_of_text}
 use Rattle.mr_batch.specs.Changes.{Changes}
+use Rattle.mr_batch.specs.declared.change.Change.{Change}
+use Rattle.mr_batch.specs.declared.change.Change.TheVariants.{Add, Remove}
+use Rattle.mr_edit.specs.Replayed.{IsOfVersion}
 use Rattle.mr_journal.specs.Recovered.{restored_in}
 use Rattle.mr_journal.specs.Images.{Image}
 use Rattle.mr_journal.specs.Shelves.{image_on, KeepsBeside}
-use Rattle.mr_here.specs.Layers.{lacks_layers}
+use Rattle.mr_here.specs.Layers.{has_layer, lacks_layers}
 use Rattle.mr_here.specs.OnFiles.{AppliesTo}
 use Rattle.mr_here.specs.Updated.{map_after, AnswersSome}
 use Rattle.mr_here.specs.declared.error.HereErr.{HereErr}
@@ -26,7 +32,7 @@ use Rattle.mr_plan.specs.Outcome as content
 use Rattle.mr_plan.specs.Plan.{Plan, comes, opens}
 use Rattle.mr_plan.specs.Say.{beside, say_batch_here, say_change_here, say_text_here}
 use Rattle.mr_plan.specs.Saying.{journal_of, say_in_place}
-use Rattle.mr_plan.specs.Untold.{IsBadBatchHere, MaySayApplyHere}
+use Rattle.mr_plan.specs.Untold.{IsBadBatchHere, IsRootHere, LacksLayersHere, MaySayApplyHere, adds_layer}
 use Rattle.mr_plan.specs.declared.status.Status.TheVariants.{BadBatch, BadMap, Done, NeedsVersion2}
 use Rattle.mr_command.specs.Ending.{EndsPlan, GivesUpPlan, StopsCommand, printed_of}
 use Rattle.mr_command.specs.private.Here.{SaysApplied, UpdatesFile}
@@ -115,6 +121,23 @@ module _ (hash : List ℕ → List ℕ) (map batch : List ℕ) (files : Files) (
 
 -- ---- over files that are not told
 
+-- a map of version 1, and a batch of a text of version 2 that asks for a layer
+record AsksLayers (v w : Version) (xs : List Change) : Type 0 where
+  one : v ≡ One
+  two : w ≡ Two
+  adds : list_any adds_layer xs ≡ true
+
+same_layer : (c : Change) → has_layer c ≡ adds_layer c
+same_layer (Add r) = refl
+same_layer (Remove n) = refl
+
+asked_layers : (v w : Version) (xs : List Change) → All (IsOfVersion w) xs → lacks_layers v xs ≡ true
+    → AsksLayers v w xs
+asked_layers One One xs all lacks = absurd (false≢true (sym (has_layers One xs all) ∙ lacks))
+asked_layers One Two xs all lacks =
+    record { one = refl; two = refl; adds = sym (λ i. list_any (λ c. same_layer c i) xs) ∙ lacks }
+asked_layers Two w xs all lacks = absurd (false≢true lacks)
+
 module _ (hash : List ℕ → List ℕ) (map batch : List ℕ) (v : Version) (text : List ℕ) (are : AreBytes text)
     (b : Changes) (right : batch_of_text v text ≡ Ok b) where
   abbrev nothing : Image
@@ -128,9 +151,25 @@ module _ (hash : List ℕ → List ℕ) (map batch : List ℕ) (v : Version) (te
       let m = some.2.0 in
       let bytes = some.2.1 in
       let makes = some.2.2 in
-      let root = ap digest_line makes.digest_is in (
+      let root = ap digest_line makes.digest_is in
+      let made : IsRootHere hash map
+      (say_in_place Done (digest_line (map_root hash (map_after m b))) map nothing (Some (content.text bytes))) = (
+        v,
+        b,
+        (text, are, right),
+        (
+          m,
+          (some.0, some.1, makes.one.stands),
+          makes.may,
+          (
+            map_after m b,
+            refl,
+            (bytes, makes.next.stands, (nothing, refl)),
+          ),
+        ),
+      ) in (
         say_in_place Done (digest_line (map_root hash (map_after m b))) map nothing (Some (content.text bytes)),
-        inr (inr (inr (inr (inr (inr (map_after m b, bytes, makes.next.stands, (nothing, refl))))))),
+        inr (inr (inr (inr (inr (inr made))))),
         says.status,
         says.printed ∙ root,
         (Some (content.text bytes), refl),
@@ -142,17 +181,25 @@ module _ (hash : List ℕ → List ℕ) (map batch : List ℕ) (v : Version) (te
     says.printed,
     (None, refl),
   )
-  may_say (Err errors.Layer) some ending says = (
-    say_in_place NeedsVersion2 needs_version_2_line map nothing None,
-    inr (inr (inr (inr (inl (nothing, refl))))),
-    says.status,
-    says.printed,
-    (None, refl),
-  )
+  may_say (Err errors.Layer) some ending says =
+      let m = some.2.0 in
+      let asks = asked_layers m.version v b.list (of_text v text b right) some.2.2 in
+      let lacks : LacksLayersHere hash map (say_in_place NeedsVersion2 needs_version_2_line map nothing None) = (
+        b,
+        (text, are, ap (λ (w : Version). batch_of_text w text) (sym asks.two) ∙ right),
+        asks.adds,
+        (m, (some.0, some.1, some.2.1.stands), asks.one, (nothing, refl)),
+      ) in (
+        say_in_place NeedsVersion2 needs_version_2_line map nothing None,
+        inr (inr (inr (inr (inl lacks)))),
+        says.status,
+        says.printed,
+        (None, refl),
+      )
   may_say (Err (errors.Batch f)) some ending says =
       let m = some.2.0 in
-      let bad : IsBadBatchHere map (say_in_place BadBatch (bad_batch_line f) map nothing None) =
-      (v, text, are, (b, right, (records m.tree, m.batch, (f, some.2.3, (nothing, refl))))) in (
+      let bad : IsBadBatchHere hash map (say_in_place BadBatch (bad_batch_line f) map nothing None) =
+      (v, b, (text, are, right), (m, (some.0, some.1, some.2.1.stands), (f, some.2.3, (nothing, refl)))) in (
         say_in_place BadBatch (bad_batch_line f) map nothing None,
         inr (inr (inr (inr (inr (inl bad))))),
         says.status,

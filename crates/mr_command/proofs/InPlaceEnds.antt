@@ -5,7 +5,7 @@ use Rattle.mr_outside.specs.Faults.{Rose}
 use Rattle.mr_outside.specs.Files.{Files, file}
 use Rattle.mr_outside.specs.State.{Shelved}
 use Rattle.mr_outside.specs.Told.{OfFile, OfFiles, MayMiss}
-use Rattle.mr_record.specs.private.Bytes.{AreBytes}
+use Rattle.mr_outside.specs.Bytes.{AreBytes}
 use Rattle.mr_journal.specs.Format.{is_open}
 use Rattle.mr_journal.specs.Images.{Image}
 use Rattle.mr_journal.specs.Recovered.{RecoversMap}

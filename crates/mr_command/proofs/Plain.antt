@@ -4,7 +4,7 @@ use Rattle.std.specs.Prelude.{All, Option, Some, None, Result, Ok, Err}
 use Rattle.std.specs.List.{AllByRecursion}
 use Rattle.std.proofs.lemmas.List.Elements.{All-nil, All-append, All-filter, All-take, All-drop, recursion_from_All, All-from_recursion}
 use Rattle.mr_record.proofs.Encodings.{IsBytes-from}
-use Rattle.mr_record.specs.private.Bytes.{AreBytes}
+use Rattle.mr_outside.specs.Bytes.{AreBytes}
 use Rattle.mr_record.specs.Record.{HasLayer}
 use Rattle.mr_record.specs.declared.record.Record.{Record}
 use Rattle.mr_record.specs.declared.version.Version.{Version}
@@ -29,6 +29,7 @@ use Rattle.mr_check.proofs.Versions.{accepted_spelled, head_tells}
 use Rattle.mr_bundle.specs.Bundle.{bytes_of}
 use Rattle.mr_bundle.specs.Verdicts.{verdict_of, verdicts}
 use Rattle.mr_bundle.specs.declared.reading.Part.{Part}
+use Rattle.mr_tree.specs.declared.nodes.Top.{Top}
 use Rattle.mr_clash.specs.Finding.{FindsFor, finding_by, finding_of, root_at}
 use Rattle.mr_clash.specs.declared.finding.Finding.{Finding}
 use Rattle.mr_plan.specs.Judged.{HasLines}
@@ -102,12 +103,12 @@ of_verdict hash root q bytes (Err f) pair are is = tt
 of_verdict hash root q bytes (Ok answer) pair are is =
     by_pair (proof_version bytes) answer pair (answer_layers hash root q bytes answer are is)
 
-pub finding_layers : (hash : List ℕ → List ℕ) (s : MapModel) (q : Query) (bytes : List ℕ) (f : Finding)
-    → AreBytes bytes → FindsFor hash s q bytes f → HasAnswerLines (proof_version bytes) f
-finding_layers hash s q bytes f are finds =
-    let root = hash (root_at finds.0) in
-    subst (HasAnswerLines (proof_version bytes)) (sym finds.3)
-    (of_verdict hash root q bytes (verdict hash root q bytes) finds.2 are refl)
+pub finding_layers : (hash : List ℕ → List ℕ) (s : MapModel) (top : Top) (q : Query) (bytes : List ℕ) (f : Finding)
+    → AreBytes bytes → FindsFor hash s top q bytes f → HasAnswerLines (proof_version bytes) f
+finding_layers hash s top q bytes f are finds =
+    let root = hash (root_at top) in
+    subst (HasAnswerLines (proof_version bytes)) (sym finds.2)
+    (of_verdict hash root q bytes (verdict hash root q bytes) finds.1 are refl)
 
 module _ (hash : List ℕ → List ℕ) (root bundle : List ℕ) (are : AreBytes bundle) where
   one_lines : (q : Query) (bytes : List ℕ) (v : Result (List Record) Fault) → AreBytes bytes

@@ -2,7 +2,7 @@
 use Rattle.std.proofs.Common.{◌≡◌, ℕ, List, [], refl, sym, ap, subst, ◌∙◌, inl, inr, rules}
 use Rattle.std.specs.Prelude.{Option, Some, None, option_map}
 use Rattle.mr_outside.specs.Files.{Files, file, with_file}
-use Rattle.mr_record.specs.private.Bytes.{AreBytes}
+use Rattle.mr_outside.specs.Bytes.{AreBytes}
 use Rattle.mr_command.specs.Ending.{AreJudged, EndsPlan, GivesUpPlan}
 use Rattle.mr_plan.specs.Outcome.{Outcome, Written, Nothing, File, InPlace, LeavesWritten, MayLeave}
 use Rattle.mr_plan.specs.Plan.{Plan, comes, reads, opens, seeks, Input, IsInput, IsSought, LacksInput, LeadsToOutcome, IsOutcomeOver}

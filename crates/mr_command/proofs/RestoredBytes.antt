@@ -4,7 +4,7 @@ use Rattle.std.specs.List.{AllByRecursion}
 use Rattle.std.proofs.lemmas.Bool.{cond_both}
 use Rattle.std.proofs.lemmas.List.Elements.{All-append, All-drop, All-tail, All-take}
 use Rattle.mr_outside.specs.Files.{replaced}
-use Rattle.mr_record.specs.private.Bytes.{AreBytes}
+use Rattle.mr_outside.specs.Bytes.{AreBytes}
 use Rattle.mr_journal.specs.Format.{Page, body_of, carried, entries, is_open, number_of, page_size, put_pages, restored}
 use Rattle.mr_journal.specs.Images.{Image}
 

@@ -7,7 +7,7 @@ use Rattle.mr_outside.specs.Faults.{Rose}
 use Rattle.mr_outside.specs.Files.{Files, file}
 use Rattle.mr_outside.specs.Told.{OfFile, MayMiss}
 use Rattle.mr_outside.proofs.Pieces.{HasFront, FrontOfFile, FrontOfFile-none, FrontOfFile-more, FrontOfFile-short, FrontOfFile-whole, OfFile-map}
-use Rattle.mr_record.specs.private.Bytes.{AreBytes}
+use Rattle.mr_outside.specs.Bytes.{AreBytes}
 use Rattle.mr_tree.specs.declared.hash.Hashes.{Ghosts}
 use Rattle.mr_query.specs.declared.query.Query.{Query}
 use Rattle.mr_proof.specs.Feeding.{IsUnsettled}

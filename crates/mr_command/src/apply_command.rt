@@ -4,7 +4,7 @@ ghost use Rattle.std.specs.Prelude.{◌≡◌, ◌≢◌, List, ℕ, All, IfSome
 ghost use Rattle.mr_batch.specs.BatchText.{batch_of_text};
 ghost use Rattle.mr_batch.specs.Directory.{IsDirectoryOf};
 ghost use Rattle.mr_edit.specs.Replayed.{IsOfVersion};
-ghost use Rattle.mr_record.specs.private.Bytes.{AreBytes};
+ghost use Rattle.mr_outside.specs.Bytes.{AreBytes};
 ghost use Rattle.mr_tree.specs.Tree.{records};
 ghost use Rattle.mr_store.specs.CachedFile.{name_of};
 ghost use Rattle.mr_store.specs.Paged.{IsSameMap, shelved, stands_for};

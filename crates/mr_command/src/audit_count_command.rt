@@ -48,8 +48,8 @@ fn count_finding<N: Nodes>(
     ensures told { IfSome (N.stands nodes.old).tree (λ t. IfOk result (λ f.
         f ≡ count_found (by (N.stands nodes.old).version N.Hash.of) t (N.stands nodes.old).batch
         (ways_inside inside.now) bytes.now)) }
-    ensures judged { IfOk result (λ f. FindsForChoice N.Hash.of (N.stands nodes.old) count_letter
-        (ways_inside inside.now) bytes.now f) }
+    ensures judged { IfOk result (λ f. FindsForChoice N.Hash.of (N.stands nodes.old)
+        (N.says nodes.old) count_letter (ways_inside inside.now) bytes.now f) }
     ensures fits { IfOk result (λ f. GivesFitting f) }
     ensures collides { IfOk result (λ f. ShowsCollision N.Hash.of f) }
     ensures fetched { IfSome (N.stands nodes.old).tree (λ t. N.fetches nodes.new ≤
@@ -57,7 +57,7 @@ fn count_finding<N: Nodes>(
         (by (N.stands nodes.old).version N.Hash.of) t (N.stands nodes.old).batch bytes.now) }
     ensures cause { IfErr result (HasSomeCause (N.stands nodes.old) (N.faults nodes.old)
         (N.faults nodes.new)) }
-    ensures fetches { FetchesFor N.Hash.of (N.stands nodes.old)
+    ensures fetches { FetchesFor N.Hash.of (N.stands nodes.old) (N.says nodes.old)
         (count_question (ways_inside inside.now)) bytes.now (N.fetches nodes.old)
         (N.fetches nodes.new) }
     ensures refused { IfErr result (IsLastRefusal (N.refusal nodes.new)) }

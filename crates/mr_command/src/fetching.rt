@@ -29,14 +29,14 @@ pub(crate) fn finding_of_nodes<N: Nodes>(
     ensures told { IfSome (N.stands nodes.old).tree (λ t. IfOk result (λ f.
         f ≡ found (by (N.stands nodes.old).version N.Hash.of) t (N.stands nodes.old).batch
         query.now bytes.now)) }
-    ensures judged { IfOk result (λ f.
-        FindsFor N.Hash.of (N.stands nodes.old) query.now bytes.now f) }
+    ensures judged { IfOk result (λ f. FindsFor N.Hash.of (N.stands nodes.old) (N.says nodes.old)
+        query.now bytes.now f) }
     ensures collides { IfOk result (λ f. ShowsCollision N.Hash.of f) }
     ensures fetched { IfSome (N.stands nodes.old).tree (λ t. N.fetches nodes.new ≤
         N.fetches nodes.old + opened_accepted (by (N.stands nodes.old).version N.Hash.of) t
         (N.stands nodes.old).batch query.now bytes.now) }
-    ensures fetches { FetchesFew N.Hash.of (N.stands nodes.old) query.now bytes.now
-        (N.fetches nodes.old) (N.fetches nodes.new) }
+    ensures fetches { FetchesFew N.Hash.of (N.stands nodes.old) (N.says nodes.old) query.now
+        bytes.now (N.fetches nodes.old) (N.fetches nodes.new) }
     ensures cause { IfErr result (HasSomeCause (N.stands nodes.old) (N.faults nodes.old)
         (N.faults nodes.new)) }
     ensures refused { IfErr result (IsLastRefusal (N.refusal nodes.new)) }

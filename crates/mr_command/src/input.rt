@@ -1,7 +1,7 @@
 //! Inputs, and what is said of one that is missing or is no text of its kind.
 
 ghost use Rattle.std.specs.Prelude.{◌≤◌, length, All, IfOk};
-ghost use Rattle.mr_record.specs.private.Bytes.{AreBytes};
+ghost use Rattle.mr_outside.specs.Bytes.{AreBytes};
 ghost use Rattle.mr_record.specs.RecordText.{IsRecordList, records_of_text};
 ghost use Rattle.mr_query.specs.Script.{queries_of_text, script_limit};
 ghost use Rattle.mr_query.specs.Word.{IsAskable};

@@ -2,7 +2,7 @@
 
 ghost use Rattle.std.specs.Prelude.{◌≡◌, ◌<◌, ◌^◌, ℕ, List, MatchResult, ⊤};
 ghost use Rattle.mr_outside.specs.Told.{OfFile};
-ghost use Rattle.mr_record.specs.private.Bytes.{AreBytes};
+ghost use Rattle.mr_outside.specs.Bytes.{AreBytes};
 ghost use Rattle.mr_store.specs.Opening.{OpensMap};
 ghost use Rattle.mr_command.specs.Ending.{IsEndingOrHalt};
 ghost use Rattle.mr_command.specs.private.Steps.{OpensMapOrEnds, SaysRefusal};

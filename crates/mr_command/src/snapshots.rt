@@ -2,7 +2,7 @@
 
 ghost use Rattle.std.specs.Prelude.{◌≡◌, ℕ, List, MatchResult, ⊤};
 ghost use Rattle.mr_outside.specs.Told.{OfFile};
-ghost use Rattle.mr_record.specs.private.Bytes.{AreBytes};
+ghost use Rattle.mr_outside.specs.Bytes.{AreBytes};
 ghost use Rattle.mr_command.specs.private.Joining.{EndsWithoutMap, TakesMap};
 ghost use Rattle.mr_plan.specs.Joins.{is_first as of_first, lacks_join};
 ghost use Rattle.mr_plan.specs.Say.{opened_in};

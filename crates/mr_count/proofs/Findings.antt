@@ -1,12 +1,25 @@
 -- What the check of a proof for a choice gives, and what its audit finds.
 use Rattle.std.proofs.Common.{◌≡◌, ℕ, ◌+◌, ◌<◌, ◌≤◌, ◌^◌, List, Option, Some, None, Result, Ok, Err, refl, sym, ap, subst, ◌∙◌}
-use Rattle.std.specs.Prelude.{IfSome, IfOk}
+use Rattle.std.proofs.Props.{props}
+use Rattle.std.proofs.lemmas.Bool.Decides.{Decides-and, Decides-eqb, Decides-int_eq, Decides-like}
+use Rattle.std.proofs.lemmas.Map.Made.{is_member-Decides}
+use Rattle.std.proofs.lemmas.Slice.Eq.{bytes_eq-Decides}
+use Rattle.std.specs.Bool.{Decides}
+use Rattle.std.specs.Coded.{Coded, Coded-set as set, code_by, coded×, coded_list, coded_option, coded_ℤ}
+use Rattle.std.specs.List.{Contains}
+use Rattle.std.specs.Ordering.{int_eq}
+use Rattle.std.specs.Prelude.{ℤ, Bool, ◌&&◌, ◌==◌, bytes_eq, IfSome, IfOk}
+use Rattle.mr_geom.specs.Rectangle.{Rectangle}
+use Rattle.mr_record.specs.contracts.record.Record.{the_row as row}
+use Rattle.mr_record.specs.declared.record.Record.{Record}
 use Rattle.std.proofs.Math.Bridge.{le_prop}
 use Rattle.std.proofs.Math.Logic.{∥∥₁_elim}
 use Rattle.mr_record.proofs.Encodings.{IsBytes}
 use Rattle.mr_tree.specs.Digest.{Scheme, by, root}
+use Rattle.mr_tree.specs.Tree.{records}
 use Rattle.mr_tree.specs.Nodes.{MapModel}
 use Rattle.mr_tree.specs.WellFormed.{WellFormed, HasLayers}
+use Rattle.mr_tree.specs.declared.nodes.Top.{Top}
 use Rattle.mr_tree.specs.declared.tree.Tree.{Tree}
 use Rattle.mr_query.specs.declared.key.Key.{Key}
 use Rattle.mr_proof.specs.declared.head.Kind.TheVariants as kind
@@ -128,18 +141,82 @@ not_refused f x e = cc
 not_shown : (owned shown : List ℕ) (x : Taken) → findings.Collision owned shown ≡ sound x → ⊥
 not_shown owned shown x e = cc
 
-gives_chosen : (s : Scheme) (t : Tree) (b letter : ℕ) (way : Key → Way) (bytes : List ℕ) → HasLayers s.version t
-    → b < 2 ^ 64 → AcceptedChoiceIsHonest s letter way bytes → (w : QuestionFinding) (v : ChoiceFinding)
-    → IsQuestionFinding s t b (chosen letter way) bytes w → FindsOf w v → GivesChosen t way v
-gives_chosen s t b letter way bytes layers low honest (question_findings.Refused f) v is of =
-    λ well x e. absurd (not_refused f x (sym of ∙ e))
-gives_chosen s t b letter way bytes layers low honest (question_findings.Sound o) v is of = λ well x e.
+-- whether two records are one
+abbrev same_rect : Rectangle → Rectangle → Bool
+same_rect a b = int_eq a.x0 b.x0 && (int_eq a.y0 b.y0 && (int_eq a.x1 b.x1 && int_eq a.y1 b.y1))
+
+rect_decides : (a b : Rectangle) → Decides (same_rect a b) (a ≡ b)
+rect_decides a b =
+    Decides-like (same_rect a b)
+    (λ p. λ i. record { x0 = p.0 i; y0 = p.1.0 i; x1 = p.1.1.0 i; y1 = p.1.1.1 i })
+    (λ e. (
+      ap (λ (r : Rectangle). r.x0) e,
+      (
+        ap (λ (r : Rectangle). r.y0) e,
+        (
+          ap (λ (r : Rectangle). r.x1) e,
+          ap (λ (r : Rectangle). r.y1) e,
+        ),
+      ),
+    ))
+    (Decides-and _ _ (Decides-int_eq a.x0 b.x0) (Decides-and _ _ (Decides-int_eq a.y0 b.y0)
+    (Decides-and _ _ (Decides-int_eq a.x1 b.x1) (Decides-int_eq a.y1 b.y1))))
+
+abbrev same_record : Record → Record → Bool
+same_record a b = a.number == b.number && (same_rect a.rect b.rect && (a.layer == b.layer
+    && bytes_eq a.payload b.payload))
+
+record_decides : (a b : Record) → Decides (same_record a b) (a ≡ b)
+record_decides a b =
+    Decides-like (same_record a b)
+    (λ p. λ i. record { number = p.0 i; rect = p.1.0 i; layer = p.1.1.0 i; payload = p.1.1.1 i })
+    (λ e. (
+      ap (λ (r : Record). r.number) e,
+      (
+        ap (λ (r : Record). r.rect) e,
+        (
+          ap (λ (r : Record). r.layer) e,
+          ap (λ (r : Record). r.payload) e,
+        ),
+      ),
+    ))
+    (Decides-and _ _ (Decides-eqb a.number b.number) (Decides-and _ _ (rect_decides a.rect b.rect)
+    (Decides-and _ _ (Decides-eqb a.layer b.layer) (bytes_eq-Decides a.payload b.payload))))
+
+-- a set of rectangles
+abbrev rects : Coded Rectangle
+rects = code_by (ℤ × (ℤ × (ℤ × ℤ))) (coded× coded_ℤ (coded× coded_ℤ (coded× coded_ℤ coded_ℤ)))
+    (λ r. (r.x0, (r.y0, (r.x1, r.y1)))) (λ p. record { x0 = p.0; y0 = p.1.0; x1 = p.1.1.0; y1 = p.1.1.1 }) (λ r. refl)
+
+-- so what merely is among some records is found there
+found_among : {K : Type 0} (rs : List Record) (r : Record) → ∥ K ∥₁ → (K → Contains rs r) → Contains rs r
+found_among rs r merely among =
+    let decides = is_member-Decides record_decides rs r in
+    decides.0 (∥∥₁_elim merely (hlevel props) (λ k. decides.1 (among k)))
+
+-- and what is given of a map is known of it where it merely is so
+chosen_merely : {K : Type 0} (t : Tree) (way : Key → Way) (x : Taken) → ∥ K ∥₁ → (K → IsChosen t way x)
+    → IsChosen t way x
+chosen_merely t way x merely is = record {
+  count = ∥∥₁_elim merely (hlevel props) (λ k. (is k).count);
+  rect = ∥∥₁_elim merely (hlevel (props, set (coded_option rects))) (λ k. (is k).rect);
+  among = λ r within. found_among (records t) r merely (λ k. (is k).among r within);
+  opened = ∥∥₁_elim merely (hlevel (props, set (coded_list row.coded))) (λ k. (is k).opened);
+  whole = ∥∥₁_elim merely (hlevel props) (λ k. (is k).whole);
+}
+
+gives_chosen : (s : Scheme) (t : Tree) (b letter : ℕ) (way : Key → Way) (bytes : List ℕ) → ∥ WellFormed t ∥₁
+    → HasLayers s.version t → b < 2 ^ 64 → AcceptedChoiceIsHonest s letter way bytes → (w : QuestionFinding)
+    (v : ChoiceFinding) → IsQuestionFinding s t b (chosen letter way) bytes w → FindsOf w v → GivesChosen t way v
+gives_chosen s t b letter way bytes well layers low honest (question_findings.Refused f) v is of =
+    λ x e. absurd (not_refused f x (sym of ∙ e))
+gives_chosen s t b letter way bytes well layers low honest (question_findings.Sound o) v is of = λ x e.
     let exact = verdict_given s.of (root s t b) letter way bytes o of.0 (is.0, is.1, is.2) of.2 in
-    let own : IsHonestChoice s t b letter way bytes of.0 =
-    none_and s.of (clash_of (kind.Choice letter) s t b bytes) is.3 (honest t b of.0 well layers low exact) in
-    subst (IsChosen t way) (same_sound of.0 x (sym of.1 ∙ e)) own.given
-gives_chosen s t b letter way bytes layers low honest (question_findings.Collision owned shown) v is of =
-    λ well x e. absurd (not_shown owned shown x (sym of ∙ e))
+    let own : WellFormed t → IsHonestChoice s t b letter way bytes of.0 =
+    λ good. none_and s.of (clash_of (kind.Choice letter) s t b bytes) is.3 (honest t b of.0 good layers low exact) in
+    subst (IsChosen t way) (same_sound of.0 x (sym of.1 ∙ e)) (chosen_merely t way of.0 well (λ good. (own good).given))
+gives_chosen s t b letter way bytes well layers low honest (question_findings.Collision owned shown) v is of =
+    λ x e. absurd (not_shown owned shown x (sym of ∙ e))
 
 finds_honest : (s : Scheme) (t : Tree) (b letter : ℕ) (way : Key → Way) (bytes : List ℕ) (w : QuestionFinding)
     (v : ChoiceFinding) → FindsHonestProof s t b (chosen letter way) bytes w → FindsOf w v
@@ -157,21 +234,21 @@ collides hash (question_findings.Refused f) v is of = subst (ShowsCollision hash
 collides hash (question_findings.Sound o) v is of = subst (ShowsCollision hash) (sym of.1) tt
 collides hash (question_findings.Collision owned shown) v is of = subst (ShowsCollision hash) (sym of) is
 
-pub judged : (hash : List ℕ → List ℕ) (s : MapModel) (letter : ℕ) (way : Key → Way) (bytes : List ℕ)
-    (w : QuestionFinding) (v : ChoiceFinding) → QuestionFindingFor hash s (chosen letter way) bytes w → FindsOf w v
-    → FindsForChoice hash s letter way bytes v
-judged hash s letter way bytes w v (top, is, pair, by_pair) of =
-    (top, is, pair, found_by hash _ letter way bytes pair w v by_pair of)
+pub judged : (hash : List ℕ → List ℕ) (s : MapModel) (top : Top) (letter : ℕ) (way : Key → Way) (bytes : List ℕ)
+    (w : QuestionFinding) (v : ChoiceFinding) → QuestionFindingFor hash s top (chosen letter way) bytes w → FindsOf w v
+    → FindsForChoice hash s top letter way bytes v
+judged hash s top letter way bytes w v (is, pair, by_pair) of =
+    (is, pair, found_by hash _ letter way bytes pair w v by_pair of)
 
-pub finding_fits : (hash : List ℕ → List ℕ) (s : MapModel) (letter : ℕ) (way : Key → Way) (bytes : List ℕ)
+pub finding_fits : (hash : List ℕ → List ℕ) (s : MapModel) (top : Top) (letter : ℕ) (way : Key → Way) (bytes : List ℕ)
     (w : QuestionFinding) (v : ChoiceFinding) → IsLawful (chosen letter way) → IsBytes bytes
-    → QuestionFindingFor hash s (chosen letter way) bytes w → FindsOf w v → GivesFitting v
-finding_fits hash s letter way bytes (question_findings.Refused f) v law fits is of =
+    → QuestionFindingFor hash s top (chosen letter way) bytes w → FindsOf w v → GivesFitting v
+finding_fits hash s top letter way bytes (question_findings.Refused f) v law fits is of =
     subst GivesFitting (sym of) tt
-finding_fits hash s letter way bytes (question_findings.Sound o) v law fits (top, is, pair, by_pair) of =
+finding_fits hash s top letter way bytes (question_findings.Sound o) v law fits (is, pair, by_pair) of =
     subst GivesFitting (sym of.1)
     (given_fits hash _ letter way bytes o of.0 law fits (by_pair.0, by_pair.1, by_pair.2) of.2)
-finding_fits hash s letter way bytes (question_findings.Collision owned shown) v law fits is of =
+finding_fits hash s top letter way bytes (question_findings.Collision owned shown) v law fits is of =
     subst GivesFitting (sym of) tt
 
 breaks_by : (o : Result Taken Fault) (pair : Option Pair) → ((f : Fault) → o ≡ Err f → MayBreak f.rule)
@@ -180,10 +257,10 @@ breaks_by (Err f) pair may = may f refl
 breaks_by (Ok x) None may = tt
 breaks_by (Ok x) (Some p) may = tt
 
-pub finding_breaks : (hash : List ℕ → List ℕ) (s : MapModel) (letter : ℕ) (way : Key → Way) (bytes : List ℕ)
-    (w : QuestionFinding) (v : ChoiceFinding) → QuestionFindingFor hash s (chosen letter way) bytes w → FindsOf w v
+pub finding_breaks : (hash : List ℕ → List ℕ) (s : MapModel) (top : Top) (letter : ℕ) (way : Key → Way) (bytes : List ℕ)
+    (w : QuestionFinding) (v : ChoiceFinding) → QuestionFindingFor hash s top (chosen letter way) bytes w → FindsOf w v
     → BreaksNoFlag v
-finding_breaks hash s letter way bytes w v (top, is, pair, by_pair) of =
+finding_breaks hash s top letter way bytes w v (is, pair, by_pair) of =
     let root = hash (root_at top) in
     subst BreaksNoFlag (sym (found_by hash root letter way bytes pair w v by_pair of))
     (breaks_by (verdict_for hash root letter way bytes) pair (verdict_breaks hash root letter way bytes))
@@ -204,11 +281,11 @@ module _ (s : Scheme) (b letter : ℕ) (way : Key → Way) (bytes : List ℕ) (w
   honest_from (Some t) is = finds_honest s t b letter way bytes w v is of
 
   pub given_from : (o : Option Tree) → IsNarrow way → AcceptedMatchesHonest s (chosen letter way) bytes → b < 2 ^ 64
-      → IfSome o (HasLayers s.version) → IfSome o (λ t. IsQuestionFinding s t b (chosen letter way) bytes w)
-      → IfSome o (λ t. GivesChosen t way v)
-  given_from None law matches low layers is = tt
-  given_from (Some t) law matches low layers is =
-      gives_chosen s t b letter way bytes layers low (accepted s letter way bytes law matches) w v is of
+      → IfSome o (λ t. ∥ WellFormed t ∥₁) → IfSome o (HasLayers s.version)
+      → IfSome o (λ t. IsQuestionFinding s t b (chosen letter way) bytes w) → IfSome o (λ t. GivesChosen t way v)
+  given_from None law matches low wells layers is = tt
+  given_from (Some t) law matches low wells layers is =
+      gives_chosen s t b letter way bytes wells layers low (accepted s letter way bytes law matches) w v is of
 
 -- so many nodes at most are fetched for the honest proof
 pub honest_few : (hash : List ℕ → List ℕ) (s : MapModel) (letter : ℕ) (way : Key → Way) (bytes : List ℕ)

@@ -2,7 +2,6 @@
 use Rattle.std.specs.Prelude.{◌≡◌, ◌↔◌, ℕ, List, Option, Some, None, Result, Ok, Err, ⊤}
 use Rattle.mr_tree.specs.Digest.{Scheme, root}
 use Rattle.mr_tree.specs.Nodes.{MapModel, IsTop}
-use Rattle.mr_tree.specs.WellFormed.{WellFormed}
 use Rattle.mr_tree.specs.declared.nodes.Top.{Top}
 use Rattle.mr_tree.specs.declared.tree.Tree.{Tree}
 use Rattle.mr_query.specs.declared.key.Key.{Key}
@@ -46,8 +45,7 @@ FindsHonestChoice s t batch letter way bytes finding =
 
 -- and what it gives is of the map
 abbrev pub GivesChosen : Tree → (Key → Way) → ChoiceFinding → Type 0
-GivesChosen t way finding =
-    WellFormed t → (x : Taken) → finding ≡ findings.Sound x → IsChosen t way x
+GivesChosen t way finding = (x : Taken) → finding ≡ findings.Sound x → IsChosen t way x
 
 -- a fault that is found is of no flag and no squared radius, whatever the map
 abbrev pub BreaksNoFlag : ChoiceFinding → Type 0
@@ -59,15 +57,15 @@ abbrev pub GivesFitting : ChoiceFinding → Type 0
 GivesFitting (findings.Sound x) = FitsTaken x
 GivesFitting _ = ⊤
 
--- two strings that are shown differ and have one hash
+-- two byte strings that are shown differ and have one hash
 abbrev pub ShowsCollision : (List ℕ → List ℕ) → ChoiceFinding → Type 0
 ShowsCollision hash (findings.Collision owned shown) =
     IsCollision hash (record { owned = owned; shown = shown })
 ShowsCollision hash _ = ⊤
 
--- told or not: by the verdict against the root digest of what a map that stands so says of itself
-abbrev pub FindsForChoice : (List ℕ → List ℕ) → MapModel → (letter : ℕ) → (Key → Way) → List ℕ
-    → ChoiceFinding → Type 0
-FindsForChoice hash s letter way bytes finding = (top : Top) × IsTop hash s top
-    × (pair : Option Pair)
+-- told or not: by the verdict against the root digest of what a map that stands so says of itself,
+-- which is this
+abbrev pub FindsForChoice : (List ℕ → List ℕ) → MapModel → Top → (letter : ℕ) → (Key → Way)
+    → List ℕ → ChoiceFinding → Type 0
+FindsForChoice hash s top letter way bytes finding = IsTop hash s top × (pair : Option Pair)
     × (finding ≡ finding_of (verdict_for hash (hash (root_at top)) letter way bytes) pair)

@@ -42,10 +42,10 @@ fn question_finding<N: Nodes, C: Choice>(
         (FindsHonestProof (by (N.stands nodes.old).version N.Hash.of) t (N.stands nodes.old).batch
         (chosen kind (C.ways choice.now)) proof.now)) }
     ensures judged { IfOk result (QuestionFindingFor N.Hash.of (N.stands nodes.old)
-        (chosen kind (C.ways choice.now)) proof.now) }
+        (N.says nodes.old) (chosen kind (C.ways choice.now)) proof.now) }
     ensures collides { IfOk result (QuestionFindingCollides N.Hash.of) }
-    ensures fetches { FetchesFor N.Hash.of (N.stands nodes.old) (chosen kind (C.ways choice.now))
-        proof.now (N.fetches nodes.old) (N.fetches nodes.new) }
+    ensures fetches { FetchesFor N.Hash.of (N.stands nodes.old) (N.says nodes.old)
+        (chosen kind (C.ways choice.now)) proof.now (N.fetches nodes.old) (N.fetches nodes.new) }
     ensures fetched { IfSome (N.stands nodes.old).tree (λ t. N.fetches nodes.new ≤
         N.fetches nodes.old + opened_checked_by (by (N.stands nodes.old).version N.Hash.of) t
         (N.stands nodes.old).batch (chosen kind (C.ways choice.now)) proof.now) }
@@ -86,19 +86,18 @@ pub fn audit_choice<N: Nodes, C: Choice>(
         kind (C.ways choice.now) proof.now)) }
     ensures given { IfSome (N.stands nodes.old).tree (λ t. IfOk result
         (GivesChosen t (C.ways choice.now))) }
-    // Told or not, what is found goes by the verdict against the root digest of a head that such a
-    // map may tell.
-    ensures judged { IfOk result (FindsForChoice N.Hash.of (N.stands nodes.old) kind
-        (C.ways choice.now) proof.now) }
+    // Told or not, what is found goes by the verdict against the root digest of what the map says
+    // of itself.
+    ensures judged { IfOk result (FindsForChoice N.Hash.of (N.stands nodes.old) (N.says nodes.old)
+        kind (C.ways choice.now) proof.now) }
     ensures fits { IfOk result GivesFitting }
     ensures collides { IfOk result (ShowsCollision N.Hash.of) }
     // No rule on a flag or a squared radius is broken, since there is none.
     ensures rules { IfOk result BreaksNoFlag }
     // No more nodes are fetched than accepted bytes open, and none for bytes that are refused: by
-    // the verdict against the root digest of a head that such a map may tell, and where the tree is
-    // told, of that.
-    ensures fetches { FetchesFor N.Hash.of (N.stands nodes.old) (chosen kind (C.ways choice.now))
-        proof.now (N.fetches nodes.old) (N.fetches nodes.new) }
+    // that verdict, and where the tree is told, by the verdict against the root digest of that.
+    ensures fetches { FetchesFor N.Hash.of (N.stands nodes.old) (N.says nodes.old)
+        (chosen kind (C.ways choice.now)) proof.now (N.fetches nodes.old) (N.fetches nodes.new) }
     ensures fetched { IfSome (N.stands nodes.old).tree (λ t. N.fetches nodes.new ≤
         N.fetches nodes.old + opened_checked_by (by (N.stands nodes.old).version N.Hash.of) t
         (N.stands nodes.old).batch (chosen kind (C.ways choice.now)) proof.now) }

@@ -3,7 +3,7 @@ use Rattle.std.proofs.Common.{◌≡◌, ℕ, ◌+◌, ◌*◌, ◌<◌, ◌≤�
 use Rattle.std.specs.Prelude.{⊤, Option, Some, None, option_map, IfSome, IsSome, MatchOption, Err}
 use Rattle.std.specs.Option.{option_and_then}
 use Rattle.std.specs.String.{string_bytes}
-use Rattle.mr_record.specs.private.Bytes.{AreBytes}
+use Rattle.mr_outside.specs.Bytes.{AreBytes}
 use Rattle.mr_outside.specs.Faults.{Rose}
 use Rattle.mr_outside.specs.Files.{Files, file, with_file, with_change, grown, replaced, overwritten}
 use Rattle.mr_outside.specs.State.{Shelved}

@@ -1,7 +1,7 @@
 -- A file of pages under edit on a shelf, and the nodes of it that are kept.
 use Rattle.std.specs.Prelude.{◌≡◌, ◌≢◌, ⊤, ◌⊎◌, ℕ, ◌+◌, ◌-◌, ◌*◌, ◌≤◌, ◌==◌, if◌then◌else◌, List, [], ◌++◌, length, take, drop, replicate, Contains, Option, Some, None, IfSome, IsSome, MatchOption}
 use Rattle.std.specs.Option.{option_and_then}
-use Rattle.mr_record.specs.private.Bytes.{AreBytes}
+use Rattle.mr_outside.specs.Bytes.{AreBytes}
 use Rattle.mr_outside.specs.Files.{Files, file, with_file}
 use Rattle.mr_outside.specs.State.{Shelved}
 use Rattle.mr_outside.specs.Writing.{IsChanged}

@@ -1,7 +1,7 @@
 //! The pages of a file under edit, each written by itself.
 
 ghost use Rattle.std.specs.Prelude.{◌≡◌, ◌+◌, ◌<◌, ◌≤◌, length, replicate, option_map, IfOk, IfErr, OnOk, OnErr, IfSome, IsSomeAnd, ℕ};
-ghost use Rattle.mr_record.specs.private.Bytes.{AreBytes};
+ghost use Rattle.mr_outside.specs.Bytes.{AreBytes};
 ghost use Rattle.mr_pages.specs.Page.{page_limit};
 ghost use Rattle.mr_store.specs.CachedFile.{state_of, name_of, page_form, OnlyReads};
 ghost use Rattle.mr_edit.specs.PageMap.{HasFree, with_content, longer};

@@ -4,6 +4,7 @@ ghost use Rattle.std.specs.Prelude.{◌≡◌, ◌<◌, ◌≤◌, ◌^◌, leng
 ghost use Rattle.mr_tree.specs.Digest.{root_preimage};
 ghost use Rattle.mr_tree.specs.View.{IsChild};
 ghost use Rattle.mr_tree.specs.Nodes.{root_entry};
+ghost use Rattle.mr_outside.specs.Bytes.{AreBytes};
 ghost use Rattle.mr_outside.specs.Files.{overwritten};
 ghost use Rattle.mr_outside.specs.Writing.{IsChanged, IsChangedPartly};
 ghost use Rattle.mr_pages.specs.PageBytes.{layout_by, root_level};
@@ -120,6 +121,10 @@ fn is_digest(_digest: &[u8; 32])
     ensures { length _digest.now ≡ 32 }
 {}
 
+fn are_bytes(_bytes: &[u8])
+    ensures { AreBytes _bytes.now }
+{}
+
 fn is_child(one: &Child)
     ensures { IsChild one.now }
 {
@@ -128,6 +133,7 @@ fn is_child(one: &Child)
     is_word(one.mask);
     is_word(one.count);
     is_digest(&one.digest);
+    are_bytes(&one.digest);
 }
 
 fn is_root(root: &Option<Child>)

@@ -2,7 +2,7 @@
 use Rattle.std.proofs.Common.{◌≡◌, ℕ, Bool, true, false, List, [], length, arith, sym, ap, subst, ◌∙◌}
 use Rattle.std.specs.Prelude.{Option, Some, None, option_map, IfSome, IfErr, IsErrAnd, Result, Ok, Err}
 use Rattle.mr_record.specs.Version.{version_byte}
-use Rattle.mr_record.specs.private.Bytes.{AreBytes}
+use Rattle.mr_outside.specs.Bytes.{AreBytes}
 use Rattle.mr_pages.specs.Law.{IsMapFile}
 use Rattle.mr_pages.specs.declared.opening.Opened.{Opened}
 use Rattle.mr_batch.specs.Changes.{Changes}

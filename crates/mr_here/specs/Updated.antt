@@ -4,7 +4,7 @@ use Rattle.mr_journal.specs.Changed.{IsChange}
 use Rattle.mr_journal.specs.Format.{changed_by}
 use Rattle.mr_journal.specs.Images.{Image}
 use Rattle.mr_record.specs.Version.{version_byte}
-use Rattle.mr_record.specs.private.Bytes.{AreBytes}
+use Rattle.mr_outside.specs.Bytes.{AreBytes}
 use Rattle.mr_record.specs.declared.version.Version.{Version}
 use Rattle.mr_tree.specs.Tree.{records}
 use Rattle.mr_pages.specs.Faults.{mapfault}

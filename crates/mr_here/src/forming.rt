@@ -3,7 +3,7 @@
 ghost use Rattle.std.specs.Prelude.{◌≡◌, All, IfOk, IfErr, OnOk, Some, List, ℕ, codes};
 ghost use Rattle.mr_outside.specs.Files.{file};
 ghost use Rattle.mr_record.specs.Version.{version_byte};
-ghost use Rattle.mr_record.specs.private.Bytes.{AreBytes};
+ghost use Rattle.mr_outside.specs.Bytes.{AreBytes};
 ghost use Rattle.mr_pages.specs.File.{version_of};
 ghost use Rattle.mr_pages.specs.PageBytes.{form_by};
 ghost use Rattle.mr_batch.specs.Changes.{IsLayered};

@@ -11,7 +11,8 @@ use mr_record::Version;
 use std::alloc::Global;
 
 /// The version of the map as recovery would leave it, which byte 4 of its file tells. Nothing is
-/// written or synced. The whole journal is held in memory.
+/// written or synced. The whole journal is held in memory where its gate is open; of another one
+/// the gate alone is read.
 pub fn version_held<D: Disk>(alloc: Global, disk: &mut D) -> Result<Version, RecoverErr>
     ensures version { IfOk result (λ v. IfSome (D.state disk.old).contents
         (λ k. v ≡ version_of (restored k))) }

@@ -1,5 +1,8 @@
 -- What the audit of a join's proof finds.
 use Rattle.std.proofs.Common.{◌≡◌, ℕ, List, [], ◌∷◌, Option, Some, None, Result, Ok, Err, length, refl, sym, ap, subst, ◌∙◌}
+use Rattle.std.proofs.Math.Logic.{∥∥₁_elim}
+use Rattle.std.proofs.Props.{props}
+use Rattle.std.specs.Coded.{Coded-set as set, coded_list}
 use Rattle.std.specs.Prelude.{IfSome, IfOk, ◌^◌, ◌<◌}
 use Rattle.mr_geom.specs.Rectangle.{Rectangle}
 use Rattle.mr_record.specs.Results.{◌>>=◌}
@@ -28,6 +31,7 @@ use Rattle.mr_join.specs.declared.finding.JoinFinding.{JoinFinding}
 use Rattle.mr_join.specs.declared.finding.JoinFinding.TheVariants as findings
 use Rattle.mr_join.specs.declared.finding.Worth.{Worth}
 use Rattle.mr_join.specs.declared.joining.Joined.{Joined}
+use Rattle.mr_join.specs.contracts.pair.Pair.{the_row as row}
 use Rattle.mr_join.specs.declared.pair.Pair.{Pair}
 use Rattle.mr_join.specs.Meets.{meets_way, rects_of}
 use Rattle.mr_join.specs.Frame.{Frame, frame_of}
@@ -247,29 +251,46 @@ finds_honest f g m n bytes z own_m own_n accepted complete found = record {
         ap (join_found (by Two f) (by Two g) m n) own
         ∙ λ i. finding_of (is.accepted i) (is.first i) (is.second i)
 
+finds_prop : (f g : List ℕ → List ℕ) (m n : Owned) (bytes : List ℕ) (z : JoinFinding)
+    → IsProp (FindsHonestJoin f g m n bytes z)
+finds_prop f g m n bytes (findings.Refused d) = hlevel (props, set (coded_list row.coded))
+finds_prop f g m n bytes (findings.Sound pairs) = hlevel (props, set (coded_list row.coded))
+finds_prop f g m n bytes (findings.First owned shown) = hlevel (props, set (coded_list row.coded))
+finds_prop f g m n bytes (findings.Second owned shown) = hlevel (props, set (coded_list row.coded))
+
+found_prop : (f g : List ℕ → List ℕ) (m n : Owned) (bytes : List ℕ) (r : Result JoinFinding AuditErr)
+    → IsProp (IfOk r (FindsHonestJoin f g m n bytes))
+found_prop f g m n bytes (Ok z) = finds_prop f g m n bytes z
+found_prop f g m n bytes (Err e) = hlevel props
+
+-- so of maps that are told, which are well formed
 pub honest_told : (f g : List ℕ → List ℕ) (s v : MapModel) (top other : Top) (bytes : List ℕ)
     (r : Result JoinFinding AuditErr) → IsTop f s top → IsTop g v other → top.batch < 2 ^ 64 → other.batch < 2 ^ 64
-    → AcceptedJoinIsHonest f g bytes → AcceptsHonestJoin f g
+    → AcceptedJoinIsHonest f g bytes → AcceptsHonestJoin f g → IfSome s.tree (λ t. ∥ WellFormed t ∥₁)
+    → IfSome v.tree (λ u. ∥ WellFormed u ∥₁)
     → IfSome s.tree (λ t. IfSome v.tree (λ u. IfOk r (λ z. z
     ≡ join_found (by s.version f) (by v.version g) (owned s t) (owned v u) bytes)))
-    → IfSome s.tree (λ t. IfSome v.tree (λ u. s.version ≡ Two → v.version ≡ Two → WellFormed t → WellFormed u
+    → IfSome s.tree (λ t. IfSome v.tree (λ u. s.version ≡ Two → v.version ≡ Two
     → IfOk r (FindsHonestJoin f g (owned s t) (owned v u) bytes)))
-honest_told f g s v top other bytes r is own low few accepted complete found = by_trees s.tree v.tree found
+honest_told f g s v top other bytes r is own low few accepted complete wells fines found =
+    by_trees s.tree v.tree wells fines found
   where
-    by_trees : (o q : Option Tree)
+    by_trees : (o q : Option Tree) → IfSome o (λ t. ∥ WellFormed t ∥₁) → IfSome q (λ u. ∥ WellFormed u ∥₁)
         → IfSome o (λ t. IfSome q (λ u. IfOk r (λ z. z
         ≡ join_found (by s.version f) (by v.version g) (owned s t) (owned v u) bytes)))
-        → IfSome o (λ t. IfSome q (λ u. s.version ≡ Two → v.version ≡ Two → WellFormed t → WellFormed u
+        → IfSome o (λ t. IfSome q (λ u. s.version ≡ Two → v.version ≡ Two
         → IfOk r (FindsHonestJoin f g (owned s t) (owned v u) bytes)))
-    by_trees None q h = tt
-    by_trees (Some t) None h = tt
-    by_trees (Some t) (Some u) h = λ two dos well fine.
+    by_trees None q well fine h = tt
+    by_trees (Some t) None well fine h = tt
+    by_trees (Some t) (Some u) well fine h = λ two dos.
+        ∥∥₁_elim well (found_prop f g (owned s t) (owned v u) bytes r) (λ sound.
+        ∥∥₁_elim fine (found_prop f g (owned s t) (owned v u) bytes r) (λ good.
         then_ok r (λ z. z ≡ join_found (by s.version f) (by v.version g) (owned s t) (owned v u) bytes)
         (FindsHonestJoin f g (owned s t) (owned v u) bytes)
         (λ z e. finds_honest f g (owned s t) (owned v u) bytes z
-        (record { well = well; batch = subst (λ (b : ℕ). b < 2 ^ 64) is.batch low })
-        (record { well = fine; batch = subst (λ (b : ℕ). b < 2 ^ 64) own.batch few }) accepted complete
-        (e ∙ λ i. join_found (by (two i) f) (by (dos i) g) (owned s t) (owned v u) bytes)) h
+        (record { well = sound; batch = subst (λ (b : ℕ). b < 2 ^ 64) is.batch low })
+        (record { well = good; batch = subst (λ (b : ℕ). b < 2 ^ 64) own.batch few }) accepted complete
+        (e ∙ λ i. join_found (by (two i) f) (by (dos i) g) (owned s t) (owned v u) bytes)) h))
 
 module _ (f g : List ℕ → List ℕ) (s v : MapModel) (bytes : List ℕ) (r : Result JoinFinding AuditErr) where
   -- what is found by what the frame's bytes are

@@ -1,195 +1,128 @@
 -- How many nodes the audit of a join's proof fetches.
-use Rattle.std.proofs.Common.{◌≡◌, ℕ, ◌+◌, ◌≤◌, ◌<◌, ◌^◌, List, [], ◌∷◌, length, Option, Some, None, Result, Ok, Err, refl, sym, ap, subst, ◌∙◌, inl, inr, arith}
+use Rattle.std.proofs.Common.{◌≡◌, ℕ, ◌+◌, ◌≤◌, ◌<◌, ◌^◌, List, [], ◌∷◌, length, Option, Some, None, Result, Ok, refl, sym, ap, subst, ◌∙◌, inl, inr, arith}
 use Rattle.std.specs.Prelude.{IfSome}
 use Rattle.std.proofs.Math.Bridge.{le_prop}
 use Rattle.std.proofs.Math.Logic.{∥∥₁_elim}
 use Rattle.mr_geom.specs.Rectangle.{Rectangle}
 use Rattle.mr_record.specs.declared.record.Record.{Record}
 use Rattle.mr_record.specs.declared.version.Version.TheVariants.{Two}
-use Rattle.mr_record.proofs.Encodings.{IsBytes}
-use Rattle.mr_record.proofs.Results.{bind_ok}
 use Rattle.mr_tree.specs.Tree as trees
 use Rattle.mr_tree.specs.Digest.{by}
 use Rattle.mr_tree.specs.Nodes.{IsTop}
 use Rattle.mr_tree.specs.WellFormed.{WellFormed}
 use Rattle.mr_tree.specs.declared.nodes.Top.{Top}
 use Rattle.mr_tree.specs.declared.tree.Tree.{Tree}
-use Rattle.mr_proof.specs.declared.rule.Fault.{Fault}
-use Rattle.mr_proof.specs.Spelling.{Parsed}
 use Rattle.mr_proof.specs.Reading.{checked}
-use Rattle.mr_proof.proofs.Pairs.{one_pair_of}
-use Rattle.mr_proof.proofs.Soundness.{shows_from}
 use Rattle.mr_clash.specs.Finding.{root_at}
 use Rattle.mr_clash.specs.QuestionFindings.{opened_checked, FetchesFor}
-use Rattle.mr_count.specs.Chosen.{chosen, taken_of}
-use Rattle.mr_count.specs.declared.taken.Taken.{Taken}
+use Rattle.mr_count.specs.Chosen.{chosen}
 use Rattle.mr_join.specs.declared.fault.JoinFault.{JoinFault}
 use Rattle.mr_join.specs.declared.joining.Joined.{Joined}
 use Rattle.mr_join.specs.declared.pair.Pair.{Pair}
 use Rattle.mr_join.specs.Meets.{meets_way, rects_of}
 use Rattle.mr_join.specs.Frame.{Frame, frame_of}
-use Rattle.mr_join.specs.Verdict.{letter, part_verdict, first_records, frame_verdict, join_verdict}
+use Rattle.mr_join.specs.Verdict.{letter, first_records, frame_verdict, join_verdict}
 use Rattle.mr_join.specs.Accepted.{Owned, IsOwned, owned, held, part_proof, part_taken, frame_for, join_proof, map_pairs}
 use Rattle.mr_join.specs.Causes.{Watched}
 use Rattle.mr_join.specs.Finding.{said_by}
 use Rattle.mr_join.specs.Fetches.{part_opens, first_opens, second_opens, part_opened, first_opened, second_opened, first_in, second_in, if_accepted, join_first_opened, join_second_opened, FetchesForJoin}
 use Rattle.mr_join.specs.private.Answers.{GivesJoined}
 use Rattle.mr_join.specs.private.Judging.{MayFetchPart, FirstFetches, FrameFetches}
-use Rattle.mr_join.proofs.Audited.{held_told, first_accepted, second_accepted}
-use Rattle.mr_join.proofs.Worth.{Honest, asks_lawfully, by_frame, honest_parsed, records_again, honest_read, honest_accepted}
+use Rattle.mr_join.proofs.Audited.{held_told}
+use Rattle.mr_join.proofs.Worth.{Honest, by_frame, honest_parsed, records_again, honest_read, honest_accepted}
 use Rattle.mr_join.proofs.Written.{is_owned}
 
 -- ---- one part
 
-pub part_few : (hash : List ℕ → List ℕ) (a : Watched) (ms list : List Rectangle) (bytes : List ℕ)
-    → FetchesFor hash a.map (chosen letter (meets_way ms)) bytes a.before a.after → meets_way ms ≡ meets_way list
-    → MayFetchPart hash a list bytes
-part_few hash a ms list bytes (top, is, few) same = inr (record {
-  top = top;
-  is_top = is;
-  few = subst (λ way. a.after ≤ a.before + opened_checked (checked hash (hash (root_at top)) (chosen letter way)
-      bytes))
-      same few;
-})
+pub part_few : (hash : List ℕ → List ℕ) (a : Watched) (top : Top) (ms list : List Rectangle) (bytes : List ℕ)
+    → FetchesFor hash a.map top (chosen letter (meets_way ms)) bytes a.before a.after
+    → meets_way ms ≡ meets_way list → MayFetchPart hash a top list bytes
+part_few hash a top ms list bytes (is, few) same =
+    inr
+    (subst (λ way. a.after ≤ a.before + opened_checked (checked hash (hash (root_at top)) (chosen letter way) bytes))
+    same few)
 
--- what bytes spell that are accepted against two digests is one
-same_parsed : (hash : List ℕ → List ℕ) (a b : List ℕ) (list : List Rectangle) (bytes : List ℕ) (x y : Parsed)
-    → IsBytes bytes → checked hash a (chosen letter (meets_way list)) bytes ≡ Ok x
-    → checked hash b (chosen letter (meets_way list)) bytes ≡ Ok y → x ≡ y
-same_parsed hash a b list bytes x y fits one other =
-    let q = chosen letter (meets_way list) in
-    let shows = shows_from hash a q bytes x (asks_lawfully list) fits one in
-    let tells = shows_from hash b q bytes y (asks_lawfully list) fits other in
-    let same = one_pair_of q.kind bytes x.head y.head x.part y.part shows.kind tells.kind shows.spelled tells.spelled
-    in
-    λ i. record { head = same.0 i; part = same.1 i }
-
--- so where they are accepted against the one, no more is opened by the other
-opened_as : (hash : List ℕ → List ℕ) (a b : List ℕ) (list : List Rectangle) (bytes : List ℕ) (x : Taken)
-    → IsBytes bytes → part_verdict (record { of = hash; root = a }) list bytes ≡ Ok x
-    → part_opened (record { of = hash; root = b }) list bytes ≤ part_opened (record { of = hash; root = a }) list
-    bytes
-opened_as hash a b list bytes x fits e =
-    let q = chosen letter (meets_way list) in
-    let was = bind_ok (checked hash a q bytes) (λ y. Ok (taken_of (meets_way list) y)) x e in
-    by_other was.0 was.1 (checked hash b q bytes) refl
-  where
-    by_other : (y : Parsed) → checked hash a (chosen letter (meets_way list)) bytes ≡ Ok y → (r : Result Parsed Fault)
-        → checked hash b (chosen letter (meets_way list)) bytes ≡ r
-        → part_opened (record { of = hash; root = b }) list bytes
-        ≤ part_opened (record { of = hash; root = a }) list bytes
-    by_other y one (Err f) other =
-        let none : part_opened (record { of = hash; root = b }) list bytes ≡ 0 = ap opened_checked other in
-        omega (arith, none)
-    by_other y one (Ok z) other =
-        let same = same_parsed hash a b list bytes y z fits one other in
-        let many : part_opened (record { of = hash; root = a }) list bytes ≡ opened_checked (Ok y) =
-        ap opened_checked one in
-        let few : part_opened (record { of = hash; root = b }) list bytes ≡ opened_checked (Ok y) =
-        ap opened_checked other ∙ ap (λ (p : Parsed). opened_checked (Ok p)) (sym same) in
-        omega (arith, many, few)
-
--- a part that is accepted: no more is fetched than it opens against this digest
-part_within : (hash : List ℕ → List ℕ) (a : Watched) (top : Top) (list : List Rectangle) (bytes : List ℕ) (x : Taken)
-    → IsBytes bytes → part_verdict (said_by hash top) list bytes ≡ Ok x → MayFetchPart hash a list bytes
-    → a.after ≤ a.before + part_opened (said_by hash top) list bytes
-part_within hash a top list bytes x fits e (inl none) = omega (arith, none)
-part_within hash a top list bytes x fits e (inr some) =
-    let more = opened_as hash (hash (root_at top)) (hash (root_at some.top)) list bytes x fits e in
-    omega (arith, more, some.few)
+-- no more is fetched than a part opens, also where the map is not asked
+part_within : (hash : List ℕ → List ℕ) (a : Watched) (top : Top) (list : List Rectangle) (bytes : List ℕ)
+    → MayFetchPart hash a top list bytes → a.after ≤ a.before + part_opened (said_by hash top) list bytes
+part_within hash a top list bytes (inl none) = omega (arith, none)
+part_within hash a top list bytes (inr some) = some
 
 first_within : (hash : List ℕ → List ℕ) (a : Watched) (top : Top) (o : Option Rectangle) (bytes : List ℕ)
-    (rs : List Record) → IsBytes bytes → first_records (said_by hash top) o bytes ≡ Ok rs → FirstFetches hash a o
-    bytes
-    → a.after ≤ a.before + first_opened (said_by hash top) o bytes
-first_within hash a top None bytes rs fits e none = omega (arith, none)
-first_within hash a top (Some w) bytes rs fits e some =
-    let x = first_accepted (said_by hash top) w bytes rs e in
-    part_within hash a top (w ∷ []) bytes x.0 fits x.1 some
+    → FirstFetches hash a top o bytes → a.after ≤ a.before + first_opened (said_by hash top) o bytes
+first_within hash a top None bytes none = omega (arith, none)
+first_within hash a top (Some w) bytes some = part_within hash a top (w ∷ []) bytes some
 
 -- ---- a frame
 
 more_none : (a b n : ℕ) → a ≤ b → a ≤ b + n
 more_none a b n few = omega (arith, few)
 
-module _ (f g : List ℕ → List ℕ) (a b : Watched) (top other : Top) (c d : List ℕ) (is : IsTop f a.map top)
-    (own : IsTop g b.map other) (first : c ≡ f (root_at top)) (second : d ≡ g (root_at other)) (at : ℕ) (x : Frame)
-  where
-    -- nothing is fetched
-    pub frame_still : a.after ≤ a.before → b.after ≤ b.before → FrameFetches f g a b at x
-    frame_still still quiet = record {
-      top = top;
-      other = other;
-      is_top = is;
-      is_other = own;
-      first = more_none a.after a.before (if_accepted (frame_verdict (said_by f top) (said_by g other) at x)
-          (first_opened (said_by f top) x.rect x.first)) still;
-      second = more_none b.after b.before (if_accepted (frame_verdict (said_by f top) (said_by g other) at x)
-          (second_opened (said_by g other) (first_records (said_by f top) x.rect x.first) x.second)) quiet;
-    }
+module _ (f g : List ℕ → List ℕ) (a b : Watched) (top other : Top) (at : ℕ) (x : Frame) where
+  -- nothing is fetched
+  pub frame_still : a.after ≤ a.before → b.after ≤ b.before → FrameFetches f g a b top other at x
+  frame_still still quiet = record {
+    first = more_none a.after a.before (if_accepted (frame_verdict (said_by f top) (said_by g other) at x)
+        (first_opened (said_by f top) x.rect x.first)) still;
+    second = more_none b.after b.before (if_accepted (frame_verdict (said_by f top) (said_by g other) at x)
+        (second_opened (said_by g other) (first_records (said_by f top) x.rect x.first) x.second)) quiet;
+  }
 
-    -- both parts are accepted
-    pub frame_few : (j : Joined) → IsBytes x.first → IsBytes x.second
-        → GivesJoined (record { of = f; root = c }) (record { of = g; root = d }) at x (Ok j)
-        → FirstFetches f a x.rect x.first → MayFetchPart g b (rects_of j.records) x.second → FrameFetches f g a b at x
-    frame_few j fits fit gives one two =
-        let said : GivesJoined (said_by f top) (said_by g other) at x (Ok j) =
-        subst (λ (e : List ℕ). GivesJoined (said_by f top) (record { of = g; root = e }) at x (Ok j)) second
-        (subst (λ (e : List ℕ). GivesJoined (record { of = f; root = e }) (record { of = g; root = d }) at x (Ok j))
-        first gives) in
-        let y = second_accepted (said_by f top) (said_by g other) at x.rect x.first x.second j.records j.pairs said.0
-        said.1 in
-        let few = first_within f a top x.rect x.first j.records fits said.0 one in
-        let fewer = part_within g b other (rects_of j.records) x.second y.0 fit y.1 two in
-        record {
-          top = top;
-          other = other;
-          is_top = is;
-          is_other = own;
-          first = subst (λ n. a.after ≤ a.before + n)
-              (sym (ap (λ (r : Result (List Pair) JoinFault). if_accepted r
-              (first_opened (said_by f top) x.rect x.first)) said.1)) few;
-          second = subst (λ n. b.after ≤ b.before + n)
-              (sym ((λ i. if_accepted (said.1 i) (second_opened (said_by g other) (said.0 i) x.second)))) fewer;
-        }
+  -- both parts are accepted
+  pub frame_few : (c d : List ℕ) → c ≡ f (root_at top) → d ≡ g (root_at other) → (j : Joined)
+      → GivesJoined (record { of = f; root = c }) (record { of = g; root = d }) at x (Ok j)
+      → FirstFetches f a top x.rect x.first → MayFetchPart g b other (rects_of j.records) x.second
+      → FrameFetches f g a b top other at x
+  frame_few c d first second j gives one two =
+      let said : GivesJoined (said_by f top) (said_by g other) at x (Ok j) =
+      subst (λ (e : List ℕ). GivesJoined (said_by f top) (record { of = g; root = e }) at x (Ok j)) second
+      (subst (λ (e : List ℕ). GivesJoined (record { of = f; root = e }) (record { of = g; root = d }) at x (Ok j))
+      first gives) in
+      let few = first_within f a top x.rect x.first one in
+      let fewer = part_within g b other (rects_of j.records) x.second two in
+      record {
+        first = subst (λ n. a.after ≤ a.before + n)
+            (sym (ap (λ (r : Result (List Pair) JoinFault). if_accepted r
+            (first_opened (said_by f top) x.rect x.first)) said.1)) few;
+        second = subst (λ n. b.after ≤ b.before + n)
+            (sym ((λ i. if_accepted (said.1 i) (second_opened (said_by g other) (said.0 i) x.second)))) fewer;
+      }
 
 -- ---- the whole
 
-pub read_few : (f g : List ℕ → List ℕ) (a b : Watched) (bytes : List ℕ) (x : Frame) → frame_of bytes ≡ Ok x
-    → FrameFetches f g a b (length bytes) x → FetchesForJoin f g a b bytes
-read_few f g a b bytes x read h =
-    let line = by_frame (said_by f h.top) (said_by g h.other) bytes x read in
-    record {
-      top = h.top;
-      other = h.other;
-      is_top = h.is_top;
-      is_other = h.is_other;
-      first = subst (λ n. a.after ≤ a.before + n)
-          (sym (λ i. if_accepted (line i) (first_in (said_by f h.top) (read i)))) h.first;
-      second = subst (λ n. b.after ≤ b.before + n)
-          (sym (λ i. if_accepted (line i) (second_in (said_by f h.top) (said_by g h.other) (read i)))) h.second;
-    }
+module _ (f g : List ℕ → List ℕ) (a b : Watched) (bytes : List ℕ) (top other : Top) (is : IsTop f a.map top)
+    (own : IsTop g b.map other) where
+  pub read_few : (x : Frame) → frame_of bytes ≡ Ok x → FrameFetches f g a b top other (length bytes) x
+      → FetchesForJoin f g a b top other bytes
+  read_few x read h =
+      let line = by_frame (said_by f top) (said_by g other) bytes x read in
+      record {
+        is_top = is;
+        is_other = own;
+        first = subst (λ n. a.after ≤ a.before + n)
+            (sym (λ i. if_accepted (line i) (first_in (said_by f top) (read i)))) h.first;
+        second = subst (λ n. b.after ≤ b.before + n)
+            (sym (λ i. if_accepted (line i) (second_in (said_by f top) (said_by g other) (read i)))) h.second;
+      }
 
-pub unread_few : (f g : List ℕ → List ℕ) (a b : Watched) (bytes : List ℕ) (top other : Top) → IsTop f a.map top
-    → IsTop g b.map other → a.after ≤ a.before → b.after ≤ b.before → FetchesForJoin f g a b bytes
-unread_few f g a b bytes top other is own still quiet = record {
-  top = top;
-  other = other;
-  is_top = is;
-  is_other = own;
-  first = more_none a.after a.before (join_first_opened (said_by f top) (said_by g other) bytes) still;
-  second = more_none b.after b.before (join_second_opened (said_by f top) (said_by g other) bytes) quiet;
-}
+  pub unread_few : a.after ≤ a.before → b.after ≤ b.before → FetchesForJoin f g a b top other bytes
+  unread_few still quiet = record {
+    is_top = is;
+    is_other = own;
+    first = more_none a.after a.before (join_first_opened (said_by f top) (said_by g other) bytes) still;
+    second = more_none b.after b.before (join_second_opened (said_by f top) (said_by g other) bytes) quiet;
+  }
 
 -- ---- where the trees are told
 
-module _ (f g : List ℕ → List ℕ) (a b : Watched) (bytes : List ℕ) (h : FetchesForJoin f g a b bytes) where
+module _ (f g : List ℕ → List ℕ) (a b : Watched) (top other : Top) (bytes : List ℕ)
+    (h : FetchesForJoin f g a b top other bytes) where
   both_said : (t u : Tree) → a.map.tree ≡ Some t → b.map.tree ≡ Some u
-      → (said_by f h.top ≡ held (by a.map.version f) (owned a.map t))
-      × (said_by g h.other ≡ held (by b.map.version g) (owned b.map u))
+      → (said_by f top ≡ held (by a.map.version f) (owned a.map t))
+      × (said_by g other ≡ held (by b.map.version g) (owned b.map u))
   both_said t u told knows = (
-    held_told f a.map h.top t (f (root_at h.top)) h.is_top told refl,
-    held_told g b.map h.other u (g (root_at h.other)) h.is_other knows refl,
+    held_told f a.map top t (f (root_at top)) h.is_top told refl,
+    held_told g b.map other u (g (root_at other)) h.is_other knows refl,
   )
 
   abbrev FirstTold : Tree → Tree → Type 0
@@ -273,7 +206,7 @@ module _ (f g : List ℕ → List ℕ) (m n : Owned) (honest_f : Honest f) (hone
 
 module _ (f g : List ℕ → List ℕ) (a b : Watched) (bytes : List ℕ) (top other : Top) (honest_f : Honest f)
     (honest_g : Honest g) (is : IsTop f a.map top) (own : IsTop g b.map other) (low : top.batch < 2 ^ 64)
-    (few : other.batch < 2 ^ 64) (h : FetchesForJoin f g a b bytes)
+    (few : other.batch < 2 ^ 64) (h : FetchesForJoin f g a b top other bytes)
     (wells : IfSome a.map.tree (λ t. ∥ WellFormed t ∥₁)) (fines : IfSome b.map.tree (λ u. ∥ WellFormed u ∥₁)) where
   abbrev IsHonestOf : Tree → Tree → Type 0 → Type 0
   IsHonestOf t u P =
@@ -286,7 +219,8 @@ module _ (f g : List ℕ → List ℕ) (a b : Watched) (bytes : List ℕ) (top o
   SecondFew t u =
       IsHonestOf t u (b.after ≤ b.before + second_opens f g (owned a.map t) (owned b.map u) (trees.rect u))
 
-  first_of_few : (t u : Tree) → FirstTold f g a b bytes h t u → ∥ WellFormed t ∥₁ → ∥ WellFormed u ∥₁ → FirstFew t u
+  first_of_few : (t u : Tree) → FirstTold f g a b top other bytes h t u → ∥ WellFormed t ∥₁ → ∥ WellFormed u ∥₁
+      → FirstFew t u
   first_of_few t u told well fine two dos line =
       ∥∥₁_elim well le_prop (λ sound. ∥∥₁_elim fine le_prop (λ good.
       let m = owned a.map t in
@@ -296,7 +230,7 @@ module _ (f g : List ℕ → List ℕ) (a b : Watched) (bytes : List ℕ) (top o
       ∙ join_first_honest f g m n honest_f honest_g (is_owned f a.map top t is low sound)
       (is_owned g b.map other u own few good)) told))
 
-  second_of_few : (t u : Tree) → SecondTold f g a b bytes h t u → ∥ WellFormed t ∥₁ → ∥ WellFormed u ∥₁
+  second_of_few : (t u : Tree) → SecondTold f g a b top other bytes h t u → ∥ WellFormed t ∥₁ → ∥ WellFormed u ∥₁
       → SecondFew t u
   second_of_few t u told well fine two dos line =
       ∥∥₁_elim well le_prop (λ sound. ∥∥₁_elim fine le_prop (λ good.
@@ -308,20 +242,20 @@ module _ (f g : List ℕ → List ℕ) (a b : Watched) (bytes : List ℕ) (top o
       (is_owned g b.map other u own few good)) told))
 
   pub first_few : IfSome a.map.tree (λ t. IfSome b.map.tree (λ u. FirstFew t u))
-  first_few = by_trees a.map.tree b.map.tree wells fines (first_told f g a b bytes h)
+  first_few = by_trees a.map.tree b.map.tree wells fines (first_told f g a b top other bytes h)
     where
       by_trees : (o q : Option Tree) → IfSome o (λ t. ∥ WellFormed t ∥₁) → IfSome q (λ u. ∥ WellFormed u ∥₁)
-          → IfSome o (λ t. IfSome q (λ u. FirstTold f g a b bytes h t u))
+          → IfSome o (λ t. IfSome q (λ u. FirstTold f g a b top other bytes h t u))
           → IfSome o (λ t. IfSome q (λ u. FirstFew t u))
       by_trees None q well fine told = tt
       by_trees (Some t) None well fine told = tt
       by_trees (Some t) (Some u) well fine told = first_of_few t u told well fine
 
   pub second_few : IfSome a.map.tree (λ t. IfSome b.map.tree (λ u. SecondFew t u))
-  second_few = by_trees a.map.tree b.map.tree wells fines (second_told f g a b bytes h)
+  second_few = by_trees a.map.tree b.map.tree wells fines (second_told f g a b top other bytes h)
     where
       by_trees : (o q : Option Tree) → IfSome o (λ t. ∥ WellFormed t ∥₁) → IfSome q (λ u. ∥ WellFormed u ∥₁)
-          → IfSome o (λ t. IfSome q (λ u. SecondTold f g a b bytes h t u))
+          → IfSome o (λ t. IfSome q (λ u. SecondTold f g a b top other bytes h t u))
           → IfSome o (λ t. IfSome q (λ u. SecondFew t u))
       by_trees None q well fine told = tt
       by_trees (Some t) None well fine told = tt

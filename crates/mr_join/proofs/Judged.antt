@@ -42,13 +42,11 @@ use Rattle.mr_join.proofs.Worth.{by_frame, no_frame}
 
 -- ---- one part
 
-pub part_judged : (hash : List ℕ → List ℕ) (s : MapModel) (ms list : List Rectangle) (bytes : List ℕ)
+pub part_judged : (hash : List ℕ → List ℕ) (s : MapModel) (top : Top) (ms list : List Rectangle) (bytes : List ℕ)
     (finding : ChoiceFinding) (w : Worth) → w ≡ worth_of finding
-    → choices.FindsForChoice hash s letter (meets_way ms) bytes finding → meets_way ms ≡ meets_way list
-    → WorthFor hash s list bytes w
-part_judged hash s ms list bytes finding w is (top, is_top, pair, e) same = record {
-  top = top;
-  is_top = is_top;
+    → choices.FindsForChoice hash s top letter (meets_way ms) bytes finding → meets_way ms ≡ meets_way list
+    → WorthFor hash top list bytes w
+part_judged hash s top ms list bytes finding w is (is_top, pair, e) same = record {
   clash = pair;
   found = is ∙ ap worth_of e ∙ worth_found (verdict_for hash (hash (root_at top)) letter (meets_way ms) bytes) pair
       ∙ λ i. worth_by (verdict_for hash (hash (root_at top)) letter (same i) bytes) pair;
@@ -88,75 +86,68 @@ second_refused h k at x rs f given e =
 abbrev no_pair : Option clashes.Pair
 no_pair = None
 
-module _ (f g : List ℕ → List ℕ) (s v : MapModel) (top other : Top) (is : IsTop f s top) (own : IsTop g v other)
-    (at : ℕ) where
+module _ (f g : List ℕ → List ℕ) (top other : Top) (at : ℕ) where
   finds : (x : Frame) (finding : JoinFinding) (c d : Option clashes.Pair)
       → finding ≡ finding_of (frame_verdict (said_by f top) (said_by g other) at x) c d
-      → FindsFrameFor f g s v at x finding
-  finds x finding c d e =
-      record { top = top; other = other; is_top = is; is_other = own; first = c; second = d; found = e }
+      → FindsFrameFor f g top other at x finding
+  finds x finding c d e = record { first = c; second = d; found = e }
 
   finds_given : (x : Frame) (finding : JoinFinding) (c d : Option clashes.Pair) (pairs : List Pair)
       → frame_verdict (said_by f top) (said_by g other) at x ≡ Ok pairs → finding ≡ finding_by pairs c d
-      → FindsFrameFor f g s v at x finding
+      → FindsFrameFor f g top other at x finding
   finds_given x finding c d pairs gives e =
       finds x finding c d
       (e ∙ ap (λ (q : Result (List Pair) JoinFault). finding_of q c d) (sym gives))
 
   finds_refused : (x : Frame) (finding : JoinFinding) (e : JoinFault)
       → frame_verdict (said_by f top) (said_by g other) at x ≡ Err e → finding ≡ findings.Refused e
-      → FindsFrameFor f g s v at x finding
+      → FindsFrameFor f g top other at x finding
   finds_refused x finding e gives found =
       finds x finding no_pair no_pair
       (found ∙ ap (λ (q : Result (List Pair) JoinFault). finding_of q no_pair no_pair) (sym gives))
 
--- by the worth of the second part
-behind_judged : (f g : List ℕ → List ℕ) (s v : MapModel) (top other : Top) → IsTop f s top → IsTop g v other
-    → (at : ℕ) (x : Frame) (rs : List Record) (pairs : List Pair)
-    → first_records (said_by f top) x.rect x.first ≡ Ok rs
-    → frame_verdict (said_by f top) (said_by g other) at x ≡ Ok pairs → (w : Worth)
-    → WorthFor g v (rects_of rs) x.second w → (finding : JoinFinding) → finding ≡ behind w pairs
-    → FindsFrameFor f g s v at x finding
-behind_judged f g s v top other is own at x rs pairs given gives (worths.Refused e) worth finding found =
-    finds_refused f g s v top worth.top is worth.is_top at x finding (faults.Second e)
-    (second_refused (said_by f top) (said_by g worth.top) at x rs e given
-    (worth_refused (part_verdict (said_by g worth.top) (rects_of rs) x.second) worth.clash e worth.found)) found
-behind_judged f g s v top other is own at x rs pairs given gives worths.Sound worth finding found =
-    finds_given f g s v top other is own at x finding no_pair no_pair pairs gives found
-behind_judged f g s v top other is own at x rs pairs given gives (worths.Collision a b) worth finding found =
-    finds_given f g s v top other is own at x finding no_pair (Some (record { owned = a; shown = b })) pairs gives
-    found
+  -- by the worth of the second part
+  behind_judged : (x : Frame) (rs : List Record) (pairs : List Pair)
+      → first_records (said_by f top) x.rect x.first ≡ Ok rs
+      → frame_verdict (said_by f top) (said_by g other) at x ≡ Ok pairs → (w : Worth)
+      → WorthFor g other (rects_of rs) x.second w → (finding : JoinFinding) → finding ≡ behind w pairs
+      → FindsFrameFor f g top other at x finding
+  behind_judged x rs pairs given gives (worths.Refused e) worth finding found =
+      finds_refused x finding (faults.Second e)
+      (second_refused (said_by f top) (said_by g other) at x rs e given
+      (worth_refused (part_verdict (said_by g other) (rects_of rs) x.second) worth.clash e worth.found)) found
+  behind_judged x rs pairs given gives worths.Sound worth finding found =
+      finds_given x finding no_pair no_pair pairs gives found
+  behind_judged x rs pairs given gives (worths.Collision a b) worth finding found =
+      finds_given x finding no_pair (Some (record { owned = a; shown = b })) pairs gives found
 
--- by that of both
-parts_by : (f g : List ℕ → List ℕ) (s v : MapModel) (top other : Top) → IsTop f s top → IsTop g v other
-    → (at : ℕ) (o : Option Rectangle) (first second : List ℕ) (rs : List Record) (pairs : List Pair)
-    → first_records (said_by f top) o first ≡ Ok rs
-    → frame_verdict (said_by f top) (said_by g other) at (record { rect = o; first = first; second = second })
-    ≡ Ok pairs
-    → (w : Worth) → FirstWorthFor f s o first w → (finding : JoinFinding)
-    → FindsBy g v (rects_of rs) second pairs w finding
-    → FindsFrameFor f g s v at (record { rect = o; first = first; second = second }) finding
-parts_by f g s v top other is own at None first second rs pairs given gives (worths.Refused e) worth finding found =
-    absurd (no_refusal e worth)
-parts_by f g s v top other is own at (Some r) first second rs pairs given gives (worths.Refused e) worth finding found =
-    finds_refused f g s v worth.top other worth.is_top own at
-    (record { rect = Some r; first = first; second = second }) finding (faults.First e)
-    (first_refused (said_by f worth.top) (said_by g other) at r first second e
-    (worth_refused (part_verdict (said_by f worth.top) (r ∷ []) first) worth.clash e worth.found)) found
-parts_by f g s v top other is own at o first second rs pairs given gives (worths.Collision a b) worth finding found =
-    finds_given f g s v top other is own at (record { rect = o; first = first; second = second }) finding
-    (Some (record { owned = a; shown = b })) no_pair pairs gives found
-parts_by f g s v top other is own at o first second rs pairs given gives worths.Sound worth finding found =
-    behind_judged f g s v top other is own at (record { rect = o; first = first; second = second }) rs pairs given
-    gives found.second found.is_second finding found.found
+  -- by that of both
+  parts_by : (o : Option Rectangle) (first second : List ℕ) (rs : List Record) (pairs : List Pair)
+      → first_records (said_by f top) o first ≡ Ok rs
+      → frame_verdict (said_by f top) (said_by g other) at (record { rect = o; first = first; second = second })
+      ≡ Ok pairs
+      → (w : Worth) → FirstWorthFor f top o first w → (finding : JoinFinding)
+      → FindsBy g other (rects_of rs) second pairs w finding
+      → FindsFrameFor f g top other at (record { rect = o; first = first; second = second }) finding
+  parts_by None first second rs pairs given gives (worths.Refused e) worth finding found =
+      absurd (no_refusal e worth)
+  parts_by (Some r) first second rs pairs given gives (worths.Refused e) worth finding found =
+      finds_refused (record { rect = Some r; first = first; second = second }) finding (faults.First e)
+      (first_refused (said_by f top) (said_by g other) at r first second e
+      (worth_refused (part_verdict (said_by f top) (r ∷ []) first) worth.clash e worth.found)) found
+  parts_by o first second rs pairs given gives (worths.Collision a b) worth finding found =
+      finds_given (record { rect = o; first = first; second = second }) finding
+      (Some (record { owned = a; shown = b })) no_pair pairs gives found
+  parts_by o first second rs pairs given gives worths.Sound worth finding found =
+      behind_judged (record { rect = o; first = first; second = second }) rs pairs given gives found.second
+      found.is_second finding found.found
 
 then_ok : {A E : Type 0} (r : Result A E) (P Q : A → Type 0) → ((x : A) → P x → Q x) → IfOk r P → IfOk r Q
 then_ok (Ok x) P Q up h = up x h
 then_ok (Err e) P Q up h = tt
 
-module _ (f g : List ℕ → List ℕ) (s v : MapModel) (top other : Top) (a b : List ℕ) (is : IsTop f s top)
-    (own : IsTop g v other) (first : a ≡ f (root_at top)) (second : b ≡ g (root_at other)) (at : ℕ) (x : Frame)
-    (r : Result JoinFinding AuditErr) where
+module _ (f g : List ℕ → List ℕ) (top other : Top) (a b : List ℕ) (first : a ≡ f (root_at top))
+    (second : b ≡ g (root_at other)) (at : ℕ) (x : Frame) (r : Result JoinFinding AuditErr) where
   said_both : (p : Result Joined JoinErr)
       → GivesJoined (record { of = f; root = a }) (record { of = g; root = b }) at x p
       → GivesJoined (said_by f top) (said_by g other) at x p
@@ -167,30 +158,28 @@ module _ (f g : List ℕ → List ℕ) (s v : MapModel) (top other : Top) (a b :
 
   pub parts_judged : (j : Joined)
       → GivesJoined (record { of = f; root = a }) (record { of = g; root = b }) at x (Ok j)
-      → IfOk r (FindsParts f g s v x (rects_of j.records) j.pairs) → IfOk r (FindsFrameFor f g s v at x)
+      → IfOk r (FindsParts f g top other x (rects_of j.records) j.pairs) → IfOk r (FindsFrameFor f g top other at x)
   parts_judged j gives found =
       let said = said_both (Ok j) gives in
-      then_ok r (FindsParts f g s v x (rects_of j.records) j.pairs) (FindsFrameFor f g s v at x)
-      (λ z parts. parts_by f g s v top other is own at x.rect x.first x.second j.records j.pairs said.0 said.1
+      then_ok r (FindsParts f g top other x (rects_of j.records) j.pairs) (FindsFrameFor f g top other at x)
+      (λ z parts. parts_by f g top other at x.rect x.first x.second j.records j.pairs said.0 said.1
       parts.one parts.is_one z parts.found) found
 
   pub declined_judged : (e : JoinErr) → Declines e r
       → GivesJoined (record { of = f; root = a }) (record { of = g; root = b }) at x (Err e)
-      → IfOk r (FindsFrameFor f g s v at x)
+      → IfOk r (FindsFrameFor f g top other at x)
   declined_judged (errors.Fault d) declines gives =
-      subst (λ (r : Result JoinFinding AuditErr). IfOk r (FindsFrameFor f g s v at x)) (sym declines)
-      (finds_refused f g s v top other is own at x (findings.Refused d) d (said_both (Err (errors.Fault d)) gives)
-      refl)
+      subst (λ (r : Result JoinFinding AuditErr). IfOk r (FindsFrameFor f g top other at x)) (sym declines)
+      (finds_refused f g top other at x (findings.Refused d) d (said_both (Err (errors.Fault d)) gives) refl)
   declined_judged errors.NoMemory declines gives =
-      subst (λ (r : Result JoinFinding AuditErr). IfOk r (FindsFrameFor f g s v at x)) (sym declines) tt
+      subst (λ (r : Result JoinFinding AuditErr). IfOk r (FindsFrameFor f g top other at x)) (sym declines) tt
 
 -- ---- the whole
 
 pub unread_judged : (f g : List ℕ → List ℕ) (s v : MapModel) (top other : Top) (bytes : List ℕ) (d : JoinFault)
-    → IsTop f s top → IsTop g v other → frame_of bytes ≡ Err d → FindsForJoin f g s v bytes (findings.Refused d)
+    → IsTop f s top → IsTop g v other → frame_of bytes ≡ Err d
+    → FindsForJoin f g s v top other bytes (findings.Refused d)
 unread_judged f g s v top other bytes d is own read = record {
-  top = top;
-  other = other;
   is_top = is;
   is_other = own;
   first = None;
@@ -199,19 +188,17 @@ unread_judged f g s v top other bytes d is own read = record {
       (no_frame (said_by f top) (said_by g other) bytes d read));
 }
 
-pub read_judged : (f g : List ℕ → List ℕ) (s v : MapModel) (bytes : List ℕ) (x : Frame)
-    (r : Result JoinFinding AuditErr) → frame_of bytes ≡ Ok x
-    → IfOk r (FindsFrameFor f g s v (length bytes) x) → IfOk r (FindsForJoin f g s v bytes)
-read_judged f g s v bytes x r read found =
-    then_ok r (FindsFrameFor f g s v (length bytes) x) (FindsForJoin f g s v bytes) (λ z h. record {
-      top = h.top;
-      other = h.other;
-      is_top = h.is_top;
-      is_other = h.is_other;
+pub read_judged : (f g : List ℕ → List ℕ) (s v : MapModel) (top other : Top) (bytes : List ℕ) (x : Frame)
+    (r : Result JoinFinding AuditErr) → IsTop f s top → IsTop g v other → frame_of bytes ≡ Ok x
+    → IfOk r (FindsFrameFor f g top other (length bytes) x) → IfOk r (FindsForJoin f g s v top other bytes)
+read_judged f g s v top other bytes x r is own read found =
+    then_ok r (FindsFrameFor f g top other (length bytes) x) (FindsForJoin f g s v top other bytes) (λ z h. record {
+      is_top = is;
+      is_other = own;
       first = h.first;
       second = h.second;
       found = h.found ∙ ap (λ (q : Result (List Pair) JoinFault). finding_of q h.first h.second)
-          (sym (by_frame (said_by f h.top) (said_by g h.other) bytes x read));
+          (sym (by_frame (said_by f top) (said_by g other) bytes x read));
     }) found
 
 -- ---- the rules that may be broken
@@ -329,10 +316,10 @@ breaks_by (Ok pairs) (Some p) d may = tt
 breaks_by (Ok pairs) None (Some p) may = tt
 breaks_by (Ok pairs) None None may = tt
 
-pub finding_breaks : (f g : List ℕ → List ℕ) (s v : MapModel) (bytes : List ℕ) (r : Result JoinFinding AuditErr)
-    → IfOk r (FindsForJoin f g s v bytes) → IfOk r BreaksNoFlag
-finding_breaks f g s v bytes r found =
-    then_ok r (FindsForJoin f g s v bytes) BreaksNoFlag (λ z h.
-    let q = join_verdict (said_by f h.top) (said_by g h.other) bytes in
+pub finding_breaks : (f g : List ℕ → List ℕ) (s v : MapModel) (top other : Top) (bytes : List ℕ)
+    (r : Result JoinFinding AuditErr) → IfOk r (FindsForJoin f g s v top other bytes) → IfOk r BreaksNoFlag
+finding_breaks f g s v top other bytes r found =
+    then_ok r (FindsForJoin f g s v top other bytes) BreaksNoFlag (λ z h.
+    let q = join_verdict (said_by f top) (said_by g other) bytes in
     subst BreaksNoFlag (sym h.found)
-    (breaks_by q h.first h.second (join_breaks (said_by f h.top) (said_by g h.other) bytes))) found
+    (breaks_by q h.first h.second (join_breaks (said_by f top) (said_by g other) bytes))) found

@@ -73,10 +73,10 @@ join_second_opened h g bytes =
     if_accepted (join_verdict h g bytes) (second_in h g (frame_of bytes))
 
 -- Told or not, no more nodes of either map are fetched between these counts than accepted bytes
--- open, by the verdict against the root digests of what maps that stand so say of themselves.
-pub record FetchesForJoin (f g : List ℕ → List ℕ) (a b : Watched) (bytes : List ℕ) : Type 0 where
-  pub top : Top
-  pub other : Top
+-- open, by the verdict against the root digests of what maps that stand so say of themselves, which
+-- are these.
+pub record FetchesForJoin (f g : List ℕ → List ℕ) (a b : Watched) (top other : Top)
+    (bytes : List ℕ) : Type 0 where
   pub is_top : IsTop f a.map top
   pub is_other : IsTop g b.map other
   pub first : a.after ≤ a.before + join_first_opened (said_by f top) (said_by g other) bytes

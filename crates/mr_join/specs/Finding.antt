@@ -32,7 +32,7 @@ join_found s v m n bytes =
     finding_of (join_verdict (held s m) (held v n) bytes) (first_clash s m bytes)
     (second_clash v n bytes)
 
--- two strings that are shown differ and have one hash
+-- two byte strings that are shown differ and have one hash
 abbrev pub ShowsCollision : (f g : List ℕ → List ℕ) → JoinFinding → Type 0
 ShowsCollision f g (findings.First owned shown) =
     IsCollision f (record { owned = owned; shown = shown })
@@ -62,11 +62,10 @@ BreaksNoFlag _ = ⊤
 abbrev pub said_by : (List ℕ → List ℕ) → Top → Held
 said_by hash top = record { of = hash; root = hash (root_at top) }
 
--- told or not: by the verdict against the root digests of what maps that stand so say of themselves
-pub record FindsForJoin (f g : List ℕ → List ℕ) (s v : MapModel) (bytes : List ℕ)
+-- told or not: by the verdict against the root digests of what maps that stand so say of
+-- themselves, which are these
+pub record FindsForJoin (f g : List ℕ → List ℕ) (s v : MapModel) (top other : Top) (bytes : List ℕ)
     (finding : JoinFinding) : Type 0 where
-  pub top : Top
-  pub other : Top
   pub is_top : IsTop f s top
   pub is_other : IsTop g v other
   pub first : Option clashes.Pair

@@ -5,7 +5,6 @@ ghost use Rattle.mr_record.specs.declared.version.Version.TheVariants.{Two};
 ghost use Rattle.mr_tree.specs.Tree.{rect};
 ghost use Rattle.mr_tree.specs.Digest.{by};
 ghost use Rattle.mr_tree.specs.Nodes.{TellsRefusal};
-ghost use Rattle.mr_tree.specs.WellFormed.{WellFormed};
 ghost use Rattle.mr_clash.specs.Causes.{AuditCauses, IsHandedOn, of_nodes};
 ghost use Rattle.mr_join.specs.Accepted.{owned, held, join_proof};
 ghost use Rattle.mr_join.specs.Causes.{watched, JoinAuditCauses, IsAuditHandedByOne};
@@ -20,7 +19,7 @@ use crate::checking::{LETTER, rects_of};
 use crate::finding::{Worth, finding_behind, worth_of};
 use crate::frame::{Frame, frame_of};
 use crate::honest::{accepted_join_is_honest, honest_join_is_accepted};
-use crate::joining::{Joined, are_bytes, join_parts};
+use crate::joining::{Joined, join_parts};
 use crate::proving::{is_word, root_of};
 use crate::{JoinErr, JoinFault, JoinFinding, Meets};
 use mr_count::{FindErr, audit_choice};
@@ -45,10 +44,10 @@ fn audit_part<N: Nodes>(
     ensures told { IfSome (N.stands nodes.old).tree (λ t. IfOk result (λ w. w
         ≡ part_worth (by (N.stands nodes.old).version N.Hash.of) (owned (N.stands nodes.old) t)
         list.now proof.now)) }
-    ensures judged { IfOk result (WorthFor N.Hash.of (N.stands nodes.old) list.now proof.now) }
+    ensures judged { IfOk result (WorthFor N.Hash.of (N.says nodes.old) list.now proof.now) }
     ensures collides { IfOk result (Collides N.Hash.of) }
     ensures fetches { MayFetchPart N.Hash.of (watched (N.stands nodes.old) (N.fetches nodes.old)
-        (N.fetches nodes.new)) list.now proof.now }
+        (N.fetches nodes.new)) (N.says nodes.old) list.now proof.now }
 {
     let meets = Meets::of(alloc, list)?;
     let finding = audit_choice(alloc, nodes, &meets, LETTER, proof)?;
@@ -65,11 +64,11 @@ fn audit_first<N: Nodes>(alloc: Global, nodes: &mut N, frame: &Frame<'_>) -> Res
     ensures told { IfSome (N.stands nodes.old).tree (λ t. IfOk result (λ w. w
         ≡ first_worth (by (N.stands nodes.old).version N.Hash.of) (owned (N.stands nodes.old) t)
         frame.now.rect frame.now.first.now)) }
-    ensures judged { IfOk result (FirstWorthFor N.Hash.of (N.stands nodes.old) frame.now.rect
+    ensures judged { IfOk result (FirstWorthFor N.Hash.of (N.says nodes.old) frame.now.rect
         frame.now.first.now) }
     ensures collides { IfOk result (Collides N.Hash.of) }
     ensures fetches { FirstFetches N.Hash.of (watched (N.stands nodes.old) (N.fetches nodes.old)
-        (N.fetches nodes.new)) frame.now.rect frame.now.first.now }
+        (N.fetches nodes.new)) (N.says nodes.old) frame.now.rect frame.now.first.now }
 {
     match &frame.rect {
         None => Ok(Worth::Sound),
@@ -95,11 +94,11 @@ fn audit_second<N: Nodes>(
     ensures told { IfSome (N.stands nodes.old).tree (λ t. IfOk result (λ w. w
         ≡ part_worth (by (N.stands nodes.old).version N.Hash.of) (owned (N.stands nodes.old) t)
         (rects_of records.now) proof.now)) }
-    ensures judged { IfOk result (WorthFor N.Hash.of (N.stands nodes.old) (rects_of records.now)
+    ensures judged { IfOk result (WorthFor N.Hash.of (N.says nodes.old) (rects_of records.now)
         proof.now) }
     ensures collides { IfOk result (Collides N.Hash.of) }
     ensures fetches { MayFetchPart N.Hash.of (watched (N.stands nodes.old) (N.fetches nodes.old)
-        (N.fetches nodes.new)) (rects_of records.now) proof.now }
+        (N.fetches nodes.new)) (N.says nodes.old) (rects_of records.now) proof.now }
 {
     let list = rects_of(alloc, records)?;
     audit_part(alloc, nodes, &list, proof)
@@ -120,11 +119,11 @@ fn audit_behind<N: Nodes>(
     ensures told { IfSome (N.stands nodes.old).tree (λ t. IfOk result (λ v. v
         ≡ behind (part_worth (by (N.stands nodes.old).version N.Hash.of)
         (owned (N.stands nodes.old) t) (rects_of joined.records) proof.now) joined.pairs)) }
-    ensures judged { IfOk result (FindsBehind N.Hash.of (N.stands nodes.old)
+    ensures judged { IfOk result (FindsBehind N.Hash.of (N.says nodes.old)
         (rects_of joined.records) proof.now joined.pairs) }
     ensures collides { (f : List ℕ → List ℕ) → IfOk result (ShowsCollision f N.Hash.of) }
     ensures fetches { MayFetchPart N.Hash.of (watched (N.stands nodes.old) (N.fetches nodes.old)
-        (N.fetches nodes.new)) (rects_of joined.records) proof.now }
+        (N.fetches nodes.new)) (N.says nodes.old) (rects_of joined.records) proof.now }
 {
     let Joined { records, pairs } = joined;
     let worth = audit_second(alloc, nodes, records.as_slice(), proof)?;
@@ -156,14 +155,15 @@ fn audit_parts<A: Nodes, B: Nodes>(
         frame.now.rect frame.now.first.now)
         (part_worth (by (B.stands second.old).version B.Hash.of) (owned (B.stands second.old) u)
         (rects_of joined.records) frame.now.second.now) joined.pairs))) }
-    ensures judged { IfOk result (FindsParts A.Hash.of B.Hash.of (A.stands first.old)
-        (B.stands second.old) (frame_value frame.now) (rects_of joined.records) joined.pairs) }
+    ensures judged { IfOk result (FindsParts A.Hash.of B.Hash.of (A.says first.old)
+        (B.says second.old) (frame_value frame.now) (rects_of joined.records) joined.pairs) }
     ensures collides { IfOk result (ShowsCollision A.Hash.of B.Hash.of) }
     ensures fetches_first { FirstFetches A.Hash.of (watched (A.stands first.old)
-        (A.fetches first.old) (A.fetches first.new)) frame.now.rect frame.now.first.now }
+        (A.fetches first.old) (A.fetches first.new)) (A.says first.old) frame.now.rect
+        frame.now.first.now }
     ensures fetches_second { MayFetchPart B.Hash.of (watched (B.stands second.old)
-        (B.fetches second.old) (B.fetches second.new)) (rects_of joined.records)
-        frame.now.second.now }
+        (B.fetches second.old) (B.fetches second.new)) (B.says second.old)
+        (rects_of joined.records) frame.now.second.now }
 {
     match audit_first(alloc, first, frame)? {
         Worth::Refused(fault) => Ok(JoinFinding::Refused(JoinFault::First(fault))),
@@ -205,16 +205,14 @@ fn audit_frame<A: Nodes, B: Nodes>(
         (λ u. IfOk result (FindsFrame (by (A.stands first.old).version A.Hash.of)
         (by (B.stands second.old).version B.Hash.of) (owned (A.stands first.old) t)
         (owned (B.stands second.old) u) at (frame_value frame.now)))) }
-    ensures judged { IfOk result (FindsFrameFor A.Hash.of B.Hash.of (A.stands first.old)
-        (B.stands second.old) at (frame_value frame.now)) }
+    ensures judged { IfOk result (FindsFrameFor A.Hash.of B.Hash.of (A.says first.old)
+        (B.says second.old) at (frame_value frame.now)) }
     ensures collides { IfOk result (ShowsCollision A.Hash.of B.Hash.of) }
     ensures fetches { FrameFetches A.Hash.of B.Hash.of
         (watched (A.stands first.old) (A.fetches first.old) (A.fetches first.new))
-        (watched (B.stands second.old) (B.fetches second.old) (B.fetches second.new)) at
-        (frame_value frame.now) }
+        (watched (B.stands second.old) (B.fetches second.old) (B.fetches second.new))
+        (A.says first.old) (B.says second.old) at (frame_value frame.now) }
 {
-    are_bytes(frame.first);
-    are_bytes(frame.second);
     let one = first.top();
     let other = second.top();
     let one = root_of::<A::Hash>(&one);
@@ -255,22 +253,23 @@ pub fn audit_join<A: Nodes, B: Nodes>(
     // Of maps of version 2 just the honest proof is found to be sound, with all their pairs.
     ensures honest { IfSome (A.stands first.old).tree (λ t. IfSome (B.stands second.old).tree
         (λ u. (A.stands first.old).version ≡ Two → (B.stands second.old).version ≡ Two
-        → WellFormed t → WellFormed u → IfOk result (FindsHonestJoin A.Hash.of B.Hash.of
-        (owned (A.stands first.old) t) (owned (B.stands second.old) u) proof.now))) }
-    // Told or not, what is found goes by the verdict against the root digests of heads that such
-    // maps may tell.
+        → IfOk result (FindsHonestJoin A.Hash.of B.Hash.of (owned (A.stands first.old) t)
+        (owned (B.stands second.old) u) proof.now))) }
+    // Told or not, what is found goes by the verdict against the root digests of what the maps say
+    // of themselves.
     ensures judged { IfOk result (FindsForJoin A.Hash.of B.Hash.of (A.stands first.old)
-        (B.stands second.old) proof.now) }
+        (B.stands second.old) (A.says first.old) (B.says second.old) proof.now) }
     // Told or not, two strings that are shown differ and have one hash.
     ensures collides { IfOk result (ShowsCollision A.Hash.of B.Hash.of) }
     // No rule on a flag or a squared radius is broken in a part, since there is none.
     ensures rules { IfOk result BreaksNoFlag }
     // No more nodes of either map are fetched than accepted bytes open, and none for bytes that are
-    // refused. That is by the verdict against the root digests of heads that such maps may tell,
-    // and where the trees are told, of those.
+    // refused. That is by the same verdict, and where the trees are told, by the verdict against
+    // the root digests of those.
     ensures fetches { FetchesForJoin A.Hash.of B.Hash.of
         (watched (A.stands first.old) (A.fetches first.old) (A.fetches first.new))
-        (watched (B.stands second.old) (B.fetches second.old) (B.fetches second.new)) proof.now }
+        (watched (B.stands second.old) (B.fetches second.old) (B.fetches second.new))
+        (A.says first.old) (B.says second.old) proof.now }
     ensures fetched_first { IfSome (A.stands first.old).tree (λ t.
         IfSome (B.stands second.old).tree (λ u. A.fetches first.new ≤ A.fetches first.old
         + join_first_opened (held (by (A.stands first.old).version A.Hash.of)

@@ -15,7 +15,7 @@ use std::marker::Model;
 /// proof opens the node, and all others it leaves out.
 ///
 /// The rectangles are kept so that a question takes in proportion to log n steps whatever they are,
-/// and a rectangle some 90 bytes. Contracts see their list.
+/// and a rectangle some 90 bytes. No clause says so. Contracts see their list.
 #[derive(Drop)]
 pub struct Meets {
     reach: Box<Reach>,

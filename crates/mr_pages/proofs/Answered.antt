@@ -2,7 +2,7 @@
 use Rattle.std.proofs.Common.{Fits, w8, ◌≡◌, ℕ, zero, suc, ◌+◌, ◌*◌, ◌/◌, ◌<◌, ◌≤◌, ◌^◌, true, false, List, [], ◌++◌, length, take, drop, get_or, sym, refl, ap, subst, ◌∙◌, arith, inl, inr}
 use Rattle.std.specs.Prelude.{⊤, Bool, max, min, Option, Some, None, option_map, Result, Ok, Err, replicate, if◌then◌else◌, MatchOption, IfOk, IfSome, IsSome}
 use Rattle.std.proofs.lemmas.List.{get_or_default}
-use Rattle.mr_record.specs.private.Bytes.{AreBytes}
+use Rattle.mr_outside.specs.Bytes.{AreBytes}
 use Rattle.mr_tree.specs.WellFormed.{WellFormed, HasLayers}
 use Rattle.mr_tree.specs.declared.tree.Tree.{Tree}
 use Rattle.std.proofs.lemmas.Bool.{both_ways}

@@ -1,7 +1,7 @@
 -- What opening a named file answers.
 use Rattle.std.specs.Prelude.{◌≡◌, ⊤, ◌⊎◌, ℕ, ◌/◌, ◌≤◌, max, min, List, length, Some, Result, Ok, Err, IsErrOf}
 use Rattle.mr_tree.specs.declared.tree.Tree.{Tree}
-use Rattle.mr_record.specs.private.Bytes.{AreBytes}
+use Rattle.mr_outside.specs.Bytes.{AreBytes}
 use Rattle.mr_record.specs.declared.version.Version.{Version}
 use Rattle.mr_outside.specs.Faults.{Rose}
 use Rattle.mr_outside.specs.State.{Shelved}

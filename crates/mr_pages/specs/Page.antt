@@ -4,7 +4,7 @@ use Rattle.std.specs.Prelude.{◌≡◌, ◌≢◌, ℕ, ◌^◌, ◌<◌, ◌�
 use Rattle.std.specs.List.{AllByRecursion}
 use Rattle.std.specs.Result.{result_ok}
 use Rattle.mr_geom.specs.Rectangle.{Rectangle, IsOrdered, FitsMap}
-use Rattle.mr_record.specs.private.Bytes.{AreBytes}
+use Rattle.mr_outside.specs.Bytes.{AreBytes}
 use Rattle.mr_record.specs.Record.{IsRecord, HasLayer}
 use Rattle.mr_record.specs.declared.version.Version.{Version}
 use Rattle.mr_record.specs.Version.{told}

@@ -2,7 +2,7 @@
 
 ghost use Rattle.std.specs.Prelude.{◌≡◌, ◌≤◌, ◌+◌, ◌/◌, ⊤, ℕ, List, length, max, Some, Err, IfOk};
 ghost use Rattle.mr_outside.specs.Told.{OfFile, HoldBytes};
-ghost use Rattle.mr_record.specs.private.Bytes.{AreBytes};
+ghost use Rattle.mr_outside.specs.Bytes.{AreBytes};
 ghost use Rattle.mr_record.specs.declared.version.Version as versions;
 ghost use Rattle.mr_pages.specs.PageBytes.{form_by};
 ghost use Rattle.mr_tree.specs.Snapshot.{tree_of};

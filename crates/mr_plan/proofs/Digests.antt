@@ -7,7 +7,7 @@ use Rattle.std.proofs.lemmas.Slice.Eq.{bytes_eq-Decides}
 use Rattle.std.proofs.lemmas.List.{get_or_past}
 use Rattle.hex.specs.Hex.{IsBytes, lower_digits, encode_lower, decode_of}
 use Rattle.hex.proofs.HexLemmas.{length-encode_with, decode_of-encode_lower}
-use Rattle.mr_record.specs.private.Bytes.{AreBytes}
+use Rattle.mr_outside.specs.Bytes.{AreBytes}
 use Rattle.mr_record.specs.RecordText.{is_lower_digit, ok_bytes, payload_of}
 use Rattle.mr_record.proofs.Payloads.{IsPayload, payload_of-written, all_lower_text}
 use Rattle.mr_plan.specs.private.Asking.{digest_of_word}

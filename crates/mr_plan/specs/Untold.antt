@@ -1,18 +1,22 @@
 -- What a command may come to over files that are not told. Where it reads pages of a map again, a
 -- page may be another one by then; over files that are told none ever is.
-use Rattle.std.specs.Prelude.{◌≡◌, ◌≢◌, ◌⊎◌, ◌↔◌, ⊤, true, ℕ, ◌^◌, ◌<◌, ◌≤◌, Bool, List, length, Option, Some, None, IfSome, IsNone, Ok, Err}
+use Rattle.std.specs.Prelude.{◌≡◌, ◌≢◌, ◌⊎◌, ◌↔◌, ⊤, false, true, ℕ, ◌^◌, ◌<◌, ◌≤◌, Bool, nat_lt, List, [], ◌∷◌, length, Option, Some, None, IfSome, IsNone, Ok, Err}
+use Rattle.std.specs.List.{list_any}
 use Rattle.mr_outside.specs.Files.{Files}
 use Rattle.mr_journal.specs.Images.{Image}
-use Rattle.mr_record.specs.private.Bytes.{AreBytes}
+use Rattle.mr_outside.specs.Bytes.{AreBytes}
 use Rattle.mr_record.specs.declared.record.Record.{Record}
 use Rattle.mr_record.specs.declared.text_fault.TextFault.{TextFault}
 use Rattle.mr_record.specs.declared.version.Version.{Version}
+use Rattle.mr_record.specs.declared.version.Version.TheVariants.{One, Two}
+use Rattle.mr_tree.specs.Tree.{records}
 use Rattle.mr_tree.specs.Digest.{root_preimage}
 use Rattle.mr_tree.specs.Limits.{count_limit, level_limit}
 use Rattle.mr_tree.specs.Nodes.{MapModel, root_entry}
 use Rattle.mr_tree.specs.View.{IsChild}
 use Rattle.mr_tree.specs.declared.child.Child.{Child}
-use Rattle.mr_pages.specs.Law.{IsMapFile, map_root}
+use Rattle.mr_tree.specs.declared.nodes.Top.{Top}
+use Rattle.mr_pages.specs.Law.{IsMapFile, map_in, map_root}
 use Rattle.mr_pages.specs.declared.opening.Opened.{Opened}
 use Rattle.mr_pages.specs.Opening.{SomeFile}
 use Rattle.mr_pages.specs.declared.error.MapErr.TheVariants as errors
@@ -20,8 +24,12 @@ use Rattle.mr_pages.specs.declared.rule.MapFault.{MapFault}
 use Rattle.mr_pages.specs.declared.rule.MapRule.{MapRule}
 use Rattle.mr_pages.specs.declared.rule.MapRule.TheVariants as rule
 use Rattle.mr_batch.specs.Admissible.{batch_fault}
+use Rattle.mr_batch.specs.Applied.{IsAdmissible}
 use Rattle.mr_batch.specs.BatchText.{batch_of_text}
 use Rattle.mr_batch.specs.Changes.{Changes}
+use Rattle.mr_batch.specs.Replay.{replay}
+use Rattle.mr_batch.specs.declared.change.Change.{Change}
+use Rattle.mr_batch.specs.declared.change.Change.TheVariants.{Add, Remove}
 use Rattle.mr_batch.specs.declared.admission.BatchFault.{BatchFault}
 use Rattle.mr_query.specs.declared.query.Query.{Query}
 use Rattle.mr_check.specs.Versions.{proof_version}
@@ -69,13 +77,14 @@ abbrev pub IsRefused : (List ℕ → List ℕ) → (map : List ℕ) → Outcome 
 IsRefused hash map said = (said ≡ says_missing map) ⊎ IsBadMap hash said
 
 -- What was found of the bytes of a proof: by their verdict against the root digest of what some map
--- says of itself its fault, or its answer as sound; or, where it accepts, two strings that differ
--- and have one hash.
+-- says of itself its fault, or its answer as sound; or, where it accepts, two byte strings that
+-- differ and have one hash.
 pub record IsFinding (hash : List ℕ → List ℕ) (query : Query) (bytes : List ℕ) (finding : Finding)
     : Type 0 where
   pub stands : MapModel
   pub are : AreBytes bytes
-  pub judged : FindsFor hash stands query bytes finding
+  pub top : Top
+  pub judged : FindsFor hash stands top query bytes finding
   pub collides : ShowsCollision hash finding
 
 -- the same of the bytes of a proof of a count
@@ -83,7 +92,8 @@ pub record IsCountFinding (hash : List ℕ → List ℕ) (way : Key → Way) (by
     (finding : ChoiceFinding) : Type 0 where
   pub stands : MapModel
   pub are : AreBytes bytes
-  pub judged : choices.FindsForChoice hash stands count_letter way bytes finding
+  pub top : Top
+  pub judged : choices.FindsForChoice hash stands top count_letter way bytes finding
   pub collides : choices.ShowsCollision hash finding
 
 -- only proofs of the second version may come of what is asked, of which a map of the first has none
@@ -170,27 +180,48 @@ abbrev pub IsBadMapHere : (List ℕ → List ℕ) → (map : List ℕ) → Outco
 IsBadMapHere hash map said = (fault : MapFault) × SomeFile hash (Err (errors.Map fault))
     × IsSaidInPlace BadMap (bad_map_line fault) map said
 
--- why the batch of some text may not be applied to some records at some batch
-abbrev pub IsBadBatchHere : (map : List ℕ) → Outcome → Type 0
-IsBadBatchHere map said = (v : Version) × (text : List ℕ) × AreBytes text × ((batch : Changes)
-    × (batch_of_text v text ≡ Ok batch) × ((rs : List Record) × (held : ℕ) × ((fault : BatchFault)
-    × (batch_fault rs held batch ≡ Some fault)
-    × IsSaidInPlace BadBatch (bad_batch_line fault) map said)))
+-- some bytes stand for this map
+abbrev pub HoldsSome : (List ℕ → List ℕ) → Opened → Type 0
+HoldsSome hash m = (bytes : List ℕ) × AreBytes bytes × IsMapFile hash bytes m
 
--- the root digest of the map that some bytes stand for, which the file then holds
+-- some text is of this batch, whose lines are of this version
+abbrev pub SpellsBatch : Version → Changes → Type 0
+SpellsBatch v batch = (text : List ℕ) × AreBytes text × (batch_of_text v text ≡ Ok batch)
+
+-- a record on a layer above 0 comes in
+abbrev pub adds_layer : Change → Bool
+adds_layer (Add r) = nat_lt 0 r.layer
+adds_layer (Remove n) = false
+
+-- some bytes stand for a map of version 1, which has no layers, and the batch of some text of
+-- version 2 asks for one
+abbrev pub LacksLayersHere : (List ℕ → List ℕ) → (map : List ℕ) → Outcome → Type 0
+LacksLayersHere hash map said = (batch : Changes) × SpellsBatch Two batch
+    × (list_any adds_layer batch.list ≡ true) × ((m : Opened) × HoldsSome hash m
+    × (m.version ≡ One) × IsSaidInPlace NeedsVersion2 needs_version_2_line map said)
+
+-- why the batch of some text may not be applied to the map that some bytes stand for
+abbrev pub IsBadBatchHere : (List ℕ → List ℕ) → (map : List ℕ) → Outcome → Type 0
+IsBadBatchHere hash map said = (v : Version) × (batch : Changes) × SpellsBatch v batch
+    × ((m : Opened) × HoldsSome hash m × ((fault : BatchFault)
+    × (batch_fault (records m.tree) m.batch batch ≡ Some fault)
+    × IsSaidInPlace BadBatch (bad_batch_line fault) map said))
+
+-- The root digest of the map that some bytes stand for, after the batch of some text, which may be
+-- applied to it. The file then holds bytes of that map.
 abbrev pub IsRootHere : (List ℕ → List ℕ) → (map : List ℕ) → Outcome → Type 0
-IsRootHere hash map said = (made : Opened) × (bytes : List ℕ) × IsMapFile hash bytes made
-    × ((was : Image)
+IsRootHere hash map said = (v : Version) × (batch : Changes) × SpellsBatch v batch
+    × ((m : Opened) × HoldsSome hash m × IsAdmissible (records m.tree) m.batch batch
+    × ((made : Opened) × (made ≡ map_in m.version (replay m.tree (batch ∷ [])) batch.number)
+    × ((bytes : List ℕ) × IsMapFile hash bytes made × ((was : Image)
     × (said ≡ say_in_place Done (digest_line (map_root hash made)) map was
-    (Some (content.text bytes))))
+    (Some (content.text bytes)))))))
 
--- It is missing, or the batch is; or why some batch is not applied is said, or some root. That the
--- map has no layers, and the batch some, comes where it was of version 2 when that was asked for.
+-- It is missing, or the batch is; or why some batch is not applied is said, or some root.
 abbrev pub MaySayApplyHere : (List ℕ → List ℕ) → (map batch : List ℕ) → Outcome → Type 0
 MaySayApplyHere hash map batch said = (said ≡ says_missing map) ⊎ (said ≡ says_missing batch)
-    ⊎ IsBadText said ⊎ IsBadMapHere hash map said
-    ⊎ IsSaidInPlace NeedsVersion2 needs_version_2_line map said ⊎ IsBadBatchHere map said
-    ⊎ IsRootHere hash map said
+    ⊎ IsBadText said ⊎ IsBadMapHere hash map said ⊎ LacksLayersHere hash map said
+    ⊎ IsBadBatchHere hash map said ⊎ IsRootHere hash map said
 
 -- ---- all commands
 

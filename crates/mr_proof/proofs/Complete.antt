@@ -241,7 +241,7 @@ record OwnCut (s : Scheme) (t : Tree) (b : ℕ) (a : Question) (P : Option Cut) 
   cut : IfSome P (λ C. CutOf s C t)
   opened : filter (λ (r : Record). opens_at (ways_of a t) (record_key r)) (records t)
       ≡ filter (λ (r : Record). opens_at (ways_of a t) (record_key r)) (opened_records P)
-  short : length (proof_for s a t b) < 2 ^ 30
+  short : length (proof_for s a t b) < 2 ^ 28
   -- where the records are of the scheme's version
   fits : IsLayered s.version t → FitsPart (honest_head s a t b) P
 
@@ -310,7 +310,7 @@ own_cut s h t b a law well =
 
 -- the honest proof of every map is short, also of one of another version
 pub honest_short : (s : Scheme) → IsSized s.of → (a : Question) → IsLawful a → (t : Tree) (b : ℕ) → WellFormed t
-    → length (proof_for s a t b) < 2 ^ 30
+    → length (proof_for s a t b) < 2 ^ 28
 honest_short s h a law t b well = (own_cut s h t b a law well).short
 
 -- the level of a tree without records

@@ -5,7 +5,7 @@ use Rattle.std.specs.Int.{w64, w128, to_be_bytes, from_be_bytes}
 use Rattle.std.proofs.lemmas.Bool.{eqb-true, ltb-false, leb-true, and_parts, or_cases}
 use Rattle.std.proofs.lemmas.List.{take-append-drop, length-take-le, length-append}
 use Rattle.mr_geom.specs.Rectangle.{Rectangle, IsOrdered, FitsMap}
-use Rattle.mr_record.specs.private.Bytes.{AreBytes}
+use Rattle.mr_outside.specs.Bytes.{AreBytes}
 use Rattle.mr_record.specs.Record.{rectangle_bytes}
 use Rattle.mr_record.specs.Version.{version_byte, highest_layer}
 use Rattle.mr_record.specs.declared.version.Version.TheVariants.{One, Two}

@@ -18,6 +18,7 @@ pub mod HonestCut
 pub mod KeptRecords
 pub mod Laws
 pub mod HonestSize
+pub mod CutLevels
 pub mod PreimageBytes
 pub mod Complete
 pub mod UniqueCut

@@ -25,11 +25,10 @@ use Rattle.mr_proof.specs.Reading.{kind_in}
 use Rattle.mr_proof.specs.Clash.{differ, or_else, children, children_in, node_clash, children_clash, part_clash, pair_clash, if_said, clash_of}
 use Rattle.mr_proof.specs.Headline.{HonestProofIsQuiet, HonestIsQuiet}
 use Rattle.mr_proof.proofs.Values.{bytes_same}
-use Rattle.mr_proof.proofs.PreimageBytes.{IsSized}
+use Rattle.mr_proof.proofs.PreimageBytes.{IsSized, preimage-Leaf, preimage-Inner}
 use Rattle.mr_proof.proofs.Laws.{is_lawful}
 use Rattle.mr_proof.proofs.Complete.{Levels, Even, below_levels, entry_cuts, root_same, honest_stands}
 use Rattle.mr_proof.proofs.Pairs.{kind_spelled, pair_found_of}
-use Rattle.mr_proof.proofs.SameNodes.{preimage-Leaf, preimage-Inner}
 
 differ_same : (x y : List ℕ) → x ≡ y → differ x (Some y) ≡ None
 differ_same x y e = rw (bytes_same x y e) refl

@@ -7,21 +7,21 @@ use Rattle.std.proofs.lemmas.Bool.{cases_Bool, false≢true}
 use Rattle.std.proofs.lemmas.List.{nil_from_length, length-map, length-append}
 use Rattle.std.proofs.lemmas.List.Elements.{recursion_from_All}
 use Rattle.mr_geom.specs.Rectangle.{Rectangle}
+use Rattle.mr_outside.specs.Bytes.{AreBytes}
 use Rattle.mr_record.specs.Record.{IsRecord, HasLayer, record_bytes, rectangle_bytes}
 use Rattle.mr_record.specs.declared.version.Version.{Version}
 use Rattle.mr_record.specs.declared.version.Version.TheVariants.{One, Two}
 use Rattle.mr_record.specs.Version.{told}
 use Rattle.mr_record.specs.declared.record.Record.{Record}
 use Rattle.mr_record.proofs.RecordFields.{length-rectangle_bytes}
-use Rattle.mr_tree.specs.Limits.{count_limit}
+use Rattle.mr_tree.specs.Limits.{count_limit, level_limit}
 use Rattle.mr_tree.specs.Digest.{Scheme, entry_bytes, rect_bytes, word_bytes, node_preimage, level_over}
 use Rattle.mr_tree.specs.Digest as digests
+use Rattle.mr_tree.specs.private.Slim.{IsSlim, IsSlimNode}
 use Rattle.mr_tree.specs.declared.entry.Entry.{Entry}
 use Rattle.mr_tree.specs.declared.tree.Tree.{Tree}
 use Rattle.mr_tree.specs.declared.tree.Tree.TheVariants as tree
 use Rattle.mr_tree.specs.declared.tree.Tree.TheOpen as node
-use Rattle.mr_tree.specs.declared.tree.Tree.TheOpen.{Tree-F}
-use Rattle.mr_tree.specs.declared.tree.Tree.TheFolds.{map-Tree}
 use Rattle.mr_tree.proofs.Equations.{entry_rect, entry_mask, entry_count, records-Inner, digest_of_preimage}
 use Rattle.mr_tree.proofs.RootLengths.{length-word_bytes}
 use Rattle.mr_tree.proofs.Induction.{tree_induction, here-Leaf, every_child}
@@ -33,13 +33,20 @@ use Rattle.mr_proof.proofs.Values.{same_bytes, bytes_same}
 use Rattle.mr_proof.proofs.Spellings.{fronts, cons_parts, same_word, same_rectangle, same_records}
 use Rattle.mr_proof.proofs.LayeredTrees.{IsLayered, IsLayeredNode, HasFew, few_each, full_told}
 use Rattle.mr_proof.proofs.Full.{IsFull, IsFullNode, IsThere, there_union, there_records, there_tree, not_full_empty}
+use Rattle.mr_proof.proofs.PreimageBytes.{IsSized, preimage-Leaf, preimage-Inner, preimage_are_bytes, leaf_shown_bytes, below_are_bytes}
 
 -- ---- no pair, or a collision
 
-pub none_differ : (hash : List ℕ → List ℕ) (x y : List ℕ) → hash x ≡ hash y → NoneAnd hash (differ x (Some y)) (x ≡ y)
-none_differ hash x y e = elim (cases_Bool (bytes_eq x y)) [
+pub none_differ : (hash : List ℕ → List ℕ) (x y : List ℕ) → AreBytes x → AreBytes y → hash x ≡ hash y
+    → NoneAnd hash (differ x (Some y)) (x ≡ y)
+none_differ hash x y p q e = elim (cases_Bool (bytes_eq x y)) [
   | inl t ↦ rw t (same_bytes x y t)
-  | inr f ↦ rw f (record { differ = λ is. false≢true (sym f ∙ bytes_same x y is); same = e })
+  | inr f ↦ rw f (record {
+    differ = λ is. false≢true (sym f ∙ bytes_same x y is);
+    same = e;
+    owned_bytes = p;
+    shown_bytes = q;
+  })
 ]
 
 pub none_both : (hash : List ℕ → List ℕ) (c d : Option Pair) (K L : Type 0) → NoneAnd hash c K → (K → NoneAnd hash d L)
@@ -165,16 +172,6 @@ mutual
 
 -- ---- one node
 
-pub preimage-Leaf : (s : Scheme) (rs : List Record)
-    → digests.preimage s (tree.Leaf rs) ≡ 0x4c ∷ length rs ∷ flat_map (record_bytes s.version) rs
-preimage-Leaf s rs =
-    ap (λ (x : Tree-F Tree). node_preimage s.version (map-Tree Tree Entry (digests.entry s) x)) (tree.outs-Leaf rs)
-
-pub preimage-Inner : (s : Scheme) (ts : List Tree)
-    → digests.preimage s (tree.Inner ts) ≡ node_preimage s.version (node.Inner (map (digests.entry s) ts))
-preimage-Inner s ts =
-    ap (λ (x : Tree-F Tree). node_preimage s.version (map-Tree Tree Entry (digests.entry s) x)) (tree.outs-Inner ts)
-
 record Counted (n m : ℕ) (x y : List ℕ) : Type 0 where
   count : n ≡ m
   rest : x ≡ y
@@ -208,20 +205,22 @@ leaf_same s rs each layers =
 record InnerWith (s : Scheme) (es : List Entry) (t : Tree) : Type 0 where
   is : t ≡ tree.Inner (children t)
   full : AllByRecursion IsFull (children t)
+  slim : AllByRecursion IsSlim (children t)
   layered : AllByRecursion (IsLayered s.version) (children t)
   few : AllByRecursion HasFew (children t)
   count : length (children t) ≡ length es
   bytes : flat_map (entry_bytes s.version) (map (digests.entry s) (children t)) ≡ flat_map (entry_bytes s.version) es
 
-inner_with : (s : Scheme) (es : List Entry) (ts : List Tree) → IsFull (tree.Inner ts)
+inner_with : (s : Scheme) (es : List Entry) (ts : List Tree) → IsFull (tree.Inner ts) → IsSlim (tree.Inner ts)
     → IsLayered s.version (tree.Inner ts) → HasFew (tree.Inner ts) → length ts ≡ length es
     → flat_map (entry_bytes s.version) (map (digests.entry s) ts) ≡ flat_map (entry_bytes s.version) es
     → InnerWith s es (tree.Inner ts)
-inner_with s es ts full layered few count bytes =
+inner_with s es ts full slim layered few count bytes =
     let same : children (tree.Inner ts) ≡ ts = ap children_in (tree.outs-Inner ts) in
     record {
       is = ap tree.Inner (sym same);
       full = subst (AllByRecursion IsFull) (sym same) (every_child IsFullNode ts full);
+      slim = subst (AllByRecursion IsSlim) (sym same) (every_child IsSlimNode ts slim);
       layered = subst (AllByRecursion (IsLayered s.version)) (sym same)
           (every_child (IsLayeredNode s.version) ts layered);
       few = subst (AllByRecursion HasFew) (sym same) (few_each ts (subst (λ (rs : List Record). length rs ≤ count_limit)
@@ -230,19 +229,19 @@ inner_with s es ts full layered few count bytes =
       bytes = ap (λ (us : List Tree). flat_map (entry_bytes s.version) (map (digests.entry s) us)) same ∙ bytes;
     }
 
-inner_same : (s : Scheme) (es : List Entry) (t : Tree) → IsFull t → IsLayered s.version t → HasFew t
+inner_same : (s : Scheme) (es : List Entry) (t : Tree) → IsFull t → IsSlim t → IsLayered s.version t → HasFew t
     → digests.preimage s t ≡ node_preimage s.version (node.Inner es) → InnerWith s es t
 inner_same s es =
     tree_induction
-    (λ t. IsFull t → IsLayered s.version t → HasFew t
+    (λ t. IsFull t → IsSlim t → IsLayered s.version t → HasFew t
     → digests.preimage s t ≡ node_preimage s.version (node.Inner es) → InnerWith s es t)
-    (λ full layered few e. absurd (not_full_empty full))
-    (λ ss full layered few e. absurd (other_letter _ _ (sym (preimage-Leaf s ss) ∙ e)))
-    (λ ts below full layered few e.
+    (λ full slim layered few e. absurd (not_full_empty full))
+    (λ ss full slim layered few e. absurd (other_letter _ _ (sym (preimage-Leaf s ss) ∙ e)))
+    (λ ts below full slim layered few e.
     let own = map (digests.entry s) ts in
     let c = third_on 0x4e 0x4e (level_over own) (level_over es) (length own) (length es)
     (flat_map (entry_bytes s.version) own) (flat_map (entry_bytes s.version) es) (sym (preimage-Inner s ts) ∙ e) in
-    inner_with s es ts full layered few (sym (length-map ts (digests.entry s)) ∙ c.count) c.rest)
+    inner_with s es ts full slim layered few (sym (length-map ts (digests.entry s)) ∙ c.count) c.rest)
 
 -- ---- all nodes
 
@@ -268,41 +267,47 @@ pruned_same s v t x full few fit e =
     )
 
 mutual
-  pub cut_or_clash : (s : Scheme) → ((m : List ℕ) → length (s.of m) ≡ 32) → (v : ℕ) (t : Tree) (P : Cut)
-      → IsFull t → IsLayered s.version t → HasFew t → FitsCut s.version v P
+  pub cut_or_clash : (s : Scheme) → IsSized s.of → (v : ℕ) (t : Tree) (P : Cut) → v ≤ level_limit
+      → IsFull t → IsSlim t → IsLayered s.version t → HasFew t → FitsCut s.version v P
       → SameEntry s.version (digests.entry s t) (entry s v P) → NoneAnd s.of (node_clash s s v t P) (CutOf s P t)
-  cut_or_clash s sized v t (Pruned x) full layered few fit e = pruned_same s v t x full few fit e
-  cut_or_clash s sized v t (Leaf rs) full layered few fit e =
+  cut_or_clash s h v t (Pruned x) low full slim layered few fit e = pruned_same s v t x full few fit e
+  cut_or_clash s h v t (Leaf rs) low full slim layered few fit e =
       let x = digests.preimage s t in
       let y = node_preimage s.version (node.Leaf rs) in
       none_more s.of (differ x (Some y)) (x ≡ y) (t ≡ tree.Leaf rs)
-      (none_differ s.of x y (same_hash s t y e.digest))
+      (none_differ s.of x y (preimage_are_bytes s h t full slim) (leaf_shown_bytes s.version v rs fit)
+      (same_hash s t y e.digest))
       (leaf_same s rs (recursion_from_All IsRecord rs fit.each) (recursion_from_All (HasLayer s.version) rs fit.layers)
       t full layered)
-  cut_or_clash s sized v t (Inner cuts) full layered few fit e =
+  cut_or_clash s h v t (Inner cuts) low full slim layered few fit e =
       let x = digests.preimage s t in
       let y = below s v cuts in
       none_both s.of (differ x (Some y)) (children_clash s s (v - 1) (children t) cuts) (x ≡ y)
-      (CutOf s (Inner cuts) t) (none_differ s.of x y (same_hash s t y e.digest)) (λ same.
-      let n = inner_same s (entries s (v - 1) cuts) t full layered few same in
+      (CutOf s (Inner cuts) t)
+      (none_differ s.of x y (preimage_are_bytes s h t full slim) (below_are_bytes s h v cuts low fit)
+      (same_hash s t y e.digest))
+      (λ same.
+      let n = inner_same s (entries s (v - 1) cuts) t full slim layered few same in
       none_more s.of (children_clash s s (v - 1) (children t) cuts) (CutsOf s cuts (children t))
       (CutOf s (Inner cuts) t)
-      (cuts_or_clash s sized (v - 1) (children t) cuts n.full n.layered n.few fit.1 n.count n.bytes)
+      (cuts_or_clash s h (v - 1) (children t) cuts (omega (arith, low)) n.full n.slim n.layered n.few fit.1 n.count
+      n.bytes)
       (λ all. (children t, n.is, all)))
 
-  pub cuts_or_clash : (s : Scheme) → ((m : List ℕ) → length (s.of m) ≡ 32) → (v : ℕ) (ts : List Tree)
-      (Ps : Cuts) → AllByRecursion IsFull ts → AllByRecursion (IsLayered s.version) ts → AllByRecursion HasFew ts
-      → FitCuts s.version v Ps → length ts ≡ length (entries s v Ps)
+  pub cuts_or_clash : (s : Scheme) → IsSized s.of → (v : ℕ) (ts : List Tree) (Ps : Cuts) → v ≤ level_limit
+      → AllByRecursion IsFull ts → AllByRecursion IsSlim ts → AllByRecursion (IsLayered s.version) ts
+      → AllByRecursion HasFew ts → FitCuts s.version v Ps → length ts ≡ length (entries s v Ps)
       → flat_map (entry_bytes s.version) (map (digests.entry s) ts) ≡ flat_map (entry_bytes s.version) (entries s v Ps)
       → NoneAnd s.of (children_clash s s v ts Ps) (CutsOf s Ps ts)
-  cuts_or_clash s sized v ts no_more full layered few fit long e = nil_from_length ts long
-  cuts_or_clash s sized v [] (first P Ps) full layered few fit long e = absurd (omega arith)
-  cuts_or_clash s sized v (t ∷ ts) (first P Ps) full layered few fit long e =
+  cuts_or_clash s h v ts no_more low full slim layered few fit long e = nil_from_length ts long
+  cuts_or_clash s h v [] (first P Ps) low full slim layered few fit long e = absurd (omega arith)
+  cuts_or_clash s h v (t ∷ ts) (first P Ps) low full slim layered few fit long e =
       let c = entry_front s.version (digests.entry s t) (entry s v P)
       (flat_map (entry_bytes s.version) (map (digests.entry s) ts)) (flat_map (entry_bytes s.version) (entries s v Ps))
-      (named_tree s sized t full.0) (named_cut s sized v P fit.0) e in
+      (named_tree s h.long t full.0) (named_cut s h.long v P fit.0) e in
       none_both s.of (node_clash s s v t P) (children_clash s s v ts Ps) (CutOf s P t)
-      (CutsOf s (first P Ps) (t ∷ ts)) (cut_or_clash s sized v t P full.0 layered.0 few.0 fit.0 c.here) (λ one.
+      (CutsOf s (first P Ps) (t ∷ ts))
+      (cut_or_clash s h v t P low full.0 slim.0 layered.0 few.0 fit.0 c.here) (λ one.
       none_more s.of (children_clash s s v ts Ps) (CutsOf s Ps ts) (CutsOf s (first P Ps) (t ∷ ts))
-      (cuts_or_clash s sized v ts Ps full.1 layered.1 few.1 fit.1 (omega arith) c.rest)
+      (cuts_or_clash s h v ts Ps low full.1 slim.1 layered.1 few.1 fit.1 (omega arith) c.rest)
       (λ all. (t, ts, refl, one, all)))

@@ -12,6 +12,7 @@ use Rattle.mr_record.specs.Version.{told}
 use Rattle.mr_tree.specs.declared.tree.Tree.{Tree}
 use Rattle.mr_tree.specs.declared.tree.Tree.TheVariants as tree
 use Rattle.mr_tree.proofs.Equations.{entry_level, entry_count, records-Empty, level-Empty}
+use Rattle.mr_tree.proofs.Slim.{slim_tree}
 use Rattle.mr_tree.proofs.Told.{count_told}
 use Rattle.mr_query.specs.Word.{IsQuery}
 use Rattle.mr_query.specs.Scan.{scan}
@@ -37,7 +38,7 @@ use Rattle.mr_proof.proofs.HonestCut.{some_part, no_part}
 use Rattle.mr_proof.proofs.Preimages.{entry-rect, entry-mask, entry-count}
 use Rattle.mr_proof.proofs.Pairs.{kind_spelled, pair_found_of}
 use Rattle.mr_proof.proofs.Soundness.{shows_from, proves_from}
-use Rattle.mr_proof.proofs.PreimageBytes.{IsSized}
+use Rattle.mr_proof.proofs.PreimageBytes.{IsSized, root_of_are_bytes, shown_root_bytes}
 use Rattle.mr_proof.proofs.NoClash.{queried_shape}
 use Rattle.mr_proof.proofs.Complete.{honest_scan}
 use Rattle.mr_proof.proofs.UniqueCut.{is_honest}
@@ -132,7 +133,7 @@ same_count s t h P one n counted =
     entry_count s t ∙ count_told s.version t ∙ ap (told s.version) n
     ∙ subst (λ (v : Version). told v h.count ≡ cut.count v P) one (sym counted) ∙ sym (entry-count s h.level P)
 
-by_part : (s : Scheme) → ((m : List ℕ) → length (s.of m) ≡ 32) → (a : Question) → IsLawful a → (t : Tree)
+by_part : (s : Scheme) → IsSized s.of → (a : Question) → IsLawful a → (t : Tree)
     (b : ℕ) (h : Head) (P : Option Cut) (bytes held : List ℕ) → WellFormed t
     → (t ≡ tree.Empty) ⊎ IsFull t → HasLayers s.version t → b < 2 ^ 64 → h.version ≡ s.version
     → ShowsCut s.of held a bytes (said h P) → digests.root_preimage_of s t b ≡ proof_preimage s.of h P
@@ -152,11 +153,11 @@ by_part s sized a law t b h (Some P) bytes held well (inr full) layers low one p
     let few = well.few in
     let less = p.spelled.head.count in
     let fit = subst (λ (v : Version). FitsCut v h.level P) one p.spelled.part.1 in
-    let there = subst IsThere (entry-rect s h.level P) (named_cut s sized h.level P fit).there in
+    let there = subst IsThere (entry-rect s h.level P) (named_cut s sized.long h.level P fit).there in
     let r = same_root s.version h.version b (length (records t)) h.batch h.count (digests.entry s t)
     (entry_said s h P) low (omega arith)
-    p.spelled.head.batch (omega arith) (some_record t full) p.spelled.part.0 (named_tree s sized t full).there there
-    same in
+    p.spelled.head.batch (omega arith) (some_record t full) p.spelled.part.0 (named_tree s sized.long t full).there
+    there same in
     let e : SameEntry s.version (digests.entry s t) (cut.entry s h.level P) =
     record {
       rect = r.same.rect ∙ sym (entry-rect s h.level P);
@@ -166,11 +167,12 @@ by_part s sized a law t b h (Some P) bytes held well (inr full) layers low one p
       digest = r.same.digest ∙ ap (λ (v : Version). cut.digest (by v s.of) h.level P) one;
     } in
     none_more s.of (node_clash s s h.level t P) (CutOf s P t) (MatchesHonest s t b a bytes (said h (Some P)))
-    (cut_or_clash s sized h.level t P full (layered_tree s.version t layers) well.few fit e)
+    (cut_or_clash s sized h.level t P p.spelled.head.level full (slim_tree t well) (layered_tree s.version t layers)
+    well.few fit e)
     (filled_own s a law t b h P bytes held full one p r.batch r.count (sym (entry_level s t) ∙ r.level))
 
 -- what bytes are worth that show what is asked
-pub shown_is_own : (s : Scheme) → ((m : List ℕ) → length (s.of m) ≡ 32) → (a : Question) → IsLawful a
+pub shown_is_own : (s : Scheme) → IsSized s.of → (a : Question) → IsLawful a
     → (t : Tree) (b : ℕ) (bytes : List ℕ) (x : Parsed) → WellFormed t → HasLayers s.version t → b < 2 ^ 64
     → ShowsCut s.of (root s t b) a bytes x → MatchesHonestOrCollides s t b a bytes x
 shown_is_own s sized a law t b bytes x well layers low p =
@@ -180,14 +182,16 @@ shown_is_own s sized a law t b bytes x well layers low p =
     (none_both s.of (differ (digests.root_preimage_of s t b) (Some (proof_preimage s.of h x.part)))
     (part_clash s (by h.version s.of) h.level t x.part)
     (digests.root_preimage_of s t b ≡ proof_preimage s.of h x.part) (MatchesHonest s t b a bytes x)
-    (none_differ s.of (digests.root_preimage_of s t b) (proof_preimage s.of h x.part) (sym p.held))
+    (none_differ s.of (digests.root_preimage_of s t b) (proof_preimage s.of h x.part)
+    (root_of_are_bytes s sized t b well (empty_or_full t well))
+    (shown_root_bytes s.of sized h x.part p.spelled.head p.spelled.part) (sym p.held))
     (λ same.
     let one : s.version ≡ h.version = version_said s t b h x.part same in
     subst (λ (v : Version). NoneAnd s.of (part_clash s (by v s.of) h.level t x.part) (MatchesHonest s t b a bytes x))
     one (by_part s sized a law t b h x.part bytes (root s t b) well (empty_or_full t well) layers low (sym one) p
     same)))
 
-pub accepted_matches_honest : (s : Scheme) → ((m : List ℕ) → length (s.of m) ≡ 32) → (a : Question) → IsLawful a
+pub accepted_matches_honest : (s : Scheme) → IsSized s.of → (a : Question) → IsLawful a
     → (bytes : List ℕ) → IsBytes bytes → AcceptedMatchesHonest s a bytes
 accepted_matches_honest s sized a law bytes fits = λ t b x well layers low e.
     shown_is_own s sized a law t b bytes x well layers low (shows_from s.of (root s t b) a bytes x law fits e)
@@ -199,7 +203,7 @@ headline s h q bytes is = λ t b answer well layers low p.
     let of : IsQueried p.said.head.kind = subst IsQueried (sym p.shows.kind) (queried_shape q.shape) in
     let kind : kind_in bytes ≡ kind_of q =
     kind_spelled p.said.head p.said.part bytes of p.shows.spelled ∙ p.shows.kind in
-    let worth = shown_is_own s h.long (question q) (is_lawful q is) t b bytes p.said well layers low p.shows in
+    let worth = shown_is_own s h (question q) (is_lawful q is) t b bytes p.said well layers low p.shows in
     none_more s.of (clash s t b bytes) (MatchesHonest s t b (question q) bytes p.said) (IsHonest s t b q bytes answer)
     (subst (λ (k : Kind). NoneAnd s.of (clash_of k s t b bytes) (MatchesHonest s t b (question q) bytes p.said))
     (sym kind) worth)

@@ -1,5 +1,6 @@
 -- The first two strings, of the owner and of a proof, that stand at one place and differ.
 use Rattle.std.specs.Prelude.{◌≡◌, ◌≢◌, ℕ, ◌-◌, if◌then◌else◌, List, [], ◌∷◌, Option, Some, None, bytes_eq}
+use Rattle.mr_outside.specs.Bytes.{AreBytes}
 use Rattle.mr_tree.specs.Digest as digests
 use Rattle.mr_tree.specs.Digest.{Scheme, by}
 use Rattle.mr_tree.specs.declared.tree.Tree.{Tree}
@@ -77,10 +78,12 @@ clash_of k s t batch bytes = if_said (pair_of k bytes) (pair_clash s t batch)
 abbrev pub clash : Scheme → Tree → (batch : ℕ) → List ℕ → Option Pair
 clash s t batch bytes = clash_of (kind_in bytes) s t batch bytes
 
--- two strings that differ and have one hash
+-- two byte strings that differ and have one hash
 pub record IsCollision (hash : List ℕ → List ℕ) (p : Pair) : Type 0 where
   pub differ : p.owned ≢ p.shown
   pub same : hash p.owned ≡ hash p.shown
+  pub owned_bytes : AreBytes p.owned
+  pub shown_bytes : AreBytes p.shown
 
 -- there is no pair and the fact holds, or there is one, which is a collision
 abbrev pub NoneAnd : (List ℕ → List ℕ) → Option Pair → Type 0 → Type 0

@@ -3,7 +3,7 @@
 use Rattle.std.specs.Prelude.{◌≡◌, ◌⊎◌, ℕ, ◌<◌, ◌≤◌, ◌^◌, ⊤, Bool, true, false, not, ◌==◌, ◌&&◌, ◌||◌, nat_le, if◌then◌else◌, List, [], ◌∷◌, length, slice_index, bytes_eq, Result, Ok, Err, pos}
 use Rattle.std.specs.Int.{w64, w128, from_be_bytes, to_be_bytes}
 use Rattle.mr_geom.specs.Rectangle.{Rectangle, FitsMap, in_order}
-use Rattle.mr_record.specs.private.Bytes.{AreBytes}
+use Rattle.mr_outside.specs.Bytes.{AreBytes}
 use Rattle.mr_record.specs.Record.{sides_of, rectangle_bytes}
 use Rattle.mr_record.specs.Version.{version_byte, highest_layer}
 use Rattle.mr_record.specs.declared.version.Version.{Version}

@@ -74,7 +74,7 @@ pub record IsHonestProof (s : Scheme) (t : Tree) (batch : ℕ) (a : Question) : 
   pub tight : IsTight a (honest_head s a t batch) (honest_part s a t)
   pub cut : IfSome (honest_part s a t) (λ P. CutOf s P t)
   pub held : root_found s.of (honest_head s a t batch) (honest_part s a t) ≡ root s t batch
-  pub short : length (proof_for s a t batch) < 2 ^ 30
+  pub short : length (proof_for s a t batch) < 2 ^ 28
 
 -- ---- of queries
 

@@ -3,7 +3,7 @@ use Rattle.std.specs.Prelude.{◌≡◌, ℕ, ◌-◌, ◌^◌, ◌<◌, ◌≤�
 use Rattle.std.specs.List.{flat_map}
 use Rattle.std.specs.Int.{w64, w128, to_be_bytes}
 use Rattle.mr_geom.specs.Rectangle.{IsOrdered, FitsMap}
-use Rattle.mr_record.specs.private.Bytes.{AreBytes}
+use Rattle.mr_outside.specs.Bytes.{AreBytes}
 use Rattle.mr_record.specs.Record.{IsRecord, HasLayer, record_bytes}
 use Rattle.mr_record.specs.Version.{version_byte, told}
 use Rattle.mr_record.specs.declared.version.Version.{Version}

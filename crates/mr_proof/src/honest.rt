@@ -55,7 +55,7 @@ pub fn honest_is_accepted<H: Hashes>(q: &Query)
         → IsHonestProof (by v H.of) t batch (question q.now) }
     // Its bytes are few, also where a mask is named of a map of version 1 and there is none.
     ensures short { (v : Version) (t : Tree) (batch : ℕ) → WellFormed t
-        → length (proof (by v H.of) t batch q.now) < 2 ^ 30 }
+        → length (proof (by v H.of) t batch q.now) < 2 ^ 28 }
 {
     is_query(q);
 }

@@ -14,8 +14,8 @@ use std::marker::Model;
 /// Points by their numbers, from left to right.
 ///
 /// To count those that lie low and to the left takes about 3 log n steps, whatever they are
-/// (Chazelle 1988). The second numbers stand in blocks of each power of two, and of those that are
-/// low in a block it is known how many are of its first half.
+/// (Chazelle 1988); no clause says so. The second numbers stand in blocks of each power of two, and
+/// of those that are low in a block it is known how many are of its first half.
 #[derive(Drop)]
 pub(crate) struct Corners {
     xs: Vec<i32>,

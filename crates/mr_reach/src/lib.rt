@@ -1,5 +1,5 @@
 //! Rectangles, kept so that whether a rectangle meets one of them takes few steps, whatever they
-//! are.
+//! are. No clause says how many.
 #![tactic(auto)]
 
 mod corners;

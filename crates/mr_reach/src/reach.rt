@@ -18,6 +18,7 @@ use std::marker::Model;
 /// A rectangle meets as many of them along one axis as begin at its end or before, less those that
 /// end before it begins. So it meets as many of them along both as four counts of corners say. A
 /// question takes about 12 log n steps whatever the rectangles are, and a rectangle some 90 bytes.
+/// No clause says so.
 #[derive(Drop)]
 pub struct Reach {
     list: Vec<Rect>,

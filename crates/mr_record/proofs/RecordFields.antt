@@ -8,7 +8,7 @@ use Rattle.std.proofs.lemmas.List.Folds.{drop_split}
 use Rattle.std.proofs.lemmas.Nat.{from_be_bytes-to_be_bytes_8}
 use Rattle.mr_geom.specs.Rectangle.{Rectangle, IsOrdered, FitsMap, in_order}
 use Rattle.mr_geom.proofs.Rectangles.{in_order_is}
-use Rattle.mr_record.specs.private.Bytes.{AreBytes}
+use Rattle.mr_outside.specs.Bytes.{AreBytes}
 use Rattle.mr_record.specs.Record.{IsRecord, HasLayer, layer_bytes, record_bytes, rectangle_bytes, sides_of}
 use Rattle.mr_record.specs.Version.{highest_layer, told}
 use Rattle.mr_record.specs.declared.version.Version.{Version}

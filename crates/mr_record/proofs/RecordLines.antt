@@ -14,7 +14,7 @@ use Rattle.mr_geom.proofs.Rectangles.{rectangle_of_some, true_from_T}
 use Rattle.mr_record.specs.declared.record.Record.{Record}
 use Rattle.mr_record.specs.declared.text_fault.TextRule.{TextRule}
 use Rattle.mr_record.specs.declared.text_fault.TextRule.TheVariants.{Form, Number, Coordinate, Order, Payload}
-use Rattle.mr_record.specs.private.Bytes.{AreBytes}
+use Rattle.mr_outside.specs.Bytes.{AreBytes}
 use Rattle.mr_record.specs.Decimal.{u64_of, i32_of, at_most}
 use Rattle.mr_record.specs.Lines.{fields_of, LacksByte}
 use Rattle.mr_record.specs.Results.{◌>>=◌}

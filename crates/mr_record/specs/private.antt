@@ -1,4 +1,3 @@
-pub mod Bytes
 pub mod Padding
 pub mod Numbers
 pub mod Gathered

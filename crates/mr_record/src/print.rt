@@ -6,7 +6,7 @@ ghost use Rattle.hex.specs.Hex.{encode_lower};
 ghost use Rattle.mr_outside.specs.Told.{TakesBytes, TakesFront};
 ghost use Rattle.mr_outside.specs.Causes.{SinkCauses};
 ghost use Rattle.mr_geom.specs.Rectangle.{IsOrdered, FitsMap};
-ghost use Rattle.mr_record.specs.private.Bytes.{AreBytes};
+ghost use Rattle.mr_outside.specs.Bytes.{AreBytes};
 ghost use Rattle.mr_record.specs.Record.{IsRecord, HasLayer, payload_limit};
 ghost use Rattle.mr_record.specs.RecordText.{payload_text, layer_text, line_of, text_of};
 ghost use Rattle.mr_record.specs.declared.version.Version.TheVariants.{One, Two};

@@ -1,7 +1,7 @@
 //! One record of a map.
 
 ghost use Rattle.std.specs.Prelude.{◌^◌, ◌<◌, All};
-ghost use Rattle.mr_record.specs.private.Bytes.{AreBytes};
+ghost use Rattle.mr_outside.specs.Bytes.{AreBytes};
 ghost use Rattle.mr_record.specs.Record.{IsRecord, HasLayer};
 ghost use Rattle.mr_record.specs.declared.version.Version.TheVariants.{Two};
 

@@ -31,7 +31,7 @@ use Rattle.mr_store.specs.CachedFile.{page_form, bytes_of, entries_of}
 use Rattle.mr_store.specs.declared.paged.Paged.{Paged}
 use Rattle.mr_outside.specs.declared.shelf.Shelf as shelves
 use Rattle.mr_tree.specs.declared.hash.Hashes as hashes
-use Rattle.mr_record.specs.private.Bytes.{AreBytes}
+use Rattle.mr_outside.specs.Bytes.{AreBytes}
 use Rattle.mr_record.specs.declared.version.Version.{Version}
 use Rattle.mr_record.specs.declared.version.Version.TheVariants.{One, Two}
 use Rattle.mr_tree.specs.Digest.{by}

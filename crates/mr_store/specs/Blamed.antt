@@ -24,7 +24,9 @@ numbers_in Empty = []
 numbers_in (Leaf rs) = numbers_of rs
 numbers_in (Inner children) = []
 
--- a tree of this version that breaks no rule, as that of a map or as one below its root
+-- A tree of this version that is not empty, as that of a map or as one below its root: with levels,
+-- numbers of entries of nodes, and records that a map may have. How high it is, how many records it
+-- has, and that no number is there twice, is not said here.
 pub record IsFine (v : Version) (root : Bool) (t : Tree) : Type 0 where
   pub one_level : every-Tree HasOneLevel t
   pub there : t ≢ variants.Empty

@@ -2,7 +2,7 @@
 
 ghost use Rattle.std.specs.Prelude.{◌≡◌, ◌≤◌, ◌+◌, ℕ, List, [], ⊤, length, true, IfOk, IfErr, IfSome, None, OnOk, OnErr, MatchResult};
 ghost use Rattle.mr_outside.specs.Told.{OfFile};
-ghost use Rattle.mr_record.specs.private.Bytes.{AreBytes};
+ghost use Rattle.mr_outside.specs.Bytes.{AreBytes};
 ghost use Rattle.mr_tree.specs.Tree.{records};
 ghost use Rattle.mr_batch.specs.Directory.{IsDirectoryOf};
 ghost use Rattle.mr_pages.specs.Page.{page_limit};

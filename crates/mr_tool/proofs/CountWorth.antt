@@ -3,7 +3,7 @@ use Rattle.std.proofs.Common.{◌≡◌, ℕ, ◌<◌, ◌^◌, List, ◌++◌, 
 use Rattle.std.specs.Prelude.{None, Result, Ok}
 use Rattle.std.proofs.lemmas.List.Elements.{recursion_from_All}
 use Rattle.mr_geom.specs.Rectangle.{Rectangle}
-use Rattle.mr_record.specs.private.Bytes.{AreBytes}
+use Rattle.mr_outside.specs.Bytes.{AreBytes}
 use Rattle.mr_record.specs.Record.{IsRecord}
 use Rattle.mr_record.specs.declared.version.Version.{Version}
 use Rattle.mr_tree.specs.Digest.{Scheme, by, root}
@@ -78,7 +78,7 @@ pub count_honest : (s : Scheme) → IsSized s.of → (way : Key → Way) → IsN
     → AcceptedChoiceIsHonest s count_letter way bytes
 count_honest s sized way narrow bytes all =
     accepted s count_letter way bytes narrow
-    (accepted_matches_honest s sized.long (count_question way) (law_of way narrow) bytes (from_bytes bytes all))
+    (accepted_matches_honest s sized (count_question way) (law_of way narrow) bytes (from_bytes bytes all))
 
 -- so are those that show what is asked
 pub shown_honest : (s : Scheme) → IsSized s.of → (way : Key → Way) → IsNarrow way → (t : Tree) (batch : ℕ)
@@ -90,7 +90,7 @@ shown_honest s sized way narrow t batch bytes x well layers low shows =
     none_more s.of (clash_of (kind.Choice count_letter) s t batch bytes)
     (MatchesHonest s t batch (count_question way) bytes x)
     (IsHonestChoice s t batch count_letter way bytes (taken_of way x))
-    (shown_is_own s sized.long (count_question way) (law_of way narrow) t batch bytes x well layers low shows)
+    (shown_is_own s sized (count_question way) (law_of way narrow) t batch bytes x well layers low shows)
     (λ own. record {
       own = own.own;
       given = subst (IsChosen t way) (ap (taken_of way) (sym own.same))

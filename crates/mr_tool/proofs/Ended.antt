@@ -5,7 +5,7 @@ use Rattle.std.specs.Prelude.{◌⊎◌, Option, Some, None, IfSome, Result, Ok,
 use Rattle.mr_outside.specs.Faults.{Rose}
 use Rattle.mr_outside.specs.Files.{Files}
 use Rattle.mr_outside.specs.Told.{OfFiles, TakesBytes}
-use Rattle.mr_record.specs.private.Bytes.{AreBytes}
+use Rattle.mr_outside.specs.Bytes.{AreBytes}
 use Rattle.mr_record.specs.declared.version.Version.{Version}
 use Rattle.mr_tree.specs.WellFormed.{HasLayers}
 use Rattle.mr_tree.specs.declared.tree.Tree.{Tree}

@@ -4,7 +4,7 @@ use Rattle.std.specs.Prelude.{Option, Some, None, Result, Ok, Err}
 use Rattle.std.specs.Int.{w32, to_be_bytes}
 use Rattle.std.proofs.lemmas.List.{take_at, drop_at}
 use Rattle.mr_geom.specs.Rectangle.{Rectangle}
-use Rattle.mr_record.specs.private.Bytes.{AreBytes}
+use Rattle.mr_outside.specs.Bytes.{AreBytes}
 use Rattle.mr_record.specs.Record.{rectangle_bytes}
 use Rattle.mr_record.specs.declared.version.Version.{Version}
 use Rattle.mr_record.specs.declared.version.Version.TheVariants.{Two}
@@ -69,7 +69,7 @@ honest_all hash sized = record {
 
 matches_all : (hash : List ℕ → List ℕ) → IsSized hash → (bytes : List ℕ) → IsBytes bytes → (v : Version)
     (a : Question) → IsLawful a → AcceptedMatchesHonest (by v hash) a bytes
-matches_all hash sized bytes all v a law = accepted_matches_honest (by v hash) sized.long a law bytes all
+matches_all hash sized bytes all v a law = accepted_matches_honest (by v hash) sized a law bytes all
 
 pub accepted_join : (hash : List ℕ → List ℕ) → IsSized hash → (bytes : List ℕ) → AreBytes bytes
     → AcceptedJoinIsHonest hash hash bytes

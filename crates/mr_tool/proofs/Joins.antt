@@ -3,7 +3,7 @@ use Rattle.std.proofs.Common.{◌≡◌, ℕ, List, ◌++◌, refl, sym, ap, sub
 use Rattle.std.specs.Prelude.{◌⊎◌, Option, Some, None, IfSome, Result, Ok, Err}
 use Rattle.mr_outside.specs.Files.{Files}
 use Rattle.mr_outside.specs.Told.{TakesBytes}
-use Rattle.mr_record.specs.private.Bytes.{AreBytes}
+use Rattle.mr_outside.specs.Bytes.{AreBytes}
 use Rattle.mr_record.specs.declared.version.Version.{Version}
 use Rattle.mr_record.specs.declared.version.Version.TheVariants.{One, Two}
 use Rattle.mr_tree.specs.Digest.{by}
@@ -35,7 +35,7 @@ use Rattle.mr_command.specs.declared.ending.Ending.{Ending}
 use Rattle.mr_command.specs.declared.ending.Halt.{Halt}
 use Rattle.mr_command.proofs.Joined.{says_join_verdict}
 use Rattle.mr_command.proofs.Rereading.{loud_of}
-use Rattle.mr_tool.specs.Promises.{HoldsBytes, DeliversOutcome, SaysJoinOrPair, JoinsHonest, PrintsPairs, IsJoinWorth, JoinsOrCollides, AuditsAcceptedJoin, JoinsCollideRightly, owned_root}
+use Rattle.mr_tool.specs.Promises.{HoldsBytes, SaysJoinOrPair, JoinsHonest, PrintsPairs, IsJoinWorth, JoinsOrCollides, AuditsAcceptedJoin, JoinsCollideRightly, owned_root}
 use Rattle.mr_tool.proofs.JoinWorth.{accepted_join, honest_join, owned_map, said_by}
 use Rattle.mr_tool.proofs.Ended.{HasRun, IsRunOr, ends_on, map_on, not_collided, not_refused, not_stopped, other_status, ran, taken_on, told_ends, whole_of}
 
@@ -122,48 +122,70 @@ both_on hash first second one other m n before after status text held_m stands_m
     (map_on Two hash first one m.tree m.batch before after status text held_m stands_m
     (λ x. needs_map hash second (next x)) ends)
 
-pub audit_ends : (hash : List ℕ → List ℕ) (first second name one other bytes : List ℕ) (m n : Owned)
-    (before after : Option Files) (status : Status) (text : List ℕ) → HoldsBytes before first one
-    → IsMapFile hash one (owned_map m) → HoldsBytes before second other → IsMapFile hash other (owned_map n)
-    → HoldsBytes before name bytes → (may : Outcome → Type 0)
-    → EndsAsSaid (say_audit_join hash first second name) may before after status text
-    → EndsPlan (comes (say_audit_join_of hash (owned_map m) (owned_map n) bytes)) before after status text
-audit_ends hash first second name one other bytes m n before after status text held_m stands_m held_n stands_n held
-    may ends =
-    ends_on name bytes before after status text held
-    (λ bytes. comes (say_audit_join_of hash (owned_map m) (owned_map n) bytes))
-    (both_on hash first second one other m n before after status text held_m stands_m held_n stands_n
-    (say_beside_maps hash name)
-    (told_ends before after first one (say_audit_join hash first second name) may status text held_m ends))
+-- and then the proof is read
+module _ (hash : List ℕ → List ℕ) (first second name one other bytes : List ℕ) (m n : Owned)
+    (before after : Option Files) (status : Status) (text : List ℕ) (held_m : HoldsBytes before first one)
+    (stands_m : IsMapFile hash one (owned_map m)) (held_n : HoldsBytes before second other)
+    (stands_n : IsMapFile hash other (owned_map n)) (held : HoldsBytes before name bytes) (may : Outcome → Type 0)
+    (ends : EndsAsSaid (say_audit_join hash first second name) may before after status text) where
+  abbrev audits : List ℕ → Plan
+  audits bytes = comes (say_audit_join_of hash (owned_map m) (owned_map n) bytes)
+
+  audit_needs : EndsPlan (needs name audits) before after status text
+  audit_needs =
+      both_on hash first second one other m n before after status text held_m stands_m held_n stands_n
+      (say_beside_maps hash name)
+      (told_ends before after first one (say_audit_join hash first second name) may status text held_m ends)
+
+  audit_ends : EndsPlan (audits bytes) before after status text
+  audit_ends = ends_on name bytes before after status text held audits audit_needs
+
+  audit_bytes : AreBytes bytes
+  audit_bytes = taken_on name bytes before after status text held audits audit_needs
 
 module _ (hash : List ℕ → List ℕ) (before after : World) (status : Status) (first second name : List ℕ) (m n : Owned)
     (one other bytes : List ℕ) (pairs : List joined.Pair) (held_m : HoldsBytes before.shelf.files first one)
     (stands_m : IsMapFile hash one (owned_map m)) (held_n : HoldsBytes before.shelf.files second other)
     (stands_n : IsMapFile hash other (owned_map n)) (held : HoldsBytes before.shelf.files name bytes)
     (accepted : join_given hash (owned_root hash m) (owned_root hash n) bytes ≡ Ok pairs) where
-  delivered : (o p : Option Pair) (said : Outcome) → first_clash (by Two hash) m bytes ≡ o
+  abbrev Ran : Type 0
+  Ran = HasRun (say_audit_join hash first second name) (LeadsToOutcome (say_audit_join hash first second name) None)
+      before after status
+
+  bytes_read : Ran → AreBytes bytes
+  bytes_read run =
+      audit_bytes hash first second name one other bytes m n before.shelf.files after.shelf.files status run.text
+      held_m stands_m held_n stands_n held (LeadsToOutcome (say_audit_join hash first second name) None) run.ends
+
+  all_done : (o p : Option Pair) (said : Outcome) → first_clash (by Two hash) m bytes ≡ o
       → second_clash (by Two hash) n bytes ≡ p → say_join_finding (finding_of (Ok pairs) o p) ≡ said
-      → RunsAudit hash first second name before after status → DeliversOutcome said before after status
-  delivered o p said d f e (inr stop) = inr stop
-  delivered o p said d f e (inl run) =
-      inl (whole_of (say_audit_join_of hash (owned_map m) (owned_map n) bytes) said before after status run.text
+      → Ran → IsWhole said before after status
+  all_done o p said d f e run =
+      whole_of (say_audit_join_of hash (owned_map m) (owned_map n) bytes) said before after status run.text
       (said_by hash m n bytes (Ok pairs) o p accepted d f ∙ e)
       (audit_ends hash first second name one other bytes m n before.shelf.files after.shelf.files status run.text
       held_m stands_m held_n stands_n held (LeadsToOutcome (say_audit_join hash first second name) None) run.ends)
-      run.printed)
+      run.printed
 
   says_join_worth : (o p : Option Pair) → first_clash (by Two hash) m bytes ≡ o
       → second_clash (by Two hash) n bytes ≡ p
-      → NoneAnd hash o (NoneAnd hash p (IsHonestJoin hash hash m n bytes pairs))
+      → (AreBytes bytes → NoneAnd hash o (NoneAnd hash p (IsHonestJoin hash hash m n bytes pairs)))
       → RunsAudit hash first second name before after status
-      → SaysJoinOrPair hash (bytes ≡ join_proof hash hash m n) (pair_lines (map_pairs m n)) o p before after status
-  says_join_worth None None d f own run = (
-    own.own,
-    delivered None None (prints (sound_line ++ pair_lines (map_pairs m n))) d f
-        (ap (λ ps. prints (sound_line ++ pair_lines ps)) own.whole) run,
-  )
-  says_join_worth None (Some q) d f collides run = (collides, delivered None (Some q) _ d f refl run)
-  says_join_worth (Some q) p d f collides run = (collides, delivered (Some q) p _ d f refl run)
+      → SaysJoinOrPair hash (AreBytes bytes) (bytes ≡ join_proof hash hash m n) (pair_lines (map_pairs m n)) o p before
+      after status
+  says_join_worth None None d f worth (inl run) =
+      let own = worth (bytes_read run) in
+      inl (
+        own.own,
+        all_done None None (prints (sound_line ++ pair_lines (map_pairs m n))) d f
+            (ap (λ ps. prints (sound_line ++ pair_lines ps)) own.whole) run,
+      )
+  says_join_worth None None d f worth (inr stop) = inr ((λ are. (worth are).own), stop)
+  says_join_worth None (Some q) d f worth (inl run) =
+      inl (worth (bytes_read run), all_done None (Some q) _ d f refl run)
+  says_join_worth None (Some q) d f worth (inr stop) = inr (worth, stop)
+  says_join_worth (Some q) p d f worth (inl run) = inl (worth (bytes_read run), all_done (Some q) p _ d f refl run)
+  says_join_worth (Some q) p d f worth (inr stop) = inr (worth, stop)
 
 -- ---- two strings that are printed
 
@@ -363,13 +385,12 @@ module _ (hash : List ℕ → List ℕ) (words : List (List ℕ)) (before after 
       ]
 
   pub joined_audited : IsSized hash → AuditsAcceptedJoin hash words before after status
-  joined_audited sized m n first second name one other bytes pairs spells held_m stands_m held_n stands_n held all
-      given =
+  joined_audited sized m n first second name one other bytes pairs spells held_m stands_m held_n stands_n held given =
       let own_m : IsOwned m = record { well = stands_m.well; batch = stands_m.stands.batch_fits } in
       let own_n : IsOwned n = record { well = stands_n.well; batch = stands_n.stands.batch_fits } in
       says_join_worth hash before after status first.now second.now name.now m n one other bytes pairs held_m stands_m
       held_n stands_n held given (first_clash (by Two hash) m bytes) (second_clash (by Two hash) n bytes) refl refl
-      (accepted_join hash sized bytes all m n pairs own_m own_n given)
+      (λ all. accepted_join hash sized bytes all m n pairs own_m own_n given)
       (ran_as (commands.AuditJoin first second name) spells)
 
   pub joined_collided : IsSized hash → JoinsCollideRightly hash words before after status

@@ -171,7 +171,7 @@ module _ (hash : List ℕ → List ℕ) (words : List (List ℕ)) (before after 
         absurd (none (commands.CheckJoin first second name) spells);
     join_worth = λ m n first second name bytes own_m own_n is_first is_second spells held done.
         absurd (none (commands.CheckJoin first second name) spells);
-    join_audited = λ m n first second name one other bytes pairs spells held_m stands_m held_n stands_n held all given.
+    join_audited = λ m n first second name one other bytes pairs spells held_m stands_m held_n stands_n held given.
         absurd (none (commands.AuditJoin first second name) spells);
     join_collides = λ first second name spells is. absurd (none (commands.AuditJoin first second name) spells);
     alike = λ v t held old batch new bytes text b spells there stands beside right done.

@@ -9,7 +9,7 @@ use Rattle.mr_outside.specs.Told.{TakesBytes}
 use Rattle.mr_journal.specs.Format.{is_open}
 use Rattle.mr_journal.specs.Recovered.{FilesHave, restored_in}
 use Rattle.mr_journal.specs.Shelves.{bytes_or_none, image_on}
-use Rattle.mr_record.specs.private.Bytes.{AreBytes}
+use Rattle.mr_outside.specs.Bytes.{AreBytes}
 use Rattle.mr_record.specs.RecordText.{records_of_text, text_of}
 use Rattle.mr_record.specs.declared.record.Record.{Record}
 use Rattle.mr_record.specs.declared.version.Version.{Version}
@@ -268,7 +268,7 @@ pub record PrintsScan (s : Scheme) (t : Tree) (batch : ℕ) (q : Query)
 
 -- the bytes prove an answer; and no two strings stand at one place of the map and of the bytes and
 -- differ, the bytes are the honest proof and what was printed is the scan, or the first two that do
--- differ have one hash
+-- differ are byte strings with one hash
 pub record IsWorth (s : Scheme) (t : Tree) (batch : ℕ) (q : Query)
     (bytes : List ℕ) (before after : World) : Type 0 where
   pub answer : List Record
@@ -319,8 +319,8 @@ abbrev pub SpellsAudit : List (List ℕ) → (map : Bor (List ℕ)) → Query �
 SpellsAudit words map q proof = SpellsCommand words (commands.Audit map q proof)
     ⊎ SpellsCommand words (commands.AuditCount map q proof)
 
--- Two strings that an audit shows as a collision differ and have one hash, whether files are told
--- or not; that they are the printed ones is known where the sink tells what it takes.
+-- Two strings that an audit shows as a collision are bytes, differ and have one hash, whether files
+-- are told or not; that they are the printed ones is known where the sink tells what it takes.
 abbrev pub CollidesRightly : (List ℕ → List ℕ) → List (List ℕ) → World → World → Status → Type 0
 CollidesRightly hash words before after status =
     (map : Bor (List ℕ)) (q : Query) (proof : Bor (List ℕ)) → SpellsAudit words map q proof
@@ -438,21 +438,27 @@ JoinsOrCollides hash words before after status =
     → HoldsBytes before.shelf.files proof.now bytes → status ≡ Done
     → IsJoinWorth hash m n bytes before after
 
+-- This holds, and all that is said was done. Or memory ran out or something outside failed: then it
+-- holds if the proof is bytes, which each told file is that a run has read.
+abbrev pub HoldsAndDelivers : (are holds : Type 0) → Outcome → World → World → Status → Type 0
+HoldsAndDelivers are holds said before after status = (holds × IsWhole said before after status)
+    ⊎ ((are → holds) × HasStopped before after status)
+
 -- What an audit says of an accepted join, by the first two strings of either map that differ: that
 -- the bytes are the honest proof, and then these lines; or the two strings, which have one hash.
-abbrev pub SaysJoinOrPair : (List ℕ → List ℕ) → (own : Type 0) → (lines : List ℕ)
+abbrev pub SaysJoinOrPair : (List ℕ → List ℕ) → (are own : Type 0) → (lines : List ℕ)
     → (first second : Option Pair) → World → World → Status → Type 0
-SaysJoinOrPair hash own lines None None before after status =
-    own × DeliversOutcome (prints (sound_line ++ lines)) before after status
-SaysJoinOrPair hash own lines None (Some p) before after status = IsCollision hash p
-    × DeliversOutcome (ends Collision (map_collision_lines second_name p.owned p.shown)) before
-    after status
-SaysJoinOrPair hash own lines (Some p) second before after status = IsCollision hash p
-    × DeliversOutcome (ends Collision (map_collision_lines first_name p.owned p.shown)) before
-    after status
+SaysJoinOrPair hash are own lines None None before after status =
+    HoldsAndDelivers are own (prints (sound_line ++ lines)) before after status
+SaysJoinOrPair hash are own lines None (Some p) before after status =
+    HoldsAndDelivers are (IsCollision hash p)
+    (ends Collision (map_collision_lines second_name p.owned p.shown)) before after status
+SaysJoinOrPair hash are own lines (Some p) second before after status =
+    HoldsAndDelivers are (IsCollision hash p)
+    (ends Collision (map_collision_lines first_name p.owned p.shown)) before after status
 
 -- So `audit-join` says of each proof that is accepted against the root digests of the two maps of
--- version 2 that files stand for. That a proof is bytes is a premise, which each told file meets.
+-- version 2 that files stand for.
 abbrev pub AuditsAcceptedJoin : (List ℕ → List ℕ) → List (List ℕ) → World → World → Status → Type 0
 AuditsAcceptedJoin hash words before after status =
     (m n : Owned) (first second proof : Bor (List ℕ)) (one other bytes : List ℕ)
@@ -461,14 +467,15 @@ AuditsAcceptedJoin hash words before after status =
     → HoldsBytes before.shelf.files first.now one → IsMapFile hash one (map_in Two m.tree m.batch)
     → HoldsBytes before.shelf.files second.now other
     → IsMapFile hash other (map_in Two n.tree n.batch)
-    → HoldsBytes before.shelf.files proof.now bytes → AreBytes bytes
+    → HoldsBytes before.shelf.files proof.now bytes
     → join_given hash (owned_root hash m) (owned_root hash n) bytes ≡ Ok pairs
-    → SaysJoinOrPair hash (bytes ≡ join_proof hash hash m n) (pair_lines (map_pairs m n))
-    (first_clash (by Two hash) m bytes) (second_clash (by Two hash) n bytes) before after status
+    → SaysJoinOrPair hash (AreBytes bytes) (bytes ≡ join_proof hash hash m n)
+    (pair_lines (map_pairs m n)) (first_clash (by Two hash) m bytes)
+    (second_clash (by Two hash) n bytes) before after status
 
--- Two strings that it shows as a collision, of the first map or of the second, differ and have one
--- hash, whether files are told or not; that they are the printed ones is known where the sink tells
--- what it takes.
+-- Two strings that it shows as a collision, of the first map or of the second, are bytes, differ
+-- and have one hash, whether files are told or not; that they are the printed ones is known where
+-- the sink tells what it takes.
 abbrev pub JoinsCollideRightly : (List ℕ → List ℕ) → List (List ℕ) → World → World → Status
     → Type 0
 JoinsCollideRightly hash words before after status =

@@ -2,7 +2,7 @@
 
 ghost use Rattle.std.specs.Prelude.{◌≡◌, ℕ, List, length, Some, None, map};
 ghost use Rattle.std.specs.String.{string_bytes};
-ghost use Rattle.mr_record.specs.private.Bytes.{AreBytes};
+ghost use Rattle.mr_outside.specs.Bytes.{AreBytes};
 ghost use Rattle.mr_command.specs.Answer.{NoCountFalls, world};
 ghost use Rattle.mr_command.specs.Ending.{RunsPlan, IsCarriedOut};
 ghost use Rattle.mr_tool.specs.Promises.{CompletesWords, AnswersHonest, AcceptsHonestOrCollides, AuditsAccepted, CollidesRightly, CountsHonest, CountsOrCollides, AuditsAcceptedCount, JoinsHonest, JoinsOrCollides, AuditsAcceptedJoin, JoinsCollideRightly, AppliesAlike, AppliesHere, RecoversHere, UpgradesAll};

@@ -1,6 +1,7 @@
 -- One node with what it holds of its children, as a call gives it out.
 use Rattle.std.specs.Prelude.{◌≡◌, ℕ, ◌+◌, ◌^◌, ◌<◌, ◌≤◌, ◌==◌, if◌then◌else◌, List, [], take, length, All, Option, Some}
 use Rattle.mr_geom.specs.Rectangle.{Rectangle, IsOrdered, FitsMap}
+use Rattle.mr_outside.specs.Bytes.{AreBytes}
 use Rattle.mr_record.specs.Record.{IsRecord, HasLayer}
 use Rattle.mr_record.specs.declared.version.Version.{Version}
 use Rattle.mr_record.specs.declared.version.Version.TheVariants.{Two}
@@ -94,6 +95,7 @@ pub record IsChild (c : Child) : Type 0 where
   pub mask : c.mask < 2 ^ 64
   pub count : c.count < 2 ^ 64
   pub digest : length c.digest ≡ 32
+  pub bytes : AreBytes c.digest
 
 -- up to 16 records, or 1 to 64 children of one level
 pub record IsInner (children : List Child) : Type 0 where

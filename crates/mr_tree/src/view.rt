@@ -2,6 +2,7 @@
 
 ghost use Rattle.std.specs.Prelude.{◌≡◌, ℕ, ◌+◌, ◌<◌, ◌^◌, ◌≤◌, [], map, length, take, slice_get, Some, All, sum};
 ghost use Rattle.mr_geom.specs.Rectangle.{union_of};
+ghost use Rattle.mr_outside.specs.Bytes.{AreBytes};
 ghost use Rattle.mr_record.specs.Record.{HasLayer};
 ghost use Rattle.mr_record.specs.declared.version.Version.TheVariants.{Two};
 ghost use Rattle.mr_tree.specs.Digest.{by};
@@ -275,6 +276,10 @@ fn is_word(_word: u64)
     ensures { _word < 2 ^ 64 }
 {}
 
+fn are_bytes(_bytes: &[u8])
+    ensures { AreBytes _bytes.now }
+{}
+
 fn is_child(one: &Child)
     ensures { IsChild one.now }
 {
@@ -283,6 +288,7 @@ fn is_child(one: &Child)
     is_word(one.count);
     let _corners = one.rect.corners();
     let _digest = one.digest;
+    are_bytes(&one.digest);
 }
 
 fn are_children(list: &[Child])

@@ -1,9 +1,10 @@
 -- What the auditor's private functions do, one by one. Nothing of this has to be believed: no
 -- public contract cites it.
-use Rattle.std.specs.Prelude.{◌≡◌, ℕ, ◌+◌, ◌-◌, ◌<◌, ◌≤◌, ◌^◌, ◌∷◌, ◌++◌, List, length, map, sum, Option, Some, None, option_map, IfOk, IfSome, IsSome, Result, Bool, true, false}
+use Rattle.std.specs.Prelude.{◌≡◌, ◌≢◌, ℕ, ◌+◌, ◌-◌, ◌<◌, ◌≤◌, ◌^◌, ◌∷◌, ◌++◌, List, length, map, sum, Option, Some, None, option_map, IfOk, IfSome, IsSome, Result, Bool, true, false}
 use Rattle.std.specs.Global.{Vec}
 use Rattle.std.specs.List.{flat_map}
 use Rattle.mr_geom.specs.Rectangle.{Rectangle}
+use Rattle.mr_outside.specs.Bytes.{AreBytes}
 use Rattle.mr_record.specs.declared.record.Record.{Record}
 use Rattle.mr_record.specs.declared.version.Version.{Version}
 use Rattle.mr_record.specs.Version.{told}
@@ -22,7 +23,7 @@ use Rattle.mr_proof.specs.Cut.{Cut, Cuts, Pruned, Leaf, Inner, number_of_cuts, e
 use Rattle.mr_proof.specs.Spelling.{cut_bytes, cuts_bytes, part_bytes, FitsCut, FitCuts, IsSpelled}
 use Rattle.mr_proof.specs.Accepted.{proof_preimage, root_found}
 use Rattle.mr_proof.specs.Honest.{opened_of}
-use Rattle.mr_proof.specs.Clash.{Pair, differ, or_else, node_clash, children_clash, clash_of, IsCollision}
+use Rattle.mr_proof.specs.Clash.{Pair, differ, or_else, node_clash, children_clash, clash_of}
 use Rattle.mr_clash.specs.Finding.{root_at}
 use Rattle.mr_clash.specs.declared.finding.Clash.{Clash}
 use Rattle.mr_clash.specs.declared.summary.Summary.{Summary}
@@ -39,6 +40,15 @@ left r = r.bytes.now
 
 abbrev pub pair_of : Clash → Pair
 pair_of c = record { owned = c.owned.items; shown = c.shown.items }
+
+-- two strings that differ and have one hash
+pub record IsClash (hash : List ℕ → List ℕ) (p : Pair) : Type 0 where
+  pub apart : p.owned ≢ p.shown
+  pub same : hash p.owned ≡ hash p.shown
+
+-- and that are bytes, which their type tells
+abbrev pub AreByteStrings : Pair → Type 0
+AreByteStrings p = AreBytes p.owned × AreBytes p.shown
 
 -- ---- what is said of nodes
 
@@ -124,12 +134,12 @@ is_pruned (Inner cuts) = false
 -- collision, and where the map is told, the pair is that of the definition.
 pub record Compared (scheme : Scheme) (s : MapModel) (id level : ℕ) (P : Cut)
     (pair : Option Pair) : Type 0 where
-  pub collides : IfSome pair (IsCollision scheme.of)
+  pub collides : IfSome pair (IsClash scheme.of)
   pub told : IsSome s.tree → IfSome (s.node id) (λ t. pair ≡ node_clash scheme scheme level t P)
 
 pub record ComparedAll (scheme : Scheme) (s : MapModel) (level : ℕ) (cs : List Child)
     (Ps : Cuts) (pair : Option Pair) : Type 0 where
-  pub collides : IfSome pair (IsCollision scheme.of)
+  pub collides : IfSome pair (IsClash scheme.of)
   pub told : IsSome s.tree → (ts : List Tree)
       → map (λ (c : Child). s.node c.id) cs ≡ map Some ts
       → pair ≡ children_clash scheme scheme level ts Ps
@@ -225,7 +235,7 @@ ComparesRoots hash top said x result =
 -- what was found of the map and the head and cut that bytes spell
 pub record ComparedMap (hash : List ℕ → List ℕ) (s : MapModel) (k : Kind) (bytes : List ℕ)
     (pair : Option Pair) : Type 0 where
-  pub collides : IfSome pair (IsCollision hash)
+  pub collides : IfSome pair (IsClash hash)
   pub told : IfSome s.tree (λ t. pair ≡ clash_of k (by s.version hash) t s.batch bytes)
 
 -- the root item was passed over beside no node

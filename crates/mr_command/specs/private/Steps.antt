@@ -7,7 +7,7 @@ use Rattle.mr_outside.specs.State.{Shelved, Sunk}
 use Rattle.mr_outside.specs.Told.{OfFiles, OfFile, TakesBytes, TakesFront}
 use Rattle.mr_outside.specs.declared.shelf.ShelfErr.{ShelfErr}
 use Rattle.mr_outside.specs.declared.shelf.ShelfErr.TheVariants as shelf
-use Rattle.mr_record.specs.private.Bytes.{AreBytes}
+use Rattle.mr_outside.specs.Bytes.{AreBytes}
 use Rattle.mr_record.specs.Record.{HasLayer}
 use Rattle.mr_record.specs.declared.version.Version.{Version}
 use Rattle.mr_tree.specs.Digest.{Scheme, by}

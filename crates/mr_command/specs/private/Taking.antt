@@ -4,7 +4,7 @@ use Rattle.std.specs.Global.{Vec}
 use Rattle.mr_outside.specs.Files.{Files, file}
 use Rattle.mr_outside.specs.State.{Shelved}
 use Rattle.mr_outside.specs.Told.{OfFile, OfFiles, MayMiss}
-use Rattle.mr_record.specs.private.Bytes.{AreBytes}
+use Rattle.mr_outside.specs.Bytes.{AreBytes}
 use Rattle.mr_record.specs.declared.record.Record.{Record}
 use Rattle.mr_record.specs.declared.version.Version.{Version}
 use Rattle.mr_tree.specs.declared.hash.Hashes.{Ghosts}

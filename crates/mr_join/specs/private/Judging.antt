@@ -2,7 +2,6 @@
 -- believed: no public contract cites it.
 use Rattle.std.specs.Prelude.{◌≡◌, ◌⊎◌, ℕ, ◌+◌, ◌≤◌, List, [], ◌∷◌, Option, Some, None}
 use Rattle.mr_geom.specs.Rectangle.{Rectangle}
-use Rattle.mr_tree.specs.Nodes.{MapModel, IsTop}
 use Rattle.mr_tree.specs.declared.nodes.Top.{Top}
 use Rattle.mr_proof.specs.Clash as clashes
 use Rattle.mr_join.specs.declared.fault.JoinFault.TheVariants as faults
@@ -20,49 +19,43 @@ use Rattle.mr_join.specs.private.Worths.{worth_by, behind}
 
 -- ---- what is found
 
--- the worth of a part by the verdict against the root digest of what a map that stands so says
-pub record WorthFor (hash : List ℕ → List ℕ) (s : MapModel) (list : List Rectangle)
+-- the worth of a part by the verdict against the root digest of what a map says of itself
+pub record WorthFor (hash : List ℕ → List ℕ) (top : Top) (list : List Rectangle)
     (bytes : List ℕ) (worth : Worth) : Type 0 where
-  pub top : Top
-  pub is_top : IsTop hash s top
   pub clash : Option clashes.Pair
   pub found : worth ≡ worth_by (part_verdict (said_by hash top) list bytes) clash
 
-abbrev pub FirstWorthFor : (List ℕ → List ℕ) → MapModel → Option Rectangle → List ℕ → Worth
-    → Type 0
-FirstWorthFor hash s None bytes worth = worth ≡ worths.Sound
-FirstWorthFor hash s (Some w) bytes worth = WorthFor hash s (w ∷ []) bytes worth
+abbrev pub FirstWorthFor : (List ℕ → List ℕ) → Top → Option Rectangle → List ℕ → Worth → Type 0
+FirstWorthFor hash top None bytes worth = worth ≡ worths.Sound
+FirstWorthFor hash top (Some w) bytes worth = WorthFor hash top (w ∷ []) bytes worth
 
 -- the finding by the worth of the second part, behind a first part that is sound
-pub record FindsBehind (hash : List ℕ → List ℕ) (s : MapModel) (list : List Rectangle)
+pub record FindsBehind (hash : List ℕ → List ℕ) (top : Top) (list : List Rectangle)
     (bytes : List ℕ) (pairs : List Pair) (finding : JoinFinding) : Type 0 where
   pub second : Worth
-  pub is_second : WorthFor hash s list bytes second
+  pub is_second : WorthFor hash top list bytes second
   pub found : finding ≡ behind second pairs
 
 -- by the worth of the first part
-abbrev pub FindsBy : (List ℕ → List ℕ) → MapModel → List Rectangle → List ℕ → List Pair → Worth
+abbrev pub FindsBy : (List ℕ → List ℕ) → Top → List Rectangle → List ℕ → List Pair → Worth
     → JoinFinding → Type 0
-FindsBy hash s list bytes pairs (worths.Refused f) finding =
+FindsBy hash top list bytes pairs (worths.Refused f) finding =
     finding ≡ findings.Refused (faults.First f)
-FindsBy hash s list bytes pairs (worths.Collision owned shown) finding =
+FindsBy hash top list bytes pairs (worths.Collision owned shown) finding =
     finding ≡ findings.First owned shown
-FindsBy hash s list bytes pairs worths.Sound finding = FindsBehind hash s list bytes pairs finding
+FindsBy hash top list bytes pairs worths.Sound finding =
+    FindsBehind hash top list bytes pairs finding
 
 -- of both parts, which are accepted with these pairs
-pub record FindsParts (f g : List ℕ → List ℕ) (s v : MapModel) (x : Frame) (list : List Rectangle)
+pub record FindsParts (f g : List ℕ → List ℕ) (top other : Top) (x : Frame) (list : List Rectangle)
     (pairs : List Pair) (finding : JoinFinding) : Type 0 where
   pub one : Worth
-  pub is_one : FirstWorthFor f s x.rect x.first one
-  pub found : FindsBy g v list x.second pairs one finding
+  pub is_one : FirstWorthFor f top x.rect x.first one
+  pub found : FindsBy g other list x.second pairs one finding
 
 -- of a frame
-pub record FindsFrameFor (f g : List ℕ → List ℕ) (s v : MapModel) (at : ℕ) (x : Frame)
+pub record FindsFrameFor (f g : List ℕ → List ℕ) (top other : Top) (at : ℕ) (x : Frame)
     (finding : JoinFinding) : Type 0 where
-  pub top : Top
-  pub other : Top
-  pub is_top : IsTop f s top
-  pub is_other : IsTop g v other
   pub first : Option clashes.Pair
   pub second : Option clashes.Pair
   pub found : finding
@@ -70,27 +63,19 @@ pub record FindsFrameFor (f g : List ℕ → List ℕ) (s v : MapModel) (at : �
 
 -- ---- what is fetched
 
--- no more nodes are fetched than bytes open that are accepted for some rectangles
-pub record PartFetches (hash : List ℕ → List ℕ) (a : Watched) (list : List Rectangle)
-    (bytes : List ℕ) : Type 0 where
-  pub top : Top
-  pub is_top : IsTop hash a.map top
-  pub few : a.after ≤ a.before + part_opened (said_by hash top) list bytes
+-- no more nodes are fetched than bytes open that are accepted for some rectangles; or none, where
+-- the map is not asked
+abbrev pub MayFetchPart : (List ℕ → List ℕ) → Watched → Top → List Rectangle → List ℕ → Type 0
+MayFetchPart hash a top list bytes = (a.after ≤ a.before)
+    ⊎ (a.after ≤ a.before + part_opened (said_by hash top) list bytes)
 
--- or none, where the map is not asked
-abbrev pub MayFetchPart : (List ℕ → List ℕ) → Watched → List Rectangle → List ℕ → Type 0
-MayFetchPart hash a list bytes = (a.after ≤ a.before) ⊎ PartFetches hash a list bytes
-
-abbrev pub FirstFetches : (List ℕ → List ℕ) → Watched → Option Rectangle → List ℕ → Type 0
-FirstFetches hash a None bytes = a.after ≤ a.before
-FirstFetches hash a (Some w) bytes = MayFetchPart hash a (w ∷ []) bytes
+abbrev pub FirstFetches : (List ℕ → List ℕ) → Watched → Top → Option Rectangle → List ℕ → Type 0
+FirstFetches hash a top None bytes = a.after ≤ a.before
+FirstFetches hash a top (Some w) bytes = MayFetchPart hash a top (w ∷ []) bytes
 
 -- of a frame
-pub record FrameFetches (f g : List ℕ → List ℕ) (a b : Watched) (at : ℕ) (x : Frame) : Type 0 where
-  pub top : Top
-  pub other : Top
-  pub is_top : IsTop f a.map top
-  pub is_other : IsTop g b.map other
+pub record FrameFetches (f g : List ℕ → List ℕ) (a b : Watched) (top other : Top) (at : ℕ)
+    (x : Frame) : Type 0 where
   pub first : a.after
       ≤ a.before + if_accepted (frame_verdict (said_by f top) (said_by g other) at x)
       (first_opened (said_by f top) x.rect x.first)

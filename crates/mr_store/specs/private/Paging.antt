@@ -2,7 +2,7 @@
 use Rattle.std.specs.Prelude.{◌≡◌, ⊤, false, ℕ, ◌+◌, ◌/◌, ◌<◌, ◌≤◌, List, length, Contains, Option, Some, IfSome, IsSome, MatchOption, nat_eq}
 use Rattle.std.specs.Map.{lookup}
 use Rattle.mr_outside.specs.Files.{Files, file}
-use Rattle.mr_record.specs.private.Bytes.{AreBytes}
+use Rattle.mr_outside.specs.Bytes.{AreBytes}
 use Rattle.mr_outside.specs.declared.shelf.Shelf.{Ghosts}
 use Rattle.mr_tree.specs.Digest.{Scheme, by}
 use Rattle.mr_pages.specs.Page.{Form, page_limit}

@@ -7,7 +7,7 @@ use Rattle.std.proofs.Common.{arith}
 use Rattle.std.proofs.lemmas.List.Elements.{All-append, All-cons, All-nil, All-replicate, recursion_from_All}
 use Rattle.std.proofs.lemmas.Nat.{xor_lt}
 use Rattle.sha2.specs.Sha256.{sha256, digest_bytes}
-use Rattle.mr_record.specs.private.Bytes.{AreBytes}
+use Rattle.mr_outside.specs.Bytes.{AreBytes}
 use Rattle.mr_tree.specs.Hash.{xor_of}
 
 abbrev IsByte : ℕ → Type 0

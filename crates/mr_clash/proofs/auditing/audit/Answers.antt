@@ -28,7 +28,8 @@ pub returns-clause-judged : goal.returns-clause-judged
 returns-clause-judged g c =
     let fits : IsBytes c.args.proof.now = λ i. omega (arith, c.type_inv.proof i) in
     judged_from c.args.q.now c.args.proof.now c.is_query.ensures fits g.N.Hash.Hashes.of
-    (g.N.Nodes.stands c.args.nodes.now) c.in_ok-question_finding.question_finding c.in_ok-finding_of.field-0
+    (g.N.Nodes.stands c.args.nodes.now) (g.N.Nodes.says c.args.nodes.now)
+    c.in_ok-question_finding.question_finding c.in_ok-finding_of.field-0
     c.in_ok-question_finding.ensures.judged
     c.in_ok-finding_of.ensures
 
@@ -66,7 +67,7 @@ pub returns-clause-fetches : goal.returns-clause-fetches
 returns-clause-fetches g c =
     let fits : IsBytes c.args.proof.now = λ i. omega (arith, c.type_inv.proof i) in
     few_from c.args.q.now c.args.proof.now c.is_query.ensures fits g.N.Hash.Hashes.of
-    (g.N.Nodes.stands c.args.nodes.now)
+    (g.N.Nodes.stands c.args.nodes.now) (g.N.Nodes.says c.args.nodes.now)
     (g.N.Nodes.fetches c.args.nodes.now) (g.N.Nodes.fetches c.audit_question.new.nodes)
     c.in_ok-question_finding.ensures.fetches
 
@@ -74,7 +75,7 @@ pub returns-in_err-question_finding-clause-fetches : goal.returns-in_err-questio
 returns-in_err-question_finding-clause-fetches g c =
     let fits : IsBytes c.args.proof.now = λ i. omega (arith, c.type_inv.proof i) in
     few_from c.args.q.now c.args.proof.now c.is_query.ensures fits g.N.Hash.Hashes.of
-    (g.N.Nodes.stands c.args.nodes.now)
+    (g.N.Nodes.stands c.args.nodes.now) (g.N.Nodes.says c.args.nodes.now)
     (g.N.Nodes.fetches c.args.nodes.now) (g.N.Nodes.fetches c.audit_question.new.nodes)
     c.in_err-question_finding.ensures.fetches
 
@@ -82,6 +83,6 @@ pub returns-in_err-finding_of-clause-fetches : goal.returns-in_err-finding_of-cl
 returns-in_err-finding_of-clause-fetches g c =
     let fits : IsBytes c.args.proof.now = λ i. omega (arith, c.type_inv.proof i) in
     few_from c.args.q.now c.args.proof.now c.is_query.ensures fits g.N.Hash.Hashes.of
-    (g.N.Nodes.stands c.args.nodes.now)
+    (g.N.Nodes.stands c.args.nodes.now) (g.N.Nodes.says c.args.nodes.now)
     (g.N.Nodes.fetches c.args.nodes.now) (g.N.Nodes.fetches c.audit_question.new.nodes)
     c.in_ok-question_finding.ensures.fetches

@@ -7,6 +7,7 @@ use Rattle.mr_clash.specs.private.Steps.{pair_of}
 use Rattle.mr_clash.specs.QuestionFindings.{opened_checked_by}
 use Rattle.mr_clash.proofs.Fetches.{none_fetched}
 use Rattle.mr_clash.proofs.QuestionFindings.{question_finding_collides, declined_told, declined_for, accepted_told, accepted_for, few_opened, few_for, none_for, declined_causes, declined_collides}
+use Rattle.mr_clash.proofs.Roots.{is_said, root_said}
 use Rattle.mr_clash.proofs.question_finding.audited_by.Goals as goal
 
 pub returns-in-Err-clause-told : goal.returns-in-Err-clause-told
@@ -18,10 +19,12 @@ returns-in-Err-clause-told g c =
 
 pub returns-in-Err-clause-judged : goal.returns-in-Err-clause-judged
 returns-in-Err-clause-judged g c =
-    declined_for g.N.Hash.Hashes.of (g.N.Nodes.stands c.args.nodes.now) c.top-top.result
-    (g.A.AsQuestion.question c.args.q.now)
-    c.args.proof.now c.root_of.result c.top-top.ensures.is c.root_of.ensures c.in-Err.error c.declined.result
-    c.in-Err.ensures.exact c.declined.ensures
+    let hash = g.N.Hash.Hashes.of in
+    let s = g.N.Nodes.stands c.args.nodes.now in
+    let says = c.top-top.ensures.says in
+    declined_for hash s (g.N.Nodes.says c.args.nodes.now) (g.A.AsQuestion.question c.args.q.now) c.args.proof.now
+    c.root_of.result (is_said hash s _ _ says c.top-top.ensures.is) (root_said hash _ _ _ says c.root_of.ensures)
+    c.in-Err.error c.declined.result c.in-Err.ensures.exact c.declined.ensures
 
 pub returns-in-Err-clause-causes : goal.returns-in-Err-clause-causes
 returns-in-Err-clause-causes g c =
@@ -56,10 +59,12 @@ returns-in_ok-pair-in-Ok-clause-told g c =
 
 pub returns-in_ok-pair-in-Ok-clause-judged : goal.returns-in_ok-pair-in-Ok-clause-judged
 returns-in_ok-pair-in-Ok-clause-judged g c =
-    accepted_for g.N.Hash.Hashes.of (g.N.Nodes.stands c.args.nodes.now) c.top-top.result
-    (g.A.AsQuestion.question c.args.q.now)
-    c.args.proof.now c.root_of.result c.top-top.ensures.is c.root_of.ensures c.in-Ok.collected
-    (option_map pair_of c.in_ok-pair-in-Ok.pair) c.question_finding_of.result c.in-Ok.ensures.exact
+    let hash = g.N.Hash.Hashes.of in
+    let s = g.N.Nodes.stands c.args.nodes.now in
+    let says = c.top-top.ensures.says in
+    accepted_for hash s (g.N.Nodes.says c.args.nodes.now) (g.A.AsQuestion.question c.args.q.now) c.args.proof.now
+    c.root_of.result (is_said hash s _ _ says c.top-top.ensures.is) (root_said hash _ _ _ says c.root_of.ensures)
+    c.in-Ok.collected (option_map pair_of c.in_ok-pair-in-Ok.pair) c.question_finding_of.result c.in-Ok.ensures.exact
     c.question_finding_of.ensures
 
 pub returns-in_ok-pair-in-Ok-clause-collides : goal.returns-in_ok-pair-in-Ok-clause-collides
@@ -72,8 +77,7 @@ returns-in_ok-pair-in-Ok-clause-collides g c =
     let pair = c.in_ok-pair-in-Ok.ensures.compared x.0.head x.0.part (shows.kind ∙ sym c.kind.ensures) shows.spelled
     (shows.held ∙ c.root_of.ensures) in
     question_finding_collides hash c.in-Ok.collected (option_map pair_of c.in_ok-pair-in-Ok.pair)
-    c.question_finding_of.result pair.collides
-    c.question_finding_of.ensures
+    c.question_finding_of.result pair.collides c.are_strings.ensures c.question_finding_of.ensures
 
 pub returns-in_err-pair-in-Ok-clause-fetched : goal.returns-in_err-pair-in-Ok-clause-fetched
 returns-in_err-pair-in-Ok-clause-fetched g c =
@@ -101,9 +105,12 @@ returns-in_ok-pair-in-Ok-clause-fetched g c =
 
 pub returns-in-Err-clause-fetches : goal.returns-in-Err-clause-fetches
 returns-in-Err-clause-fetches g c =
-    none_for g.N.Hash.Hashes.of (g.N.Nodes.stands c.args.nodes.now) c.top-top.result
-    (g.A.AsQuestion.question c.args.q.now)
-    c.args.proof.now c.root_of.result c.top-top.ensures.is c.root_of.ensures (g.N.Nodes.fetches c.args.nodes.now)
+    let hash = g.N.Hash.Hashes.of in
+    let s = g.N.Nodes.stands c.args.nodes.now in
+    let says = c.top-top.ensures.says in
+    none_for hash s (g.N.Nodes.says c.args.nodes.now) (g.A.AsQuestion.question c.args.q.now) c.args.proof.now
+    c.root_of.result (is_said hash s _ _ says c.top-top.ensures.is) (root_said hash _ _ _ says c.root_of.ensures)
+    (g.N.Nodes.fetches c.args.nodes.now)
 
 pub returns-in_err-pair-in-Ok-clause-fetches : goal.returns-in_err-pair-in-Ok-clause-fetches
 returns-in_err-pair-in-Ok-clause-fetches g c =
@@ -112,9 +119,11 @@ returns-in_err-pair-in-Ok-clause-fetches g c =
     let fits : IsBytes c.args.proof.now = λ i. omega (arith, c.type_inv.proof i) in
     let x = c.in-Ok.ensures.exact in
     let shows = shows_from hash c.root_of.result a c.args.proof.now x.0 c.requires fits x.1 in
-    few_for hash (g.N.Nodes.stands c.args.nodes.now) c.top-top.result a c.args.proof.now c.root_of.result
-    c.top-top.ensures.is c.root_of.ensures x.0 (g.N.Nodes.fetches c.args.nodes.now)
-    (g.N.Nodes.fetches c.compare_map.new.nodes) x.1
+    let s = g.N.Nodes.stands c.args.nodes.now in
+    let says = c.top-top.ensures.says in
+    few_for hash s (g.N.Nodes.says c.args.nodes.now) a c.args.proof.now c.root_of.result
+    (is_said hash s _ _ says c.top-top.ensures.is) (root_said hash _ _ _ says c.root_of.ensures) x.0
+    (g.N.Nodes.fetches c.args.nodes.now) (g.N.Nodes.fetches c.compare_map.new.nodes) x.1
     (c.in_err-pair-in-Ok.ensures.fetched x.0.head x.0.part (shows.kind ∙ sym c.kind.ensures) shows.spelled)
 
 pub returns-in_ok-pair-in-Ok-clause-fetches : goal.returns-in_ok-pair-in-Ok-clause-fetches
@@ -124,7 +133,9 @@ returns-in_ok-pair-in-Ok-clause-fetches g c =
     let fits : IsBytes c.args.proof.now = λ i. omega (arith, c.type_inv.proof i) in
     let x = c.in-Ok.ensures.exact in
     let shows = shows_from hash c.root_of.result a c.args.proof.now x.0 c.requires fits x.1 in
-    few_for hash (g.N.Nodes.stands c.args.nodes.now) c.top-top.result a c.args.proof.now c.root_of.result
-    c.top-top.ensures.is c.root_of.ensures x.0 (g.N.Nodes.fetches c.args.nodes.now)
-    (g.N.Nodes.fetches c.compare_map.new.nodes) x.1
+    let s = g.N.Nodes.stands c.args.nodes.now in
+    let says = c.top-top.ensures.says in
+    few_for hash s (g.N.Nodes.says c.args.nodes.now) a c.args.proof.now c.root_of.result
+    (is_said hash s _ _ says c.top-top.ensures.is) (root_said hash _ _ _ says c.root_of.ensures) x.0
+    (g.N.Nodes.fetches c.args.nodes.now) (g.N.Nodes.fetches c.compare_map.new.nodes) x.1
     (c.in_ok-pair-in-Ok.ensures.fetched x.0.head x.0.part (shows.kind ∙ sym c.kind.ensures) shows.spelled)

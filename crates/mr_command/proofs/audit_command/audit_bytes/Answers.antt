@@ -24,7 +24,7 @@ said bytes v f result is = subst (λ v. IsEndingOrHalt (say_finding v f) result)
 pub say_found-requires : goal.say_found-requires
 say_found-requires g c =
     subst (λ v. HasAnswerLines v c.in-Ok.finding) (sym c.proof_version.ensures)
-    (finding_layers g.H.Hashes.of (stands_for c.args.paged.now) c.args.query.now c.args.bytes.now c.in-Ok.finding
+    (finding_layers g.H.Hashes.of (stands_for c.args.paged.now) _ c.args.query.now c.args.bytes.now c.in-Ok.finding
     c.are_bytes.ensures c.in-Ok.ensures.judged)
 
 pub returns-in-Ok-clause-told : goal.returns-in-Ok-clause-told
@@ -41,7 +41,7 @@ returns-in-Ok-clause-untold g c = λ none.
     let paged = c.args.paged.now in
     let e = c.in-Ok.ensures in
     found_untold g.H.Hashes.of c.args.map.now c.args.query.now c.args.proof.now c.args.bytes.now (shelved paged)
-    (shelved c.finding_of_nodes.new.nodes) (stands_for paged) e.kept.files e.kept.faults
+    (shelved c.finding_of_nodes.new.nodes) (stands_for paged) e.kept.files e.kept.faults _
     c.in-Ok.finding c.say_found.result c.are_bytes.ensures e.judged e.collides e.quiet (said c.args.bytes.now
     c.proof_version.result c.in-Ok.finding c.say_found.result c.proof_version.ensures c.say_found.ensures)
 

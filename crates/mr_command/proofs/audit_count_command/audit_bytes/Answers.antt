@@ -22,7 +22,7 @@ returns-in-Ok-clause-untold g c = λ none.
     let paged = c.args.paged.now in
     let e = c.in-Ok.ensures in
     count_found_untold g.H.Hashes.of c.args.map.now (ways_inside c.args.inside.now) c.args.proof.now c.args.bytes.now
-    (shelved paged) (shelved c.count_finding.new.nodes) (stands_for paged) e.kept.files e.kept.faults
+    (shelved paged) (shelved c.count_finding.new.nodes) (stands_for paged) e.kept.files e.kept.faults _
     c.in-Ok.finding c.say_counted.result c.are_bytes.ensures e.judged e.collides e.quiet c.say_counted.ensures
 
 pub returns-in-Err-clause-told : goal.returns-in-Err-clause-told

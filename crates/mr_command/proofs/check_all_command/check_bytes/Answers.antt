@@ -1,7 +1,7 @@
 use Rattle.std.proofs.Common.{ℕ, ◌≤◌, length, sym, ap, subst, ◌∙◌}
 use Rattle.std.specs.Prelude.{All}
 use Rattle.std.specs.Global.{Vec}
-use Rattle.mr_record.specs.private.Bytes.{AreBytes}
+use Rattle.mr_outside.specs.Bytes.{AreBytes}
 use Rattle.mr_bundle.specs.Verdicts.{verdicts}
 use Rattle.mr_bundle.specs.Bundle.{parts}
 use Rattle.mr_plan.specs.Judged.{HasLines, bundle_text, bundle_status}

@@ -1,6 +1,6 @@
 use Rattle.std.proofs.Common.{◌≡◌, ℕ, List, length, ap, ◌∙◌, Err}
 use Rattle.mr_record.specs.declared.version.Version.{Version}
-use Rattle.mr_record.specs.private.Bytes.{AreBytes}
+use Rattle.mr_outside.specs.Bytes.{AreBytes}
 use Rattle.mr_pages.specs.Law.{AgreesWithFault}
 use Rattle.mr_pages.specs.PageBytes.{form_by}
 use Rattle.mr_pages.proofs.Agreement.{agrees}

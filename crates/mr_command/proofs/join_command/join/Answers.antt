@@ -1,5 +1,5 @@
 use Rattle.std.proofs.Common.{ℕ, List, length, ◌≡◌}
-use Rattle.mr_record.specs.private.Bytes.{AreBytes}
+use Rattle.mr_outside.specs.Bytes.{AreBytes}
 use Rattle.mr_pages.specs.File.{form_at, version_of}
 use Rattle.mr_pages.specs.Law.{AgreesWithFault}
 use Rattle.mr_pages.specs.PageBytes.{form_by}

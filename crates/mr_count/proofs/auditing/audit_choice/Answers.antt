@@ -29,17 +29,18 @@ returns-clause-given g c =
     given_from (by s.version g.N.Hash.Hashes.of) s.batch c.args.kind way c.args.proof.now c.in_ok-finding.finding
     c.finding_of.result c.finding_of.ensures s.tree (law.narrow None)
     (c.accepted_matches_honest.ensures s.version (chosen c.args.kind way) law) low
-    (g.met.N.Nodes.layered c.args.nodes.now) c.in_ok-finding.ensures.told
+    (g.met.N.Nodes.well_formed c.args.nodes.now) (g.met.N.Nodes.layered c.args.nodes.now) c.in_ok-finding.ensures.told
 
 pub returns-clause-judged : goal.returns-clause-judged
 returns-clause-judged g c =
-    judged g.N.Hash.Hashes.of (g.N.Nodes.stands c.args.nodes.now) c.args.kind (g.C.Choice.ways c.args.choice.now)
-    c.args.proof.now c.in_ok-finding.finding c.finding_of.result c.in_ok-finding.ensures.judged c.finding_of.ensures
+    judged g.N.Hash.Hashes.of (g.N.Nodes.stands c.args.nodes.now) (g.N.Nodes.says c.args.nodes.now) c.args.kind
+    (g.C.Choice.ways c.args.choice.now) c.args.proof.now c.in_ok-finding.finding c.finding_of.result
+    c.in_ok-finding.ensures.judged c.finding_of.ensures
 
 pub returns-clause-fits : goal.returns-clause-fits
 returns-clause-fits g c =
     let fits : IsBytes c.args.proof.now = λ i. omega (arith, c.type_inv.proof i) in
-    finding_fits g.N.Hash.Hashes.of (g.N.Nodes.stands c.args.nodes.now) c.args.kind
+    finding_fits g.N.Hash.Hashes.of (g.N.Nodes.stands c.args.nodes.now) (g.N.Nodes.says c.args.nodes.now) c.args.kind
     (g.C.Choice.ways c.args.choice.now) c.args.proof.now c.in_ok-finding.finding c.finding_of.result
     c.choice_is_lawful.ensures fits c.in_ok-finding.ensures.judged c.finding_of.ensures
 
@@ -50,8 +51,8 @@ returns-clause-collides g c =
 
 pub returns-clause-rules : goal.returns-clause-rules
 returns-clause-rules g c =
-    finding_breaks g.N.Hash.Hashes.of (g.N.Nodes.stands c.args.nodes.now) c.args.kind
-    (g.C.Choice.ways c.args.choice.now) c.args.proof.now c.in_ok-finding.finding c.finding_of.result
+    finding_breaks g.N.Hash.Hashes.of (g.N.Nodes.stands c.args.nodes.now) (g.N.Nodes.says c.args.nodes.now)
+    c.args.kind (g.C.Choice.ways c.args.choice.now) c.args.proof.now c.in_ok-finding.finding c.finding_of.result
     c.in_ok-finding.ensures.judged c.finding_of.ensures
 
 pub returns-clause-fetched_honest : goal.returns-clause-fetched_honest

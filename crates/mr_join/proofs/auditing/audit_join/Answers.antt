@@ -1,5 +1,7 @@
-use Rattle.std.proofs.Common.{arith}
-use Rattle.std.proofs.Common.{Ok, refl}
+use Rattle.std.proofs.Common.{Ok, arith, refl, subst}
+use Rattle.std.specs.Prelude.{◌<◌, ◌^◌}
+use Rattle.mr_tree.specs.declared.nodes.Top.{Top}
+use Rattle.mr_clash.proofs.Roots.{is_said}
 use Rattle.mr_join.specs.declared.finding.JoinFinding.TheVariants as findings
 use Rattle.mr_join.specs.private.Frames.{frame_value}
 use Rattle.mr_join.specs.Causes.{watched}
@@ -20,6 +22,7 @@ returns-in-Err-clause-honest g c =
     (g.B.Nodes.stands c.args.second.now) c.top.result c.top-2.result c.args.proof.now
     (Ok (findings.Refused c.in-Err.fault)) c.top.ensures.is c.top-2.ensures.is c.is_word.ensures c.is_word-2.ensures
     c.accepted_join_is_honest.ensures c.honest_join_is_accepted.ensures
+    (g.met.A.Nodes.well_formed c.args.first.now) (g.met.B.Nodes.well_formed c.args.second.now)
     (unread_told g.A.Hash.Hashes.of g.B.Hash.Hashes.of (g.A.Nodes.stands c.args.first.now)
     (g.B.Nodes.stands c.args.second.now) c.args.proof.now (Ok (findings.Refused c.in-Err.fault)) c.in-Err.fault
     c.in-Err.ensures refl)
@@ -35,7 +38,8 @@ returns-in-Ok-clause-honest g c =
     honest_told g.A.Hash.Hashes.of g.B.Hash.Hashes.of (g.A.Nodes.stands c.args.first.now)
     (g.B.Nodes.stands c.args.second.now) c.top.result c.top-2.result c.args.proof.now c.audit_frame.result
     c.top.ensures.is c.top-2.ensures.is c.is_word.ensures c.is_word-2.ensures c.accepted_join_is_honest.ensures
-    c.honest_join_is_accepted.ensures
+    c.honest_join_is_accepted.ensures (g.met.A.Nodes.well_formed c.args.first.now)
+    (g.met.B.Nodes.well_formed c.args.second.now)
     (read_told g.A.Hash.Hashes.of g.B.Hash.Hashes.of (g.A.Nodes.stands c.args.first.now)
     (g.B.Nodes.stands c.args.second.now) c.args.proof.now c.audit_frame.result (frame_value c.in-Ok.frame)
     c.in-Ok.ensures c.audit_frame.ensures.told)
@@ -43,16 +47,17 @@ returns-in-Ok-clause-honest g c =
 pub returns-in-Err-clause-judged : goal.returns-in-Err-clause-judged
 returns-in-Err-clause-judged g c =
     unread_judged g.A.Hash.Hashes.of g.B.Hash.Hashes.of (g.A.Nodes.stands c.args.first.now)
-    (g.B.Nodes.stands c.args.second.now) c.top.result c.top-2.result c.args.proof.now c.in-Err.fault c.top.ensures.is
-    c.top-2.ensures.is c.in-Err.ensures
+    (g.B.Nodes.stands c.args.second.now) (g.A.Nodes.says c.args.first.now) (g.B.Nodes.says c.args.second.now)
+    c.args.proof.now c.in-Err.fault
+    (is_said g.A.Hash.Hashes.of (g.A.Nodes.stands c.args.first.now) _ _ c.top.ensures.says c.top.ensures.is)
+    (is_said g.B.Hash.Hashes.of (g.B.Nodes.stands c.args.second.now) _ _ c.top-2.ensures.says c.top-2.ensures.is)
+    c.in-Err.ensures
 
 pub returns-in-Err-clause-rules : goal.returns-in-Err-clause-rules
 returns-in-Err-clause-rules g c =
     finding_breaks g.A.Hash.Hashes.of g.B.Hash.Hashes.of (g.A.Nodes.stands c.args.first.now)
-    (g.B.Nodes.stands c.args.second.now) c.args.proof.now (Ok (findings.Refused c.in-Err.fault)) (unread_judged
-    g.A.Hash.Hashes.of g.B.Hash.Hashes.of (g.A.Nodes.stands c.args.first.now)
-    (g.B.Nodes.stands c.args.second.now) c.top.result c.top-2.result c.args.proof.now c.in-Err.fault c.top.ensures.is
-    c.top-2.ensures.is c.in-Err.ensures)
+    (g.B.Nodes.stands c.args.second.now) (g.A.Nodes.says c.args.first.now) (g.B.Nodes.says c.args.second.now)
+    c.args.proof.now (Ok (findings.Refused c.in-Err.fault)) (returns-in-Err-clause-judged g c)
 
 pub returns-in-Err-clause-fetches : goal.returns-in-Err-clause-fetches
 returns-in-Err-clause-fetches g c =
@@ -60,8 +65,11 @@ returns-in-Err-clause-fetches g c =
     c.args.first.now)
     (g.A.Nodes.fetches c.args.first.now)) (watched (g.B.Nodes.stands c.args.second.now) (g.B.Nodes.fetches
     c.args.second.now)
-    (g.B.Nodes.fetches c.args.second.now)) c.args.proof.now c.top.result c.top-2.result
-    c.top.ensures.is c.top-2.ensures.is (omega arith) (omega arith)
+    (g.B.Nodes.fetches c.args.second.now)) c.args.proof.now (g.A.Nodes.says c.args.first.now) (g.B.Nodes.says
+    c.args.second.now)
+    (is_said g.A.Hash.Hashes.of (g.A.Nodes.stands c.args.first.now) _ _ c.top.ensures.says c.top.ensures.is)
+    (is_said g.B.Hash.Hashes.of (g.B.Nodes.stands c.args.second.now) _ _ c.top-2.ensures.says c.top-2.ensures.is)
+    (omega arith) (omega arith)
 
 pub returns-in-Err-clause-fetched_first : goal.returns-in-Err-clause-fetched_first
 returns-in-Err-clause-fetched_first g c =
@@ -69,7 +77,8 @@ returns-in-Err-clause-fetched_first g c =
     c.args.first.now)
     (g.A.Nodes.fetches c.args.first.now))
     (watched (g.B.Nodes.stands c.args.second.now) (g.B.Nodes.fetches c.args.second.now)
-    (g.B.Nodes.fetches c.args.second.now)) c.args.proof.now
+    (g.B.Nodes.fetches c.args.second.now)) (g.A.Nodes.says c.args.first.now)
+    (g.B.Nodes.says c.args.second.now) c.args.proof.now
     (returns-in-Err-clause-fetches g c)
 
 pub returns-in-Err-clause-fetched_honest_first : goal.returns-in-Err-clause-fetched_honest_first
@@ -81,9 +90,14 @@ returns-in-Err-clause-fetched_honest_first g c =
     (g.A.Nodes.fetches c.args.first.now))
     (watched (g.B.Nodes.stands c.args.second.now) (g.B.Nodes.fetches c.args.second.now)
     (g.B.Nodes.fetches c.args.second.now)) c.args.proof.now
-    c.top.result c.top-2.result (record { accepts = one.accepted; honest = one.honest; quiet = one.quiet })
-    (record { accepts = two.accepted; honest = two.honest; quiet = two.quiet }) c.top.ensures.is c.top-2.ensures.is
-    c.is_word.ensures c.is_word-2.ensures (returns-in-Err-clause-fetches g c)
+    (g.A.Nodes.says c.args.first.now) (g.B.Nodes.says c.args.second.now)
+    (record { accepts = one.accepted; honest = one.honest; quiet = one.quiet })
+    (record { accepts = two.accepted; honest = two.honest; quiet = two.quiet })
+    (is_said g.A.Hash.Hashes.of (g.A.Nodes.stands c.args.first.now) _ _ c.top.ensures.says c.top.ensures.is)
+    (is_said g.B.Hash.Hashes.of (g.B.Nodes.stands c.args.second.now) _ _ c.top-2.ensures.says c.top-2.ensures.is)
+    (subst (λ (top : Top). top.batch < 2 ^ 64) c.top.ensures.says c.is_word.ensures)
+    (subst (λ (top : Top). top.batch < 2 ^ 64) c.top-2.ensures.says c.is_word-2.ensures)
+    (returns-in-Err-clause-fetches g c)
     (g.met.A.Nodes.well_formed c.args.first.now) (g.met.B.Nodes.well_formed c.args.second.now)
 
 pub returns-in-Err-clause-fetched_second : goal.returns-in-Err-clause-fetched_second
@@ -92,7 +106,8 @@ returns-in-Err-clause-fetched_second g c =
     c.args.first.now)
     (g.A.Nodes.fetches c.args.first.now))
     (watched (g.B.Nodes.stands c.args.second.now) (g.B.Nodes.fetches c.args.second.now)
-    (g.B.Nodes.fetches c.args.second.now)) c.args.proof.now
+    (g.B.Nodes.fetches c.args.second.now)) (g.A.Nodes.says c.args.first.now)
+    (g.B.Nodes.says c.args.second.now) c.args.proof.now
     (returns-in-Err-clause-fetches g c)
 
 pub returns-in-Err-clause-fetched_honest_second : goal.returns-in-Err-clause-fetched_honest_second
@@ -104,24 +119,30 @@ returns-in-Err-clause-fetched_honest_second g c =
     (g.A.Nodes.fetches c.args.first.now))
     (watched (g.B.Nodes.stands c.args.second.now) (g.B.Nodes.fetches c.args.second.now)
     (g.B.Nodes.fetches c.args.second.now)) c.args.proof.now
-    c.top.result c.top-2.result (record { accepts = one.accepted; honest = one.honest; quiet = one.quiet })
-    (record { accepts = two.accepted; honest = two.honest; quiet = two.quiet }) c.top.ensures.is c.top-2.ensures.is
-    c.is_word.ensures c.is_word-2.ensures (returns-in-Err-clause-fetches g c)
+    (g.A.Nodes.says c.args.first.now) (g.B.Nodes.says c.args.second.now)
+    (record { accepts = one.accepted; honest = one.honest; quiet = one.quiet })
+    (record { accepts = two.accepted; honest = two.honest; quiet = two.quiet })
+    (is_said g.A.Hash.Hashes.of (g.A.Nodes.stands c.args.first.now) _ _ c.top.ensures.says c.top.ensures.is)
+    (is_said g.B.Hash.Hashes.of (g.B.Nodes.stands c.args.second.now) _ _ c.top-2.ensures.says c.top-2.ensures.is)
+    (subst (λ (top : Top). top.batch < 2 ^ 64) c.top.ensures.says c.is_word.ensures)
+    (subst (λ (top : Top). top.batch < 2 ^ 64) c.top-2.ensures.says c.is_word-2.ensures)
+    (returns-in-Err-clause-fetches g c)
     (g.met.A.Nodes.well_formed c.args.first.now) (g.met.B.Nodes.well_formed c.args.second.now)
 
 pub returns-in-Ok-clause-judged : goal.returns-in-Ok-clause-judged
 returns-in-Ok-clause-judged g c =
     read_judged g.A.Hash.Hashes.of g.B.Hash.Hashes.of (g.A.Nodes.stands c.args.first.now)
-    (g.B.Nodes.stands c.args.second.now) c.args.proof.now (frame_value c.in-Ok.frame) c.audit_frame.result
+    (g.B.Nodes.stands c.args.second.now) (g.A.Nodes.says c.args.first.now) (g.B.Nodes.says c.args.second.now)
+    c.args.proof.now (frame_value c.in-Ok.frame) c.audit_frame.result
+    (is_said g.A.Hash.Hashes.of (g.A.Nodes.stands c.args.first.now) _ _ c.top.ensures.says c.top.ensures.is)
+    (is_said g.B.Hash.Hashes.of (g.B.Nodes.stands c.args.second.now) _ _ c.top-2.ensures.says c.top-2.ensures.is)
     c.in-Ok.ensures c.audit_frame.ensures.judged
 
 pub returns-in-Ok-clause-rules : goal.returns-in-Ok-clause-rules
 returns-in-Ok-clause-rules g c =
     finding_breaks g.A.Hash.Hashes.of g.B.Hash.Hashes.of (g.A.Nodes.stands c.args.first.now)
-    (g.B.Nodes.stands c.args.second.now) c.args.proof.now c.audit_frame.result (read_judged g.A.Hash.Hashes.of
-    g.B.Hash.Hashes.of (g.A.Nodes.stands c.args.first.now)
-    (g.B.Nodes.stands c.args.second.now) c.args.proof.now (frame_value c.in-Ok.frame) c.audit_frame.result
-    c.in-Ok.ensures c.audit_frame.ensures.judged)
+    (g.B.Nodes.stands c.args.second.now) (g.A.Nodes.says c.args.first.now) (g.B.Nodes.says c.args.second.now)
+    c.args.proof.now c.audit_frame.result (returns-in-Ok-clause-judged g c)
 
 pub returns-in-Ok-clause-fetches : goal.returns-in-Ok-clause-fetches
 returns-in-Ok-clause-fetches g c =
@@ -129,7 +150,10 @@ returns-in-Ok-clause-fetches g c =
     c.args.first.now)
     (g.A.Nodes.fetches c.audit_frame.new.first)) (watched (g.B.Nodes.stands c.args.second.now) (g.B.Nodes.fetches
     c.args.second.now)
-    (g.B.Nodes.fetches c.audit_frame.new.second)) c.args.proof.now
+    (g.B.Nodes.fetches c.audit_frame.new.second)) c.args.proof.now (g.A.Nodes.says c.args.first.now) (g.B.Nodes.says
+    c.args.second.now)
+    (is_said g.A.Hash.Hashes.of (g.A.Nodes.stands c.args.first.now) _ _ c.top.ensures.says c.top.ensures.is)
+    (is_said g.B.Hash.Hashes.of (g.B.Nodes.stands c.args.second.now) _ _ c.top-2.ensures.says c.top-2.ensures.is)
     (frame_value c.in-Ok.frame) c.in-Ok.ensures c.audit_frame.ensures.fetches
 
 pub returns-in-Ok-clause-fetched_first : goal.returns-in-Ok-clause-fetched_first
@@ -138,7 +162,8 @@ returns-in-Ok-clause-fetched_first g c =
     c.args.first.now)
     (g.A.Nodes.fetches c.audit_frame.new.first))
     (watched (g.B.Nodes.stands c.args.second.now) (g.B.Nodes.fetches c.args.second.now)
-    (g.B.Nodes.fetches c.audit_frame.new.second)) c.args.proof.now
+    (g.B.Nodes.fetches c.audit_frame.new.second)) (g.A.Nodes.says c.args.first.now)
+    (g.B.Nodes.says c.args.second.now) c.args.proof.now
     (returns-in-Ok-clause-fetches g c)
 
 pub returns-in-Ok-clause-fetched_honest_first : goal.returns-in-Ok-clause-fetched_honest_first
@@ -150,9 +175,14 @@ returns-in-Ok-clause-fetched_honest_first g c =
     (g.A.Nodes.fetches c.audit_frame.new.first))
     (watched (g.B.Nodes.stands c.args.second.now) (g.B.Nodes.fetches c.args.second.now)
     (g.B.Nodes.fetches c.audit_frame.new.second)) c.args.proof.now
-    c.top.result c.top-2.result (record { accepts = one.accepted; honest = one.honest; quiet = one.quiet })
-    (record { accepts = two.accepted; honest = two.honest; quiet = two.quiet }) c.top.ensures.is c.top-2.ensures.is
-    c.is_word.ensures c.is_word-2.ensures (returns-in-Ok-clause-fetches g c)
+    (g.A.Nodes.says c.args.first.now) (g.B.Nodes.says c.args.second.now)
+    (record { accepts = one.accepted; honest = one.honest; quiet = one.quiet })
+    (record { accepts = two.accepted; honest = two.honest; quiet = two.quiet })
+    (is_said g.A.Hash.Hashes.of (g.A.Nodes.stands c.args.first.now) _ _ c.top.ensures.says c.top.ensures.is)
+    (is_said g.B.Hash.Hashes.of (g.B.Nodes.stands c.args.second.now) _ _ c.top-2.ensures.says c.top-2.ensures.is)
+    (subst (λ (top : Top). top.batch < 2 ^ 64) c.top.ensures.says c.is_word.ensures)
+    (subst (λ (top : Top). top.batch < 2 ^ 64) c.top-2.ensures.says c.is_word-2.ensures)
+    (returns-in-Ok-clause-fetches g c)
     (g.met.A.Nodes.well_formed c.args.first.now) (g.met.B.Nodes.well_formed c.args.second.now)
 
 pub returns-in-Ok-clause-fetched_second : goal.returns-in-Ok-clause-fetched_second
@@ -161,7 +191,8 @@ returns-in-Ok-clause-fetched_second g c =
     c.args.first.now)
     (g.A.Nodes.fetches c.audit_frame.new.first))
     (watched (g.B.Nodes.stands c.args.second.now) (g.B.Nodes.fetches c.args.second.now)
-    (g.B.Nodes.fetches c.audit_frame.new.second)) c.args.proof.now
+    (g.B.Nodes.fetches c.audit_frame.new.second)) (g.A.Nodes.says c.args.first.now)
+    (g.B.Nodes.says c.args.second.now) c.args.proof.now
     (returns-in-Ok-clause-fetches g c)
 
 pub returns-in-Ok-clause-fetched_honest_second : goal.returns-in-Ok-clause-fetched_honest_second
@@ -173,7 +204,12 @@ returns-in-Ok-clause-fetched_honest_second g c =
     (g.A.Nodes.fetches c.audit_frame.new.first))
     (watched (g.B.Nodes.stands c.args.second.now) (g.B.Nodes.fetches c.args.second.now)
     (g.B.Nodes.fetches c.audit_frame.new.second)) c.args.proof.now
-    c.top.result c.top-2.result (record { accepts = one.accepted; honest = one.honest; quiet = one.quiet })
-    (record { accepts = two.accepted; honest = two.honest; quiet = two.quiet }) c.top.ensures.is c.top-2.ensures.is
-    c.is_word.ensures c.is_word-2.ensures (returns-in-Ok-clause-fetches g c)
+    (g.A.Nodes.says c.args.first.now) (g.B.Nodes.says c.args.second.now)
+    (record { accepts = one.accepted; honest = one.honest; quiet = one.quiet })
+    (record { accepts = two.accepted; honest = two.honest; quiet = two.quiet })
+    (is_said g.A.Hash.Hashes.of (g.A.Nodes.stands c.args.first.now) _ _ c.top.ensures.says c.top.ensures.is)
+    (is_said g.B.Hash.Hashes.of (g.B.Nodes.stands c.args.second.now) _ _ c.top-2.ensures.says c.top-2.ensures.is)
+    (subst (λ (top : Top). top.batch < 2 ^ 64) c.top.ensures.says c.is_word.ensures)
+    (subst (λ (top : Top). top.batch < 2 ^ 64) c.top-2.ensures.says c.is_word-2.ensures)
+    (returns-in-Ok-clause-fetches g c)
     (g.met.A.Nodes.well_formed c.args.first.now) (g.met.B.Nodes.well_formed c.args.second.now)

@@ -15,18 +15,21 @@ returns-clause-told g c =
 
 pub returns-clause-judged : goal.returns-clause-judged
 returns-clause-judged g c =
-    part_judged g.N.Hash.Hashes.of (g.N.Nodes.stands c.args.nodes.now) c.in_ok-meets.meets c.args.list.now
-    c.args.proof.now c.in_ok-finding.finding c.worth_of.result c.worth_of.ensures c.in_ok-finding.ensures.judged
+    part_judged g.N.Hash.Hashes.of (g.N.Nodes.stands c.args.nodes.now) (g.N.Nodes.says c.args.nodes.now)
+    c.in_ok-meets.meets c.args.list.now c.args.proof.now c.in_ok-finding.finding c.worth_of.result c.worth_of.ensures
+    c.in_ok-finding.ensures.judged
     c.in_ok-meets.ensures
 
 pub returns-clause-fetches : goal.returns-clause-fetches
 returns-clause-fetches g c =
     part_few g.N.Hash.Hashes.of (watched (g.N.Nodes.stands c.args.nodes.now) (g.N.Nodes.fetches c.args.nodes.now)
-    (g.N.Nodes.fetches c.audit_choice.new.nodes)) c.in_ok-meets.meets c.args.list.now c.args.proof.now
+    (g.N.Nodes.fetches c.audit_choice.new.nodes)) (g.N.Nodes.says c.args.nodes.now)
+    c.in_ok-meets.meets c.args.list.now c.args.proof.now
     c.in_ok-finding.ensures.fetches c.in_ok-meets.ensures
 
 pub returns-in_err-finding-clause-fetches : goal.returns-in_err-finding-clause-fetches
 returns-in_err-finding-clause-fetches g c =
     part_few g.N.Hash.Hashes.of (watched (g.N.Nodes.stands c.args.nodes.now) (g.N.Nodes.fetches c.args.nodes.now)
-    (g.N.Nodes.fetches c.audit_choice.new.nodes)) c.in_ok-meets.meets c.args.list.now c.args.proof.now
+    (g.N.Nodes.fetches c.audit_choice.new.nodes)) (g.N.Nodes.says c.args.nodes.now)
+    c.in_ok-meets.meets c.args.list.now c.args.proof.now
     c.in_err-finding.ensures.fetches c.in_ok-meets.ensures

@@ -2,7 +2,7 @@ use Rattle.std.proofs.Common.{◌≡◌, ◌≤◌, ◌+◌, ◌/◌, arith, sym
 use Rattle.std.specs.Prelude.{Err, length, max}
 use Rattle.std.proofs.lemmas.Result.{err_from_is_err_and}
 use Rattle.mr_outside.specs.Told.{OfFile}
-use Rattle.mr_record.specs.private.Bytes.{AreBytes}
+use Rattle.mr_outside.specs.Bytes.{AreBytes}
 use Rattle.mr_record.specs.declared.version.Version.TheVariants.{One}
 use Rattle.mr_pages.specs.Opening.{opened_as, of_shelf, FailsWithoutFault, TellsBytes}
 use Rattle.mr_pages.specs.PageBytes.{form_by}

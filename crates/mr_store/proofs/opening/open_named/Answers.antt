@@ -1,7 +1,7 @@
 use Rattle.std.proofs.Common.{arith, subst, sym}
 use Rattle.std.specs.Prelude.{⊤}
 use Rattle.mr_outside.specs.Told.{OfFile}
-use Rattle.mr_record.specs.private.Bytes.{AreBytes}
+use Rattle.mr_outside.specs.Bytes.{AreBytes}
 use Rattle.mr_pages.specs.PageBytes.{form_of}
 use Rattle.mr_pages.specs.Source.{IsFrontOfFile}
 use Rattle.mr_pages.specs.private.Walks.{IsPaged}
