@@ -1,7 +1,7 @@
 -- What the steps of an update leave of its images.
 use Rattle.std.proofs.Common.{◌≡◌, ◌⊎◌, inl, inr, ⊎_elim, ℕ, suc, ◌+◌, ◌<◌, true, false, eqb, List, [], ◌∷◌, ◌++◌, length, get_or, drop, Option, Some, None, option_map, IfSome, IsSomeAnd, Result, Ok, Err, OnOk, refl, sym, ap, ◌∙◌, subst, arith}
 use Rattle.std.proofs.lemmas.List.{ext_get_or, append-nil}
-use Rattle.std.proofs.lemmas.Bool.{cases_eq, and_left, and_right, ne_eqb, cond-true, cond-false}
+use Rattle.std.proofs.lemmas.Bool.{cases_eq, and_left, and_right, eq-eqb, ne_eqb, cond-true, cond-false}
 use Rattle.std.proofs.lemmas.Result.{on_ok_weaker}
 use Rattle.mr_outside.specs.Files.{replaced}
 use Rattle.mr_journal.specs.declared.disk.Area.TheVariants.{Map, Journal}
@@ -10,7 +10,7 @@ use Rattle.mr_journal.specs.Images.{Image, DiskState, written, InArea, Unchanged
 use Rattle.mr_journal.specs.Torn.{Torn, TornAt}
 use Rattle.mr_journal.specs.Moments.{ImagesSince, EveryImage, IsAfterStep, AddsOnly, AddsSteps, IsDurable, IsOnlyImage, LeadsThrough}
 use Rattle.mr_journal.specs.Format.{number_of, entries, pages_fit, put_pages, ready, carried, opens, body_of, is_open, restored}
-use Rattle.mr_journal.specs.private.Parsed.{places, with_pages, first_of, IsParsed}
+use Rattle.mr_journal.specs.private.Parsed.{places, with_pages, first_of, gated, IsParsed}
 use Rattle.mr_journal.specs.States.{IsShutAt, IsArmedFor, IsSettledAt, EitherOf, RestoresAs}
 use Rattle.mr_journal.specs.private.Progress.{HasGate, IsClearedAt, IsInvalidAt, IsFilledBy, IsArmedBy, IsCarriedBy}
 use Rattle.mr_journal.proofs.Paging.{placed_more, absorbed, ready_append, carried_append, head_kept, head_put, way_long}
@@ -463,26 +463,64 @@ carry_leads a b c s u w body size count bytes r p early earlier counts moves put
           d x now (every_after a c s w P P earlier (course all) all (λ y q. q) x now)) durable;
     }
 
+-- what is read of a journal
+gated_all : (gate : ℕ) (body : List ℕ) → gate ≡ 79 → gated (gate ∷ body) ≡ gate ∷ body
+gated_all gate body is = cond-true (eqb gate 79) (gate ∷ body) [] (eq-eqb gate 79 is)
+
+gated_none : (gate : ℕ) (body : List ℕ) → (gate ≡ 79 → ⊥) → gated (gate ∷ body) ≡ []
+gated_none gate body ne = cond-false (eqb gate 79) (gate ∷ body) [] (ne_eqb gate 79 ne)
+
+gated_opens : (n : ℕ) (journal : List ℕ) → opens n (gated journal) ≡ opens n journal
+gated_opens n [] = refl
+gated_opens n (gate ∷ body) = ⊎_elim
+    (λ is. ap (opens n) (gated_all gate body is))
+    (λ ne. ap (opens n) (gated_none gate body ne) ∙ sym (shut_gate n gate body ne))
+    (cases_eq gate 79)
+
+none_whole : (body : List ℕ) → [] ≡ 79 ∷ body → ⊥
+none_whole body e = cc
+
+gated_whole : (journal body : List ℕ) → gated journal ≡ 79 ∷ body → journal ≡ 79 ∷ body
+gated_whole [] body e = e
+gated_whole (gate ∷ rest) body e = ⊎_elim
+    (λ is. sym (gated_all gate rest is) ∙ e)
+    (λ ne. absurd (none_whole body (sym (gated_none gate rest ne) ∙ e)))
+    (cases_eq gate 79)
+
+-- it restores to the same map
+gated_restores : (map journal : List ℕ)
+    → restored (record { map = map; journal = gated journal }) ≡ restored (record { map = map; journal = journal })
+gated_restores map [] = refl
+gated_restores map (gate ∷ body) = ⊎_elim
+    (λ is. ap (λ (j : List ℕ). restored (record { map = map; journal = j })) (gated_all gate body is))
+    (λ ne.
+    let shut = shut_gate (length map) gate body ne in
+    shut_restores map (record { map = map; journal = gated (gate ∷ body) })
+    (record { map_is = refl; shut = gated_opens (length map) (gate ∷ body) ∙ shut })
+    ∙ sym (shut_restores map (record { map = map; journal = gate ∷ body })
+    (record { map_is = refl; shut = shut })))
+    (cases_eq gate 79)
+
 -- what was read says whether the journal is open
 abbrev IsRead : List ℕ → ℕ → Option Image → Type 0
-IsRead journal n contents = IfSome contents (λ k. (journal ≡ k.journal) × (n ≡ length k.map))
+IsRead journal n contents = IfSome contents (λ k. (journal ≡ gated k.journal) × (n ≡ length k.map))
 
 read_some : (journal : List ℕ) (n : ℕ) (contents : Option Image) (k : Image) → IsRead journal n contents
-    → contents ≡ Some k → (journal ≡ k.journal) × (n ≡ length k.map)
+    → contents ≡ Some k → (journal ≡ gated k.journal) × (n ≡ length k.map)
 read_some journal n contents k read is = subst (λ (o : Option Image). IsRead journal n o) is read
 
 pub shut_read : (journal : List ℕ) (n : ℕ) (contents : Option Image) → IsRead journal n contents
     → opens n journal ≡ false → (k : Image) → contents ≡ Some k → is_open k ≡ false
 shut_read journal n contents read shut k is =
     let r = read_some journal n contents k read is in
-    (λ i. opens (sym r.1 i) (sym r.0 i)) ∙ shut
+    sym (gated_opens (length k.map) k.journal) ∙ (λ i. opens (sym r.1 i) (sym r.0 i)) ∙ shut
 
 pub opened_read : (journal : List ℕ) (n : ℕ) (contents : Option Image) (body : List ℕ) → IsRead journal n contents
     → journal ≡ 79 ∷ body → ready n body ≡ true
     → (k : Image) → contents ≡ Some k → (k.journal ≡ 79 ∷ body) × (ready (length k.map) body ≡ true)
 opened_read journal n contents body read is fit k some =
     let r = read_some journal n contents k read some in
-    (sym r.0 ∙ is, ap (λ (m : ℕ). ready m body) (sym r.1) ∙ fit)
+    (gated_whole k.journal body (sym r.0 ∙ is), ap (λ (m : ℕ). ready m body) (sym r.1) ∙ fit)
 
 pub ready_read : (journal : List ℕ) (n : ℕ) (contents : Option Image) (body : List ℕ) → IsRead journal n contents
     → ready n body ≡ true → IfSome contents (λ k. ready (length k.map) body ≡ true)
@@ -537,3 +575,24 @@ pub head_there : (body : List ℕ) (n size count : ℕ) (bytes : List ℕ) → r
     → IsParsed body size count bytes → 8 < length bytes
 head_there body n size count bytes fit p =
     omega (arith, p.large, way_long size 0 n count bytes p.small.0 (omega (arith, p.some)) (sym (p.fits n) ∙ fit))
+
+-- byte 4 of the map to which a disk restores, by what was read of its journal
+pub version_first : (journal : List ℕ) (n : ℕ) (contents : Option Image) (byte : ℕ) → IsRead journal n contents
+    → ((map : List ℕ) → length map ≡ n → get_or (restored (record { map = map; journal = journal })) 4 0 ≡ byte)
+    → IfSome contents (λ k. eqb byte 2 ≡ eqb (get_or (restored k) 4 0) 2)
+version_first journal n None byte read first = read
+version_first journal n (Some k) byte read first =
+    ap (λ (b : ℕ). eqb b 2) (sym (first k.map (sym read.1))
+    ∙ ap (λ (j : List ℕ). get_or (restored (record { map = k.map; journal = j })) 4 0) read.0
+    ∙ ap (λ (m : List ℕ). get_or m 4 0) (gated_restores k.map k.journal))
+
+pub version_same : (journal : List ℕ) (n : ℕ) (contents : Option Image) (byte : ℕ) → IsRead journal n contents
+    → ((map : List ℕ) → length map ≡ n
+    → get_or (restored (record { map = map; journal = journal })) 4 0 ≡ get_or map 4 0)
+    → IfSome contents (λ k. byte ≡ get_or k.map 4 0)
+    → IfSome contents (λ k. eqb byte 2 ≡ eqb (get_or (restored k) 4 0) 2)
+version_same journal n None byte read same held = read
+version_same journal n (Some k) byte read same held =
+    ap (λ (b : ℕ). eqb b 2) (held ∙ sym (same k.map (sym read.1))
+    ∙ ap (λ (j : List ℕ). get_or (restored (record { map = k.map; journal = j })) 4 0) read.0
+    ∙ ap (λ (m : List ℕ). get_or m 4 0) (gated_restores k.map k.journal))

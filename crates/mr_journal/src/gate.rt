@@ -2,7 +2,7 @@
 
 ghost use Rattle.std.specs.Prelude.{◌≡◌, ℕ, ◌<◌, ◌≤◌, ◌≢◌, true, List, [], ◌∷◌, length, Some, None, Option, IfSome, IfOk, OnOk, option_map};
 ghost use Rattle.mr_journal.specs.Images.{written, Unchanged};
-ghost use Rattle.mr_journal.specs.Moments.{AddsSteps, LeadsThrough, DiskCauses};
+ghost use Rattle.mr_journal.specs.Moments.{AddsSteps, LeadsThrough, DiskCauses, KeepsImages};
 ghost use Rattle.mr_journal.specs.Format.{ready, carried};
 ghost use Rattle.mr_journal.specs.private.Parsed.{first_of};
 ghost use Rattle.mr_journal.specs.States.{IsShutAt, IsArmedFor, IsSettledAt, EitherOf};
@@ -14,14 +14,17 @@ use crate::{Area, Disk, DiskErr};
 /// The first byte of an open journal.
 pub(crate) const GATE: u8 = 0x4f;
 
-// The gate, where the journal has a byte.
-fn gate_of<D: Disk>(disk: &mut D) -> Result<Option<u8>, DiskErr>
+/// The gate, where the journal has a byte. Nothing else of the journal is read.
+pub(crate) fn gate_of<D: Disk>(disk: &mut D) -> Result<Option<u8>, DiskErr>
     ensures gate { IfOk result (λ gate. IfSome (D.state disk.old).contents
         (λ k. gate ≡ first_of k.journal)) }
     ensures contents { (D.state disk.new).contents ≡ (D.state disk.old).contents }
     ensures moves { AddsSteps (D.state disk.old) (D.state disk.new) (D.images disk.old)
         (D.images disk.new) Unchanged }
     ensures causes { DiskCauses (D.state disk.old) (D.state disk.new) result }
+    ensures stays { KeepsImages (D.state disk.old) (D.state disk.new) (D.images disk.old)
+        (D.images disk.new) }
+    ensures still { D.still disk.old disk.new }
     ensures kept { D.kept disk.old disk.new }
 {
     let mut byte = [0u8];

@@ -28,6 +28,8 @@ fn redo<D: Disk>(alloc: Global, disk: &mut D) -> Result<bool, DiskErr>
     ensures left { OnOk result ((D.state disk.new).contents
         ≡ option_map recovered (D.state disk.old).contents) }
     ensures still { IfOk result (λ was. was ≡ false → D.still disk.old disk.new) }
+    ensures shut { IfSome (D.state disk.old).contents
+        (λ k. is_open k ≡ false → D.still disk.old disk.new) }
     ensures causes { DiskCauses (D.state disk.old) (D.state disk.new) result }
     ensures kept { D.kept disk.old disk.new }
 {
@@ -43,7 +45,8 @@ fn redo<D: Disk>(alloc: Global, disk: &mut D) -> Result<bool, DiskErr>
 
 /// Finishes a change of the map that a crash cut short: puts the pages of an open journal into the
 /// map and closes the journal. It answers whether the journal was open, and may be cut short by a
-/// crash itself. The whole journal is held in memory.
+/// crash itself. The whole journal is held in memory where its gate is open; of another one the
+/// gate alone is read.
 pub fn recover<D: Disk>(alloc: Global, disk: &mut D) -> Result<bool, RecoverErr>
     // Each image at any moment of the call restores to what an image at its start restores to.
     ensures any_moment { AddsOnly (D.state disk.old) (D.state disk.new)
@@ -60,6 +63,9 @@ pub fn recover<D: Disk>(alloc: Global, disk: &mut D) -> Result<bool, RecoverErr>
         ≡ option_map recovered (D.state disk.old).contents) }
     // Where it wasn't open, nothing is made either that was not there.
     ensures still { IfOk result (λ was. was ≡ false → D.still disk.old disk.new) }
+    // Where the contents are told, that goes for every answer.
+    ensures shut { IfSome (D.state disk.old).contents
+        (λ k. is_open k ≡ false → D.still disk.old disk.new) }
     ensures causes { DiskCauses (D.state disk.old) (D.state disk.new) result }
     ensures kept { D.kept disk.old disk.new }
 {

@@ -45,7 +45,8 @@ fn map_byte<D: Disk>(disk: &mut D) -> Result<u8, DiskErr>
 }
 
 /// Whether the map is of version 2 as recovery would leave it, which byte 4 of its file says: 02 in
-/// version 2. Nothing is written or synced. The whole journal is held in memory.
+/// version 2. Nothing is written or synced. The whole journal is held in memory where its gate is
+/// open; of another one the gate alone is read.
 pub fn is_version_two<D: Disk>(alloc: Global, disk: &mut D) -> Result<bool, RecoverErr>
     ensures version { IfOk result (λ two. IfSome (D.state disk.old).contents
         (λ k. two ≡ (slice_index (restored k) 4 == 2))) }

@@ -8,8 +8,8 @@ use mr_fixtures::listed::Listed;
 use mr_fixtures::parts::{number, numbers};
 use mr_fixtures::runs::{shelf_with, words};
 use mr_outside::{NoGate, Shelf, Sink};
-use mr_system::{StdShelf, StdSink};
-use mr_tool::{Status, run};
+use mr_system::{StdShelf, StdSink, SystemFiles};
+use mr_tool::{Status, changed_in_place, run};
 use mr_tree::{Hash32, Sha, XorHash};
 use std::alloc::{AllocError, Global};
 use std::cell::{Cell, RefCell};
@@ -55,19 +55,25 @@ fn carried_out<H: Hash32, S: Shelf + Drop, W: Sink, R: Threads + Sync>(
 }
 
 // Runs a command line over files and an output of which a call fails: its status.
-fn status_of<H: Hash32, R: Threads + Files + Sync>(
+fn status_of<H: Hash32, R: Threads + SystemFiles + Sync>(
     rt: &R,
     alloc: Global,
     words: &[String],
     failing: &Failing<'_, R>,
 ) -> u8 {
-    let shelf = StdShelf::new(failing, alloc);
+    let made = match changed_in_place(words) {
+        Some((map, must_write)) => StdShelf::changing(failing, alloc, map, must_write),
+        None => Ok(StdShelf::new(failing, alloc)),
+    };
+    let Ok(shelf) = made else {
+        return Status::NoMemory.code();
+    };
     let mut out = StdSink::new(failing);
     let (status, _left) = carried_out::<H, _, _, R>(rt, alloc, words, shelf, &mut out);
     status.code()
 }
 
-fn ended_by<'a, H: Hash32, R: Threads + Files + Sync>(
+fn ended_by<'a, H: Hash32, R: Threads + SystemFiles + Sync>(
     rt: &'a R,
     alloc: Global,
     words: &[String],
@@ -89,7 +95,7 @@ fn ended_by<'a, H: Hash32, R: Threads + Files + Sync>(
 }
 
 // Runs the command line of a row, of which this call fails.
-fn run_of<R: Threads + Files + Sync>(
+fn run_of<R: Threads + SystemFiles + Sync>(
     rt: &R,
     alloc: Global,
     case: &Case,
@@ -208,7 +214,7 @@ fn is_unfinished<R: Threads + Sync>(
 
 // Whether the file that is made is as before, or whole, or what may stand there for a part of it:
 // of a map what `list` refuses, else a front.
-fn is_left<R: Threads + Files + Sync>(
+fn is_left<R: Threads + SystemFiles + Sync>(
     rt: &R,
     alloc: Global,
     case: &Case,
@@ -247,7 +253,7 @@ fn is_told(case: &Case, ended: &Ended) -> bool {
 }
 
 // Whether a run is as it may be of which this call fails, or no call where it makes fewer.
-fn is_right<R: Threads + Files + Sync>(
+fn is_right<R: Threads + SystemFiles + Sync>(
     rt: &R,
     alloc: Global,
     case: &Case,
@@ -268,7 +274,7 @@ const MANY: u64 = 10_000;
 
 // Runs a row with each call failing in turn, and then once more: how many calls that run makes;
 // none where a run is not as it may be.
-fn count_calls<R: Threads + Files + Sync>(
+fn count_calls<R: Threads + SystemFiles + Sync>(
     rt: &R,
     alloc: Global,
     case: &Case,
@@ -355,7 +361,7 @@ fn are_free<R: Files>(rt: &R, alloc: Global, case: &Case) -> bool {
 
 // Whether a row over these files is so where each call of its run fails in turn, and the run makes
 // so many calls at least.
-pub(crate) fn holds<R: Threads + Files + Sync>(
+pub(crate) fn holds<R: Threads + SystemFiles + Sync>(
     rt: &R,
     alloc: Global,
     is_sha: bool,

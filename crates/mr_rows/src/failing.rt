@@ -1,9 +1,10 @@
 //! Files on the real file system and an output in memory, of which one call fails.
 
+use mr_system::SystemFiles;
 use std::alloc::Allocator;
 use std::cell::{Cell, RefCell};
 use std::fmt::Display;
-use std::fs::{Metadata, OpenFile, OpenOptions};
+use std::fs::{Metadata, OpenFile, OpenOptions, Permissions};
 use std::io::{self, Read, Seek, SeekFrom, Write};
 use std::rt;
 
@@ -105,6 +106,11 @@ impl<F: OpenFile> OpenFile for FailingFile<'_, F> {
         self.calls.count()?;
         self.file.sync_data()
     }
+
+    fn set_permissions(&self, rights: Permissions) -> io::Result<()> {
+        self.calls.count()?;
+        self.file.set_permissions(rights)
+    }
 }
 
 // The file system and an output that takes few bytes a call. Calls that the program does not make
@@ -145,8 +151,9 @@ impl<'a, R: rt::Files> rt::Files for Failing<'a, R> {
         self.rt.metadata(path)
     }
 
-    fn symlink_metadata(&self, _path: &str) -> io::Result<Metadata> {
-        Err(unsupported())
+    fn symlink_metadata(&self, path: &str) -> io::Result<Metadata> {
+        self.calls.count()?;
+        self.rt.symlink_metadata(path)
     }
 
     fn copy(&self, _from: &str, _to: &str) -> io::Result<u64> {
@@ -171,6 +178,23 @@ impl<'a, R: rt::Files> rt::Files for Failing<'a, R> {
 
     fn remove_dir_all<B: Allocator>(&self, _alloc: B, _path: &str) -> io::Result<()> {
         Err(unsupported())
+    }
+}
+
+impl<'a, R: SystemFiles> SystemFiles for Failing<'a, R> {
+    fn try_lock(&self, file: &FailingFile<'a, R::File>) -> io::Result<()> {
+        self.calls.count()?;
+        self.rt.try_lock(&file.file)
+    }
+
+    fn set_owner(
+        &self,
+        file: &FailingFile<'a, R::File>,
+        owner: Option<u32>,
+        group: Option<u32>,
+    ) -> io::Result<()> {
+        self.calls.count()?;
+        self.rt.set_owner(&file.file, owner, group)
     }
 }
 

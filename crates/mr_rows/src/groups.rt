@@ -10,8 +10,8 @@ use crate::steps::{Said, is_so, went};
 use mr_fixtures::listed::Listed;
 use mr_fixtures::parts::{numbers, small};
 use mr_outside::MemShelf;
+use mr_system::SystemFiles;
 use std::alloc::{AllocError, Global};
-use std::rt::Files;
 use std::thread::Threads;
 
 // The calls of the shelf, or those of the sink, that fail.
@@ -207,7 +207,7 @@ fn holds_at(
 }
 
 // Whether a row is so where each call fails in turn.
-fn holds_cut<R: Threads + Files + Sync>(
+fn holds_cut<R: Threads + SystemFiles + Sync>(
     rt: &R,
     alloc: Global,
     is_sha: bool,
@@ -233,7 +233,7 @@ fn nothing_said(alloc: Global) -> Said {
 
 // Goes through a group over its shelf: the place of the first line that does not hold, or the one
 // behind the last where other files are left than it says.
-fn first_untrue<R: Threads + Files + Sync>(
+fn first_untrue<R: Threads + SystemFiles + Sync>(
     rt: &R,
     alloc: Global,
     is_sha: bool,
@@ -270,7 +270,7 @@ fn first_untrue<R: Threads + Files + Sync>(
 }
 
 // The place of the first line of a row or a story that does not hold.
-fn first_broken<R: Threads + Files + Sync>(
+fn first_broken<R: Threads + SystemFiles + Sync>(
     rt: &R,
     alloc: Global,
     is_sha: bool,
@@ -323,7 +323,7 @@ fn first_good<R: Threads + Sync>(
 
 // The place of the first line of a group that does not hold. A false row is one of which something
 // behind its first line does not hold.
-fn first_wrong<R: Threads + Files + Sync>(
+fn first_wrong<R: Threads + SystemFiles + Sync>(
     rt: &R,
     alloc: Global,
     is_sha: bool,
@@ -431,7 +431,7 @@ fn note(
 }
 
 // Goes through a table.
-pub(crate) fn tallied<R: Threads + Files + Sync>(
+pub(crate) fn tallied<R: Threads + SystemFiles + Sync>(
     rt: &R,
     alloc: Global,
     table: &[&str],

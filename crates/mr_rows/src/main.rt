@@ -9,15 +9,15 @@ mod lines;
 mod steps;
 
 use mr_outside::read_all;
-use mr_system::StdShelf;
+use mr_system::{StdShelf, SystemFiles};
 use std::alloc::{AllocError, Global};
 use std::process::ExitCode;
-use std::rt::{Env, Files};
+use std::rt::Env;
 use std::thread::Threads;
 use std::{env, io};
 
 // The text of a file, empty where it is not there or no text.
-fn text_of<R: Files>(rt: &R, alloc: Global, name: &str) -> Result<String, AllocError> {
+fn text_of<R: SystemFiles>(rt: &R, alloc: Global, name: &str) -> Result<String, AllocError> {
     let mut shelf = StdShelf::new(rt, alloc);
     match read_all(alloc, &mut shelf, name) {
         Ok(bytes) => String::from_str(alloc, str::from_utf8(&bytes).unwrap_or("")),
@@ -26,7 +26,7 @@ fn text_of<R: Files>(rt: &R, alloc: Global, name: &str) -> Result<String, AllocE
 }
 
 // Goes through a table: whether all of it holds, and what is printed of it.
-fn went<R: Threads + Files + Sync>(
+fn went<R: Threads + SystemFiles + Sync>(
     rt: &R,
     alloc: Global,
     name: &str,

@@ -10,65 +10,48 @@ ghost use Rattle.mr_outside.specs.Writing.{IsThere, IsChanged, WritesOrFront};
 ghost use Rattle.mr_outside.specs.Edge.{untold_shelf};
 ghost use Rattle.std.specs.Io.KnownBytes.{Consumes, IsAtEnd};
 
+use crate::opening::{Opened, Table, make, place_to_read, place_to_write, refusal, sync};
+use crate::system_files::SystemFiles;
 use mr_outside::{Shelf, ShelfErr};
 use std::alloc::{AllocError, Global};
-use std::fs::{self, OpenFile, OpenOptions};
+use std::fs::OpenFile;
 use std::io::{self, Read, Seek, SeekFrom, Write};
-use std::os::unix::fs::MetadataExt;
-use std::rt;
 
 // The most bytes that one call of the system is asked for.
 const CHUNK: usize = 65_536;
-
-// What a file is opened for.
-#[derive(Clone, Copy)]
-enum Access {
-    Read,
-    Write,
-    // To write it from its beginning, whether or not it was there.
-    Create,
-}
-
-// What tells files apart, whatever their names: a device, and a number on it, which is 0 where the
-// file system tells none.
-#[derive(Clone, Copy)]
-struct Node {
-    device: u64,
-    number: u64,
-}
-
-// An open file, the name that it was opened by, and whether it may be written; and where in the
-// file the next byte comes from, where that is known.
-#[derive(Drop)]
-struct Opened<F> {
-    name: String,
-    file: F,
-    node: Node,
-    writes: bool,
-    stands: Option<u64>,
-}
 
 /// The real file system. It tells nothing, and counts a fault at each refusal, also where there is
 /// no such file. A folder and a name that the system cannot use are faults.
 ///
 /// Each file that was opened is kept open: calls that read go to the file that had this name at the
-/// first of them, or at the first call after it that wrote.
+/// first of them, or at the first call after it that wrote. One that is opened again to be written
+/// has to be the same file.
 ///
-/// To create what is open already by another name is a fault, and the file is as before. Two names
-/// are of one file where the system gives both the same device and number: other spellings of a
-/// path, symbolic and hard links, a folder that is mounted twice. Not so where it gives one file
-/// two numbers, as some network file systems do, nor where a file system tells no numbers.
+/// To write to what is open already by another name is a fault, and so is to read what is open by
+/// another name to be written; then no file is changed. Two names are of one file where the system
+/// gives both the same device and number: other spellings of a path, symbolic and hard links, a
+/// folder that is mounted twice. Not so where it gives one file two numbers, as some network file
+/// systems do, nor where a file system tells no numbers.
+///
+/// The first sync of a file that this run made also waits until its name outlives a crash: its
+/// folder is synced behind it.
+///
+/// A map that is changed in place is opened once, to be read and written, and so is its journal,
+/// each at its first use. Each is locked before any of it is read, to the end of the run, where the
+/// system has locks: it is a fault where another run has it. The first sync of the journal is one
+/// of its name too. A journal that is made has the owner, the group and the rights of the map, as
+/// far as this run may give them, and no more rights.
 #[derive(Drop)]
-pub struct StdShelf<'a, R: rt::Files> {
+pub struct StdShelf<'a, R: SystemFiles> {
     rt: &'a R,
     alloc: Global,
-    opened: Vec<Opened<R::File>>,
+    table: Table<R::File>,
     chunk: Vec<u8>,
     faults: u64,
     reads: u64,
 }
 
-impl<'a, R: rt::Files> StdShelf<'a, R> {
+impl<'a, R: SystemFiles> StdShelf<'a, R> {
     /// No fault and no read are counted yet, and no file is open.
     pub fn new(rt: &'a R, alloc: Global) -> StdShelf<'a, R>
         ensures faults { result.faults ≡ 0 }
@@ -77,15 +60,37 @@ impl<'a, R: rt::Files> StdShelf<'a, R> {
         StdShelf {
             rt,
             alloc,
-            opened: Vec::new(alloc),
+            table: Table::new(alloc),
             chunk: Vec::new(alloc),
             faults: 0,
             reads: 0,
         }
     }
+
+    /// The same for a run that changes this map in place. A run that has to write is refused where
+    /// the map or its journal may not be written; for one that need not they are then opened to be
+    /// read.
+    pub fn changing(
+        rt: &'a R,
+        alloc: Global,
+        map: &str,
+        must_write: bool,
+    ) -> Result<StdShelf<'a, R>, AllocError>
+        ensures faults { IfOk result (λ s. s.faults ≡ 0) }
+        ensures reads { IfOk result (λ s. s.reads ≡ 0) }
+    {
+        Ok(StdShelf {
+            rt,
+            alloc,
+            table: Table::changing(alloc, map, must_write)?,
+            chunk: Vec::new(alloc),
+            faults: 0,
+            reads: 0,
+        })
+    }
 }
 
-impl<R: rt::Files> Shelf for StdShelf<'_, R> {
+impl<R: SystemFiles> Shelf for StdShelf<'_, R> {
     ghost use Rattle.mr_outside.specs.Edge.{untold_shelf};
 
     ghost state = { λ s. untold_shelf s.faults s.reads };
@@ -99,7 +104,7 @@ impl<R: rt::Files> Shelf for StdShelf<'_, R> {
             ShelfCauses name.now before after result }
         ensures reads { self.new.reads ≡ self.old.reads }
     {
-        let answer = length_by_name(self.rt, self.alloc, &mut self.opened, name);
+        let answer = length_by_name(self.rt, self.alloc, &mut self.table, name);
         count_refusal(&mut self.faults, &answer);
         answer
     }
@@ -117,8 +122,8 @@ impl<R: rt::Files> Shelf for StdShelf<'_, R> {
             let after = untold_shelf self.new.faults self.new.reads in
             CountsRead before after result }
     {
-        let (opened, chunk) = (&mut self.opened, &mut self.chunk);
-        let answer = read_by_name(self.rt, self.alloc, opened, chunk, name, at, into);
+        let (table, chunk) = (&mut self.table, &mut self.chunk);
+        let answer = read_by_name(self.rt, self.alloc, table, chunk, name, at, into);
         count_refusal(&mut self.faults, &answer);
         count_answer(&mut self.reads, &answer);
         answer
@@ -137,7 +142,7 @@ impl<R: rt::Files> Shelf for StdShelf<'_, R> {
             ShelfCauses name.now before after result }
         ensures reads { self.new.reads ≡ self.old.reads }
     {
-        let answer = create_by_name(self.rt, self.alloc, &mut self.opened, name);
+        let answer = make(self.rt, self.alloc, &mut self.table, name);
         count_refusal(&mut self.faults, &answer);
         answer
     }
@@ -152,7 +157,7 @@ impl<R: rt::Files> Shelf for StdShelf<'_, R> {
             let after = untold_shelf self.new.faults self.new.reads in
             ShelfCauses name.now before after result }
     {
-        let answer = append_by_name(self.rt, self.alloc, &mut self.opened, name, bytes);
+        let answer = append_by_name(self.rt, self.alloc, &mut self.table, name, bytes);
         count_refusal(&mut self.faults, &answer);
         answer
     }
@@ -167,7 +172,7 @@ impl<R: rt::Files> Shelf for StdShelf<'_, R> {
             let after = untold_shelf self.new.faults self.new.reads in
             ShelfCauses name.now before after result }
     {
-        let answer = write_by_name(self.rt, self.alloc, &mut self.opened, name, at, bytes);
+        let answer = write_by_name(self.rt, self.alloc, &mut self.table, name, at, bytes);
         count_refusal(&mut self.faults, &answer);
         answer
     }
@@ -180,7 +185,7 @@ impl<R: rt::Files> Shelf for StdShelf<'_, R> {
             ShelfCauses name.now before after result }
         ensures reads { self.new.reads ≡ self.old.reads }
     {
-        let answer = sync_by_name(self.rt, self.alloc, &mut self.opened, name);
+        let answer = sync(self.rt, self.alloc, &mut self.table, name);
         count_refusal(&mut self.faults, &answer);
         answer
     }
@@ -206,174 +211,21 @@ fn count_answer<T>(reads: &mut u64, answer: &Result<T, ShelfErr>)
     }
 }
 
-fn refusal(error: io::Error) -> ShelfErr {
-    match error.kind() {
-        io::ErrorKind::NotFound => ShelfErr::Missing,
-        io::ErrorKind::OutOfMemory => ShelfErr::NoMemory,
-        _ => ShelfErr::Fault,
-    }
-}
-
-// Refuses what stands by this name and is no regular file. To open a pipe would wait for its other
-// end, so this is asked before a file is opened.
-fn check_regular<R: rt::Files>(rt: &R, name: &str, access: Access) -> Result<(), ShelfErr> {
-    if name.is_empty() {
-        return Err(ShelfErr::Fault);
-    }
-    match (fs::metadata(rt, name).map_err(refusal), access) {
-        (Ok(about), _) if about.is_file() => Ok(()),
-        (Ok(_), _) => Err(ShelfErr::Fault),
-        (Err(ShelfErr::Missing), Access::Create) => Ok(()),
-        (Err(error), _) => Err(error),
-    }
-}
-
-// Opens a regular file, which is made where it is created and was not there. It is not emptied.
-fn open_file<R: rt::Files>(rt: &R, name: &str, access: Access) -> Result<R::File, ShelfErr> {
-    check_regular(rt, name, access)?;
-    let mut how = OpenOptions::new();
-    how.read(true);
-    if !matches!(access, Access::Read) {
-        how.write(true);
-    }
-    if matches!(access, Access::Create) {
-        how.create(true);
-    }
-    how.open(rt, name).map_err(refusal)
-}
-
-// What tells an open file from others, unless it is no regular one.
-fn node_of<F: OpenFile>(file: &F) -> Result<Node, ShelfErr> {
-    let about = file.metadata().map_err(refusal)?;
-    if !about.is_file() {
-        return Err(ShelfErr::Fault);
-    }
-    Ok(Node {
-        device: about.dev(),
-        number: about.ino(),
-    })
-}
-
-fn is_same(one: Node, other: Node) -> bool {
-    one.number != 0 && one.number == other.number && one.device == other.device
-}
-
-// Whether this file is open by another name.
-fn is_open_elsewhere<F>(opened: &[Opened<F>], name: &str, node: Node) -> bool {
-    opened
-        .iter()
-        .any(|one| one.name.as_str() != name && is_same(one.node, node))
-}
-
-// Leaves an open file empty, unless it is open by another name.
-fn empty<F: OpenFile>(
-    opened: &[Opened<F>],
-    name: &str,
-    node: Node,
-    file: &F,
-) -> Result<(), ShelfErr> {
-    if is_open_elsewhere(opened, name, node) {
-        return Err(ShelfErr::Fault);
-    }
-    file.set_len(0).map_err(refusal)
-}
-
-// Keeps a file, in place of another of the same name, and answers its place.
-fn keep<F: Drop>(opened: &mut Vec<Opened<F>>, one: Opened<F>) -> Result<usize, ShelfErr>
-    ensures { IfOk result (λ place. place < vec_len opened.new) }
-{
-    if let Some(place) = place_of(opened, one.name.as_str()) {
-        opened[place] = one;
-        return Ok(place);
-    }
-    match opened.push(one) {
-        Ok(()) => Ok(opened.len() - 1),
-        Err(_) => Err(ShelfErr::NoMemory),
-    }
-}
-
-// The place of the named file among those that are open.
-fn place_of<F>(opened: &[Opened<F>], name: &str) -> Option<usize>
-    ensures { IfSome result (λ place. place < length opened.now) }
-{
-    opened.iter().position(|one| one.name.as_str() == name)
-}
-
-// Opens a file and keeps it. Memory comes first, so that no file is made or emptied in vain.
-fn open_kept<R: rt::Files>(
+fn length_by_name<R: SystemFiles>(
     rt: &R,
     alloc: Global,
-    opened: &mut Vec<Opened<R::File>>,
-    name: &str,
-    access: Access,
-) -> Result<usize, ShelfErr>
-    ensures { IfOk result (λ place. place < vec_len opened.new) }
-{
-    let text = String::from_str(alloc, name)?;
-    opened.reserve(1)?;
-    let file = open_file(rt, name, access)?;
-    let node = node_of(&file)?;
-    if matches!(access, Access::Create) {
-        empty(opened, name, node, &file)?;
-    }
-    let writes = !matches!(access, Access::Read);
-    keep(
-        opened,
-        Opened {
-            name: text,
-            file,
-            node,
-            writes,
-            stands: Some(0),
-        },
-    )
-}
-
-// The place of the named file, which is opened if it is not open.
-fn place_to_read<R: rt::Files>(
-    rt: &R,
-    alloc: Global,
-    opened: &mut Vec<Opened<R::File>>,
-    name: &str,
-) -> Result<usize, ShelfErr>
-    ensures { IfOk result (λ place. place < vec_len opened.new) }
-{
-    match place_of(opened, name) {
-        Some(place) => Ok(place),
-        None => open_kept(rt, alloc, opened, name, Access::Read),
-    }
-}
-
-// The place of the named file, which is opened if it is not open for writing.
-fn place_to_write<R: rt::Files>(
-    rt: &R,
-    alloc: Global,
-    opened: &mut Vec<Opened<R::File>>,
-    name: &str,
-) -> Result<usize, ShelfErr>
-    ensures { IfOk result (λ place. place < vec_len opened.new) }
-{
-    match place_of(opened, name) {
-        Some(place) if opened[place].writes => Ok(place),
-        _ => open_kept(rt, alloc, opened, name, Access::Write),
-    }
-}
-
-fn length_by_name<R: rt::Files>(
-    rt: &R,
-    alloc: Global,
-    opened: &mut Vec<Opened<R::File>>,
+    table: &mut Table<R::File>,
     name: &str,
 ) -> Result<u64, ShelfErr> {
-    let place = place_to_read(rt, alloc, opened, name)?;
-    let about = opened[place].file.metadata().map_err(refusal)?;
+    let place = place_to_read(rt, alloc, table, name)?;
+    let about = table.opened[place].file.metadata().map_err(refusal)?;
     Ok(about.len())
 }
 
-fn read_by_name<R: rt::Files>(
+fn read_by_name<R: SystemFiles>(
     rt: &R,
     alloc: Global,
-    opened: &mut Vec<Opened<R::File>>,
+    table: &mut Table<R::File>,
     chunk: &mut Vec<u8>,
     name: &str,
     at: u64,
@@ -381,9 +233,9 @@ fn read_by_name<R: rt::Files>(
 ) -> Result<usize, ShelfErr>
     ensures { IfOk result (λ n. FillsFront into.old into.new n) }
 {
-    let place = place_to_read(rt, alloc, opened, name)?;
+    let place = place_to_read(rt, alloc, table, name)?;
     make_room(alloc, chunk, CHUNK)?;
-    let one = &mut opened[place];
+    let one = &mut table.opened[place];
     let answer = read_from(&mut one.file, one.stands, chunk.as_mut_slice(), at, into);
     one.stands = place_behind(at, &answer);
     answer.map_err(refusal)
@@ -408,47 +260,27 @@ fn make_room(alloc: Global, chunk: &mut Vec<u8>, size: usize) -> Result<(), Allo
     Ok(())
 }
 
-fn create_by_name<R: rt::Files>(
+fn append_by_name<R: SystemFiles>(
     rt: &R,
     alloc: Global,
-    opened: &mut Vec<Opened<R::File>>,
-    name: &str,
-) -> Result<(), ShelfErr> {
-    open_kept(rt, alloc, opened, name, Access::Create)?;
-    Ok(())
-}
-
-fn append_by_name<R: rt::Files>(
-    rt: &R,
-    alloc: Global,
-    opened: &mut Vec<Opened<R::File>>,
+    table: &mut Table<R::File>,
     name: &str,
     bytes: &[u8],
 ) -> Result<(), ShelfErr> {
-    let place = place_to_write(rt, alloc, opened, name)?;
-    write_to(&mut opened[place], SeekFrom::End(0), bytes).map_err(refusal)
+    let place = place_to_write(rt, alloc, table, name)?;
+    write_to(&mut table.opened[place], SeekFrom::End(0), bytes).map_err(refusal)
 }
 
-fn write_by_name<R: rt::Files>(
+fn write_by_name<R: SystemFiles>(
     rt: &R,
     alloc: Global,
-    opened: &mut Vec<Opened<R::File>>,
+    table: &mut Table<R::File>,
     name: &str,
     at: u64,
     bytes: &[u8],
 ) -> Result<(), ShelfErr> {
-    let place = place_to_write(rt, alloc, opened, name)?;
-    write_to(&mut opened[place], SeekFrom::Start(at), bytes).map_err(refusal)
-}
-
-fn sync_by_name<R: rt::Files>(
-    rt: &R,
-    alloc: Global,
-    opened: &mut Vec<Opened<R::File>>,
-    name: &str,
-) -> Result<(), ShelfErr> {
-    let place = place_to_read(rt, alloc, opened, name)?;
-    opened[place].file.sync_data().map_err(refusal)
+    let place = place_to_write(rt, alloc, table, name)?;
+    write_to(&mut table.opened[place], SeekFrom::Start(at), bytes).map_err(refusal)
 }
 
 fn write_to<F: Write + Seek>(one: &mut Opened<F>, to: SeekFrom, bytes: &[u8]) -> io::Result<()> {

@@ -176,9 +176,9 @@ const CALLS: &[Made<'static>] = &[
     },
     Made {
         words: "apply-here A b",
-        calls: "size A\nsize A\nsize A.journal\nsize A.journal\nsize A\nread_at A\n\
+        calls: "size A\nsize A\nsize A.journal\nsize A\nread_at A\n\
             size b\nread_at b\nsync A\nsync A.journal\n\
-            size A\nsize A.journal\nsize A.journal\nsize A\nsize A\nread_at A\n\
+            size A\nsize A.journal\nsize A\nsize A\nread_at A\n\
             size A.journal\nsize A.journal\ncreate A.journal\nappend A.journal\nsync A.journal\n\
             size A.journal\nappend A.journal\nsync A.journal\n\
             size A.journal\nwrite_at A.journal\nsync A.journal\n\
@@ -188,7 +188,7 @@ const CALLS: &[Made<'static>] = &[
     },
     Made {
         words: "recover A",
-        calls: "size A\nsync A\nsync A.journal\nsize A\nsize A.journal\nsize A.journal\n\
+        calls: "size A\nsync A\nsync A.journal\nsize A\nsize A.journal\n\
             read_at A.journal\n",
         pieces: 0,
     },

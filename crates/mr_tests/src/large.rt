@@ -3,12 +3,11 @@
 use crate::assertions::{all_hold, holds};
 use mr_fixtures::runs::{ran, shelf_of};
 use mr_outside::{MemSink, NoGate};
-use mr_system::StdShelf;
+use mr_system::{StdShelf, SystemFiles};
 use mr_tool::Status::{BadWords, Outside};
 use mr_tool::run;
 use mr_tree::{Sha, XorHash};
 use std::alloc::{AllocError, Global};
-use std::rt::Files;
 use std::thread::Threads;
 
 // Names under which there is no file, and what is said of each.
@@ -20,7 +19,7 @@ const NAMES: &[(&str, &[u8])] = &[
 ];
 
 // Whether a run over the real file system finds no file of that name, and says so.
-fn is_missed<R: Threads + Files + Sync>(
+fn is_missed<R: Threads + SystemFiles + Sync>(
     rt: &R,
     alloc: Global,
     name: &str,
@@ -39,7 +38,7 @@ fn is_missed<R: Threads + Files + Sync>(
     Ok(status == Outside && printed.as_slice() == said)
 }
 
-fn first_found<R: Threads + Files + Sync>(
+fn first_found<R: Threads + SystemFiles + Sync>(
     rt: &R,
     alloc: Global,
     names: &[(&'static str, &[u8])],

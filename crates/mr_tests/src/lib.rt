@@ -32,6 +32,8 @@ mod rereads;
 #[cfg(test)]
 mod stopped;
 #[cfg(test)]
+mod told;
+#[cfg(test)]
 mod turned;
 #[cfg(test)]
 mod two_leaves;

@@ -9,7 +9,7 @@ use crate::assertions::all_hold;
 use mr_batch::{Batch, read_batch_of};
 use mr_fixtures::parts::File;
 use mr_fixtures::runs::{file_of, ran_on, shelf_of};
-use mr_here::apply_here;
+use mr_here::{HereErr, apply_here};
 use mr_journal::{Area, Disk, DiskErr, MemDisk, read_map, recover};
 use mr_record::Version;
 use mr_tree::XorHash;
@@ -249,24 +249,36 @@ fn are_recovered(alloc: Global, maps: &Maps, disk: &MemDisk) -> Result<bool, Dis
     Ok(true)
 }
 
-// A disk on which the batch was applied, as far as this call, which fails; whether it was.
-fn applied_on(alloc: Global, maps: &Maps, failing: u64) -> Result<(bool, MemDisk), AllocError>
+// How an update ends.
+#[derive(Clone, Copy, PartialEq, Eq)]
+enum Ended {
+    Done,
+    Fault,
+    Other,
+}
+
+// A disk on which the batch was applied, as far as this call, which fails; and how that ended.
+fn applied_on(alloc: Global, maps: &Maps, failing: u64) -> Result<(Ended, MemDisk), AllocError>
     requires { All IsLayered maps.now.batch.list }
 {
     let mut disk = MemDisk::new(alloc, &maps.old, &[], vec![in alloc; failing]?)?;
-    let is_done = apply_here::<XorHash, MemDisk>(alloc, &mut disk, &maps.batch).is_ok();
-    Ok((is_done, disk))
+    let ended = match apply_here::<XorHash, MemDisk>(alloc, &mut disk, &maps.batch) {
+        Ok(_) => Ended::Done,
+        Err(HereErr::Fault) => Ended::Fault,
+        Err(_) => Ended::Other,
+    };
+    Ok((ended, disk))
 }
 
-// Whether each call that fails leaves one of the two maps.
+// Whether each call that fails is told as a fault of the disk, and leaves one of the two maps.
 fn are_faults(alloc: Global, maps: &Maps, calls: u64) -> Result<bool, AllocError>
     requires { All IsLayered maps.now.batch.list }
 {
     for failing in 1..=calls {
-        let (is_done, disk) = applied_on(alloc, maps, failing)?;
+        let (ended, disk) = applied_on(alloc, maps, failing)?;
         for pick in PICKS {
             let left = recovered(alloc, maps, &disk, u64::MAX, *pick);
-            if is_done || !matches!(left, Ok(Left::Old | Left::New)) {
+            if ended != Ended::Fault || !matches!(left, Ok(Left::Old | Left::New)) {
                 return Ok(false);
             }
         }
@@ -278,8 +290,8 @@ fn are_faults(alloc: Global, maps: &Maps, calls: u64) -> Result<bool, AllocError
 fn first_other(alloc: Global, maps: &Maps) -> Result<Option<&'static str>, AllocError>
     requires { All IsLayered maps.now.batch.list }
 {
-    let (is_done, disk) = applied_on(alloc, maps, 0)?;
-    if !is_done {
+    let (ended, disk) = applied_on(alloc, maps, 0)?;
+    if ended != Ended::Done {
         return Ok(Some("the batch is applied"));
     }
     if !matches!(leaves_one_of_two(alloc, maps, &disk), Ok(true)) {

@@ -3,7 +3,9 @@
 #![tactic(auto)]
 
 mod finish;
+mod in_place;
 mod program;
 
+pub use in_place::changed_in_place;
 pub use mr_plan::Status;
 pub use program::run;

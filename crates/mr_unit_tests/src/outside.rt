@@ -4,13 +4,13 @@
 use crate::assertions::{all_hold, all_hold_in_memory, holds, holds_in_memory};
 use crate::untold::Untold;
 use mr_outside::{MemShelf, MemSink, Shelf, ShelfErr, Sink, SinkErr, read_all, write_all};
-use mr_system::{StdShelf, StdSink};
+use mr_system::{StdShelf, StdSink, SystemFiles};
 use std::alloc::{AllocError, Global};
 use std::cell::RefCell;
 use std::fmt::Display;
 use std::path::PathBuf;
 use std::test::Fail;
-use std::{env, fs, io, process, rt};
+use std::{env, fs, io, process};
 
 // ---- scripts of calls on files
 
@@ -301,7 +301,7 @@ fn new_room(rt: &HostRuntime, alloc: Global) -> io::Result<Room> {
 }
 
 // A script over a shelf of its own.
-fn told_by_files<'a, R: rt::Files>(
+fn told_by_files<'a, R: SystemFiles>(
     rt: &R,
     alloc: Global,
     room: &Room,

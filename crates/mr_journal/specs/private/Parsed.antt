@@ -1,5 +1,5 @@
 -- The parts of a journal's body as code reads them.
-use Rattle.std.specs.Prelude.{◌≡◌, ◌≤◌, ℕ, ◌*◌, List, [], ◌∷◌, Option, Some, None}
+use Rattle.std.specs.Prelude.{◌≡◌, ◌≤◌, ◌==◌, ℕ, ◌*◌, List, [], ◌∷◌, Option, Some, None, if◌then◌else◌}
 use Rattle.mr_journal.specs.Images.{Image}
 use Rattle.mr_journal.specs.Torn.{Range}
 use Rattle.mr_journal.specs.Format.{Page, entries, pages_fit, put_pages, ready, carried}
@@ -13,6 +13,11 @@ places size (page ∷ pages) = (page.number * size, size) ∷ places size pages
 abbrev pub first_of : List ℕ → Option ℕ
 first_of [] = None
 first_of (first ∷ rest) = Some first
+
+-- what is read of a journal: all of one whose gate is 4f, nothing behind another gate
+abbrev pub gated : List ℕ → List ℕ
+gated [] = []
+gated (gate ∷ body) = if gate == 79 then gate ∷ body else []
 
 -- The parts of a body whose version and number of entries may be.
 pub record IsParsed (body : List ℕ) (size count : ℕ) (bytes : List ℕ) : Type 0 where

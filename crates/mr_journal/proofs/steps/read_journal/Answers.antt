@@ -4,8 +4,7 @@ use Rattle.mr_journal.proofs.steps.read_journal.Goals as goal
 
 pub returns-clause-causes : goal.returns-clause-causes
 returns-clause-causes g c =
-    let count = c.in_ok-count.count in
-    causes_as _ _ count _
-    (causes_then _ _ _ c.in_ok-map_length.map_length (answered count) c.in_ok-map_length.ensures.passes.causes
-    (causes_then _ _ _ c.in_ok-length.length (answered count) c.in_ok-length.ensures.passes.causes
-    c.in_ok-count.ensures.passes.causes))
+    let journal = c.in_ok-journal.journal in
+    causes_as _ _ journal _
+    (causes_then _ _ _ c.in_ok-map_length.map_length (answered journal) c.in_ok-map_length.ensures.passes.causes
+    c.in_ok-journal.ensures.causes)
