@@ -4,7 +4,7 @@ import re
 import shutil
 import subprocess
 import tempfile
-from typing import Dict, List
+from typing import Dict, List, Set
 
 from bench import Bench, Ended, read
 from jobs import Job, Tally, begin, few, is_done_again, jobs, left_of
@@ -15,7 +15,7 @@ FAULTS = {"write": ("EIO", "ENOSPC"), "openat": ("EIO", "EMFILE", "EACCES"), "ft
 
 
 class Tracer:
-    """strace on the files of a job alone, the one that it prints to included."""
+    """strace on the files of a job alone, the one that it prints to and the folder included."""
 
     def __init__(self, bench: Bench, folder: str) -> None:
         self.program, self.folder = bench.program_path, folder
@@ -24,9 +24,10 @@ class Tracer:
     def run(self, one: Job, inject: str = "") -> Ended:
         """What a run says, with this done to it."""
         names = [*one.inputs, one.made] if one.made else [*one.inputs]
-        words = ["strace", "-f", "-qq", "-o", self.traced, "-P", self.printed]
+        words = ["strace", "-f", "-qq", "-o", self.traced, "-P", self.printed, "-P", "."]
         for name in names:
-            words += ["-P", os.path.join(os.getcwd(), name)]
+            # by the path of what is open, and by the name in a call
+            words += ["-P", os.path.join(os.getcwd(), name), "-P", name]
         words += ["-e", "inject=" + inject] if inject else []
         with open(self.printed, "wb") as out:
             ran = subprocess.run([*words, self.program, *one.words], stdout=out, stderr=subprocess.DEVNULL)
@@ -46,6 +47,11 @@ class Tracer:
         for name in re.findall(r"^\d+ +([a-z_0-9]+)\(", read(self.traced).decode("latin-1"), re.M):
             counts[name] = counts.get(name, 0) + 1
         return counts
+
+    def folders(self) -> Set[int]:
+        """Which calls of `openat` in the run before open the folder, so that it can be synced."""
+        opens = re.findall(r"^\d+ +openat\((.*)", read(self.traced).decode("latin-1"), re.M)
+        return {number for number, words in enumerate(opens, 1) if words.startswith('AT_FDCWD, ".",')}
 
 
 def places(count: int, most: int) -> List[int]:
@@ -75,6 +81,21 @@ def fail(bench: Bench, tracer: Tracer, one: Job, call: str, number: int, fault: 
     bench.holds(not left.startswith("WRONG"), "%s: %s" % (what, left))
 
 
+def is_passed_over(call: str, fault: str, number: int, folders: Set[int]) -> bool:
+    """Whether a run goes on where this call fails so: a folder may be written and not read, and then is not synced."""
+    return call == "openat" and fault == "EACCES" and number in folders
+
+
+def pass_over(bench: Bench, tracer: Tracer, one: Job, number: int) -> None:
+    """Has a run not read its folder, by this call of `openat`."""
+    begin(one, None)
+    ended = tracer.run(one, "openat:error=EACCES:when=%d" % number)
+    left = left_of(bench, one, None)
+    what = "%s, in a folder that may not be read" % one.words[0]
+    bench.holds(ended == (one.status, one.text), "%s: status %d and %s" % (what, ended[0], ended[1][:200]))
+    bench.holds(left == "whole", "%s: %s" % (what, left))
+
+
 def stop(bench: Bench, tracer: Tracer, one: Job, call: str, number: int, tally: Tally) -> None:
     """Stops a run at one of its calls."""
     old = b"F" * 5000 if number % 2 else None
@@ -93,17 +114,22 @@ def failing(bench: Bench, seed: int) -> None:
     with tempfile.TemporaryDirectory() as folder:
         tracer = Tracer(bench, folder)
         if not tracer.is_there():
-            print("tests/hostile: SKIPPED: calls that fail, which take strace and leave to trace")
+            bench.skip("calls that fail, which take strace and leave to trace")
             return
         fails, stops = Tally(), Tally()
         least, count = few(bench), 200 if bench.is_long else 40
         for one in (least if bench.is_long else least[:4]) + jobs(bench, seed % 2**64, count, 15, 2):
             begin(one, b"old")
-            counts = tracer.counts(one)
+            counts, folders = tracer.counts(one), tracer.folders()
             bench.holds(counts != {}, "%s: no call is seen" % one.words[0])
+            bench.holds(len(folders) == (one.made != ""), "%s: its folder is opened %s" % (one.words[0], folders))
+            for number in folders:
+                pass_over(bench, tracer, one, number)
             for call in sorted(set(counts) - UNSEEN):
                 for number in places(counts[call], 60 if bench.is_long else 3):
                     for fault in FAULTS.get(call, ("EIO",))[: 3 if bench.is_long else 1]:
+                        if is_passed_over(call, fault, number, folders):
+                            continue
                         fail(bench, tracer, one, call, number, fault, fails)
                     if one.made and (bench.is_long or number % 2):
                         stop(bench, tracer, one, call, number, stops)

@@ -16,13 +16,17 @@ from bench import Bench, Ended, read, write
 import bends
 import broken
 import calls
+import crashes
 import foretold
 import here
+import instructions
 import joins
 import memory
 import proofs
 import said
 import stops
+import times
+import together
 from proofs import plain
 
 PATIENCE = 60  # seconds of a run on a small file, after which it hangs
@@ -392,7 +396,7 @@ def broken_maps(bench: Bench, seed: int) -> None:
 
 def main(how: str, seed: int, program: str) -> int:
     """Runs the parts in a folder of its own; answers the exit status."""
-    bench = Bench(program, how == "long")
+    bench = Bench(program, how == "long", "tests/hostile")
     print("tests/hostile: the seed is %d" % seed)
     parts: List[Tuple[str, Callable[[Bench, int], None]]] = [
         ("random bytes and bent files", bent_files),
@@ -400,9 +404,14 @@ def main(how: str, seed: int, program: str) -> int:
         ("runs that are stopped", stops.stopped),
         ("allocations that are refused", memory.refused),
         ("how much memory is taken", memory.bounded),
+        ("how long runs take", times.limited),
+        ("how many instructions runs take", instructions.bounded),
+        ("the largest inputs", times.largest),
         ("calls on files that fail", calls.failing),
         ("journals beside maps", here.files),
         ("updates in place that are cut short", here.in_place),
+        ("crashes of updates in place", crashes.crashes),
+        ("two runs at once", together.together),
     ]
     room: Optional[str] = "/dev/shm" if os.access("/dev/shm", os.W_OK) else None
     for name, part in parts:
@@ -412,7 +421,7 @@ def main(how: str, seed: int, program: str) -> int:
             part(bench, seed)
             os.chdir("/")
         print("tests/hostile: %s: %d rows, %.1f s" % (name, bench.rows - rows, time.monotonic() - began), flush=True)
-    print("tests/hostile: %d rows, %d failed" % (bench.rows, bench.failed))
+    print("tests/hostile: %d rows, %d failed, %d skipped" % (bench.rows, bench.failed, bench.skipped))
     return 1 if bench.failed else 0
 
 

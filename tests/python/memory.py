@@ -81,7 +81,7 @@ def refused(bench: Bench, seed: int) -> None:
     with tempfile.TemporaryDirectory() as folder:
         path = library(folder)
         if path is None:
-            print("tests/hostile: SKIPPED: allocations that are refused, which take a C compiler and the GNU C library")
+            bench.skip("allocations that are refused, which take a C compiler and the GNU C library")
             return
         counts, tally = [], Tally()
         for one in [*few(bench), *jobs(bench, seed % 2**64, 200 if bench.is_long else 40, 15, 2)]:
@@ -217,7 +217,7 @@ def bounded(bench: Bench, seed: int) -> None:
     with tempfile.TemporaryDirectory() as folder:
         path = library(folder)
         if path is None:
-            print("tests/hostile: SKIPPED: how much memory runs take, which takes a C compiler and the GNU C library")
+            bench.skip("how much memory runs take, which takes a C compiler and the GNU C library")
             return
         roots = lay_out(bench)
         for bound in BOUNDS:
