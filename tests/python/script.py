@@ -9,6 +9,7 @@ import tempfile
 import time
 from typing import Dict, List, NamedTuple, Optional
 
+import quick
 from bench import EXAMPLES, TOP, Bench
 
 NOBODY = 65534
@@ -21,10 +22,12 @@ WINDOW = "window:133700000,525100000,133800000,525200000"
 # A command rt that tells of each function, leaves what a build leaves, and keeps a list of its calls.
 RT = """#!/bin/sh
 [ "$1" != version ] || { echo "${RT_SAYS:-%s}"; exit; }
+[ "$1" != doc ] || { echo "$RT_KIT/START-HERE.md"; exit; }
 name=$(basename "$PWD")
 echo "$1 $name" >>"$RT_CALLS"
 [ "$name" != "${RT_FAILS:-}" ] || exit 1
 for one in $(sed -n 's/^fn \\([a-z]*\\).*/\\1/p' src/lib.rt); do
+    [ "$name" != "${RT_SLOW:-}" ] || sleep 15
     echo "fn $name::lib::$one: proved"
     echo "fn $name::lib::fn::$one::map: proved"
     sleep "${RT_SLEEPS:-0}"
@@ -50,7 +53,9 @@ class World:
         self.top = os.path.join(folder, "top")
         os.makedirs(os.path.join(self.top, "docs"))
         os.makedirs(os.path.join(folder, "bin"))
+        quick.make_kit(folder)
         shutil.copy(os.path.join(TOP, "mrtree"), self.top)
+        shutil.copytree(os.path.join(TOP, "scripts"), os.path.join(self.top, "scripts"))
         shutil.copy(os.path.join(TOP, "docs", "COMMANDS.md"), os.path.join(self.top, "docs"))
         self.put("README.md", "Proved with `%s`: all of it.\n" % KIT)
         self.put("HANDLES", "Handles allowed: none.\n")
@@ -72,6 +77,7 @@ class World:
         """What the script sees, with the command rt on the path."""
         path = os.path.join(self.folder, "bin") + ":" + os.environ["PATH"]
         own = {"PATH": path, "RT_CALLS": self.calls, "RT_PROGRAM": self.bench.program_path, "TMPDIR": self.folder}
+        own["RT_KIT"] = os.path.join(self.folder, "kit")
         return {**os.environ, **own, **more}
 
     def start(self, words: List[str], user: Optional[int] = None, **more: str) -> subprocess.Popen:
@@ -128,7 +134,8 @@ def before_a_program(world: World) -> None:
     for ran in helps:
         world.says(ran, 0, helps[0].out, NOTHING, "help")
     shown = re.findall(r"^  mrtree (\S+)", helps[0].out, re.M)
-    world.bench.holds(shown == COMMANDS + ["help", "version", "prepare"], "the commands that help shows: %s" % shown)
+    own = ["help", "version", "quick", "prepare"]
+    world.bench.holds(shown == COMMANDS + own, "the commands that help shows: %s" % shown)
     world.says(world.run([]), 1, "bad words\n", "^usage: mrtree .*check-all ROOT SCRIPT BUNDLE", "no word")
     for word in ("rot", "-v", "--version", "root places", "", "root\nlist", "\\n"):
         world.says(world.run([word, "x"]), 1, "bad words\n", ONE_LINE % "is no command", "the word %r" % word)
@@ -141,6 +148,8 @@ def before_a_program(world: World) -> None:
         told = world.run(["version"])
         world.bench.holds(told.out.startswith("commit: not known"), "version in another clone: %s" % told.out)
         shutil.rmtree(os.path.join(world.folder, ".git"))
+    else:
+        world.bench.skip("the version in a clone: there is no git")
     told = world.run(["version"], PATH="/usr/bin:/bin")
     world.bench.holds("toolchain here: none" in told.out, "version without rt: %s" % told.out)
     ran = world.run(["root", "x"], PATH="/usr/bin:/bin")
@@ -157,12 +166,14 @@ def builds(world: World) -> None:
     world.says(ran, 7, "missing none\n", "building the program", "the first run")
     for part in (r"3\.7 GB in /\S+ ", r"[0-9.]+ GB are free", "toolchain is 'another', .*'%s'" % KIT):
         world.says(ran, 7, None, part, "what the first run tells")
-    world.says(ran, 7, None, r"0 min \d+ s gone, 0 of 8 functions proved \(0 %\); proving low, 3 more", "the beginning")
-    world.says(ran, 7, None, r"6 of 8 functions proved \(75 %\); proving mrtree, 0 more", "the end")
+    start = r"0 min \d+ s gone, too early to say how long still: 0 of 8 functions proved \(0 %\); proving low, 3 more"
+    world.says(ran, 7, None, start, "the beginning")
+    end = r"\d s gone, some 1 min to go: 6 of 8 functions proved \(75 %\); proving mrtree, 0 more"
+    world.says(ran, 7, None, end, "the end")
     world.bench.holds(sorted(world.called()) == ["lib beside", "lib low", "lib middle", "run mrtree"], "its crates")
     world.says(world.run(["root", "none"]), 7, "missing none\n", NOTHING, "the second run")
     world.says(world.run(["prepare"]), 0, "", NOTHING, "a program that is there")
-    world.bench.holds("program: built from these sources" in world.run(["version"]).out, "version")
+    world.bench.holds("program: built from these sources, with proofs\n" in world.run(["version"]).out, "version")
     os.utime(os.path.join(world.top, "crates/low/src/lib.rt"))
     world.says(world.run(["prepare"]), 0, "", NOTHING, "a source that is touched alone")
     world.bench.holds(world.called() == [], "rt was called though nothing changed")
@@ -172,6 +183,21 @@ def builds(world: World) -> None:
     world.bench.holds(len(world.called()) == 4, "rt was not called though a source changed")
     left = set(os.listdir(os.path.join(world.top, ".built")))
     world.bench.holds(left == {"mrtree", "checksum", "sources", "build.log"}, "what is left: %s" % sorted(left))
+
+
+def tells_more(world: World) -> None:
+    """A toolchain of another name and the same logic is not warned of; a slow crate is told, and what is to go."""
+    world.put("crates/low/src/lib.rt", "fn one()\n\nfn slowly()\n")
+    ran = world.run(["prepare"], RT_SAYS=KIT.replace("kit-0", "kit-1"), RT_SLOW="middle")
+    world.says(ran, 0, "", "building the program with proofs", "a toolchain of another name")
+    world.bench.holds("may fail" not in ran.err, "a toolchain of another name is warned of: %s" % ran.err)
+    slow = r"some 1 min to go: 5 of 8 functions proved \(62 %\); at work longest: middle, for 0 min \d\d s, 1 of 2\n"
+    world.says(ran, 0, "", slow, "a slow crate")
+    world.called()
+    world.put("crates/low/src/lib.rt", "fn one()\n\nfn other()\n")
+    ran = world.run(["prepare"], RT_SAYS=KIT.replace("0123", "1123"))
+    world.says(ran, 0, "", "toolchain is '[^']*1123[^']*', .*they may fail", "a toolchain of another logic")
+    world.called()
 
 
 def two_at_once(world: World) -> None:
@@ -318,14 +344,17 @@ def in_a_terminal(world: World) -> None:
 
 def main(program: str) -> int:
     """Runs the parts in a folder of their own; answers the exit status."""
-    bench = Bench(program, False)
+    bench = Bench(program, False, "tests/script")
     began = time.monotonic()
     with tempfile.TemporaryDirectory() as folder:
         os.chmod(folder, 0o755)
         world = World(bench, folder)
-        for part in (before_a_program, builds, two_at_once, without_leave, in_a_terminal):
+        parts = [before_a_program, builds, tells_more, two_at_once, without_leave, *quick.PARTS, in_a_terminal]
+        for part in parts:
             part(world)
-    print("tests/script: %d rows, %d failed, %.1f s" % (bench.rows, bench.failed, time.monotonic() - began))
+    quick.programs_agree(bench)
+    told = (bench.rows, bench.failed, bench.skipped, time.monotonic() - began)
+    print("tests/script: %d rows, %d failed, %d parts skipped, %.1f s" % told)
     return 1 if bench.failed else 0
 
 
