@@ -1,6 +1,6 @@
 """Makes a wheel of these files for pip, with the standard library alone: the build backend of pyproject.toml (PEP 517).
 
-The package mrtree_check has the scripts as modules, and there are three commands, one for each.
+The package mrtree_check has the scripts as modules, and there are five commands, one for each.
 """
 from __future__ import annotations
 
@@ -13,16 +13,19 @@ from typing import Any, Dict
 import mrtree_check
 
 HERE = os.path.dirname(os.path.abspath(__file__))
-FILES = ["__init__.py", "mrtree_check.py", "outputs.py", "sources.py", "records.py", "draw.py", "py.typed"]
+FILES = ["__init__.py", "mrtree_check.py", "mrtree_ask.py", "ranges.py", "pagewise.py", "layout.py"]
+FILES += ["outputs.py", "sources.py", "records.py", "draw.py", "py.typed"]
 NAME = "mrtree_check-%s" % mrtree_check.__version__
 METADATA = """Metadata-Version: 2.1
 Name: mrtree-check
 Version: %s
-Summary: Checks answers on a published map against its root digest, and makes maps of GeoJSON and CSV
+Summary: Asks published maps and checks answers against their root digests, and makes maps of GeoJSON and CSV
 Requires-Python: >=3.9
 """ % mrtree_check.__version__
 COMMANDS = """[console_scripts]
 mrtree-check = mrtree_check.mrtree_check:main
+mrtree-ask = mrtree_check.mrtree_ask:main
+mrtree-layout = mrtree_check.layout:main
 mrtree-records = mrtree_check.records:main
 mrtree-draw = mrtree_check.draw:main
 """

@@ -14,7 +14,8 @@ A file is GeoJSON, a GeoJSON text sequence, CSV or a record text: by the end of 
 standard input or output. Each feature becomes a record: a point, or the box round a line or an area. A point goes to
 the nearest map unit, and a box is rounded outwards. The number is the feature's id, or the property or column that
 --number names; the payload is the text or number that --payload names, in UTF-8. Record texts that are read or written
-are of version 1; answers are of either version.
+are of version 1; answers are of either version. Of `answer` PROOF may be a map file too, or the address of one: then
+the pages are read that the query opens, and make the proof.
 
 What does not fit is told on standard error, and then the output is left as it was. Exit statuses: 0, 1 where words or a
 file do not fit, 2 where a proof is refused, 7 where a file cannot be read or written, 8 without memory. This script is
@@ -40,17 +41,20 @@ from decimal import Decimal
 from typing import Any, Dict, Iterable, Iterator, List, NamedTuple, NoReturn, Optional, Sequence, Tuple
 
 if __package__:
+    from . import mrtree_ask, outputs, sources
     from . import mrtree_check as client
-    from . import outputs, sources
     from .mrtree_check import Query, Record
     from .outputs import Unfit
+    from .ranges import Limits
     from .sources import Grid, Options, State, clipped, number_of
 else:
+    import mrtree_ask
     import mrtree_check as client
     import outputs
     import sources
     from mrtree_check import Query, Record
     from outputs import Unfit
+    from ranges import Limits
     from sources import Grid, Options, State, clipped, number_of
 
 SCRIPT = "records.py"
@@ -67,7 +71,7 @@ HELP = """--unit: a map unit in the file's unit, as 1e-7 of a degree, or 1 metre
 --delimiter: what stands between the fields of CSV, a comma or one character, or tab
 --form: how the input is written, where its name does not tell: geojson, geojsonseq, csv or text
 --skip-empty: leaves out features without geometry, and counts them
---most: the most bytes of a proof or bundle that are read"""
+--most: the most bytes of a proof, a bundle or a map that are read"""
 
 
 # ---- what is made of records
@@ -344,7 +348,7 @@ def query_command(given: argparse.Namespace) -> None:
 def answer_command(given: argparse.Namespace) -> None:
     """Writes the answer that a proof proves."""
     root, query = root_and_query(given.ROOT, given.QUERY)
-    answer = client.judge(root, query, client.read_pieces(given.PROOF, given.most))
+    answer = client.judge(root, query, proof_of(given, query))
     inputs, naming = [given.PROOF], naming_of(given)
     features = [feature(record, naming) for record in answer.records]
     if given.shapes:
@@ -353,6 +357,17 @@ def answer_command(given: argparse.Namespace) -> None:
     write(given.OUT, inputs, collection(features))
     told = extent(answer.records, naming.grid) + ", of a map of %d at batch %d" % (answer.count, answer.batch)
     outputs.tell(SCRIPT, told)
+
+
+def proof_of(given: argparse.Namespace, query: Query) -> client.Pieces:
+    """The proof in a file, or the one that the pages of a map give. Raises Unfit, Refused and Ended."""
+    if not mrtree_ask.is_map(given.PROOF):
+        return client.read_pieces(given.PROOF, given.most)
+    limits = Limits() if given.most is None else Limits(bytes=given.most)
+    try:
+        return [mrtree_ask.open_map(given.ROOT, given.PROOF, limits).proof(query)]
+    except ValueError as fault:
+        raise Unfit(str(fault)) from None
 
 
 def answers_command(given: argparse.Namespace) -> None:

@@ -766,6 +766,62 @@ class PartJudge extends Judge {
     }
 }
 
+/**
+ * Between which numbers that of the records is that meet a window, on layers of a mask, by the
+ * boxes that meet it: { least, most }. A box that lies in the window, and has no other layers, has
+ * all its records there; one that only meets it may have none there. Null where boxes have no
+ * counts: in version 1.
+ */
+function boundsOf({ boxes, version }, window, layers = ALL_LAYERS) {
+    if (version === 1) {
+        return null;
+    }
+    let [least, most] = [0, 0];
+    for (const { rect, mask, tally } of boxes) {
+        if (meet(rect, window) && (mask & layers) !== 0n) {
+            most += tally;
+            least += within(rect, window) && (mask & ~layers) === 0n ? tally : 0;
+        }
+    }
+    return { least, most };
+}
+
+/**
+ * Judges a box proof as it comes, of a query for a window: as Judge, but that nothing below the
+ * level `floor` is opened, which is at least 1. So all that meets the window is opened down to that
+ * level, and below it stands as a box. Of an accepted one the verdict has in place of `records`
+ *
+ *     boxes: [{ rect, mask, tally, level }]    in the order of the proof; each record lies in one
+ *     bounds: { least, most }    as boundsOf: how many records the window meets
+ *
+ * Where in its box a record lies, nothing says. In version 1 a tally is 0, and bounds are null.
+ */
+class BoxJudge extends Judge {
+    constructor(root, query, floor, watch = null) {
+        super(root, query, watch);
+        Object.assign(this, { floor, boxes: [] });
+    }
+
+    /** The way of a part: skip, too, below the floor. */
+    way(rect, mask) {
+        return this.nextLevel() < this.floor ? SKIP : super.way(rect, mask);
+    }
+
+    /** Keeps the pruned parts that would be open, were there no floor. */
+    finish(tag, level, item, bytes = null) {
+        const { rect, mask, tally } = item;
+        if (level < this.floor && super.way(rect, mask) === OPEN) {
+            this.boxes.push({ rect, mask, tally, level });
+        }
+        super.finish(tag, level, item, bytes);
+    }
+
+    shown() {
+        const { boxes, query, layers } = this;
+        return { boxes, bounds: boundsOf(this, query.rect, layers) };
+    }
+}
+
 /** Bytes in pieces that are judged at once. */
 function* piecesOf(bytes) {
     for (let at = 0; at < bytes.length; at += PIECE) {
@@ -839,6 +895,20 @@ async function checkJoin(root, root2, proof) {
         throw new RangeError("bad words");
     }
     return judgeJoin(first, second, inPieces(proof));
+}
+
+/**
+ * The verdict on a box proof, which says in which boxes the records lie that meet a window, and
+ * nothing of what is below the level `floor`, from 1 to 8: as of `BoxJudge`. Throws as
+ * `checkCount`, and a RangeError too where the floor is none.
+ */
+async function checkBoxes(root, query, floor, proof, watch = null) {
+    const [held, asked] = [readRoot(root), readWindow(query)];
+    const isFloor = Number.isInteger(floor) && floor >= 1 && floor <= MOST_LEVEL + 1;
+    if (held === null || asked === null || !isFloor) {
+        throw new RangeError("bad words");
+    }
+    return judged(new BoxJudge(held, asked, floor, watch), inPieces(proof));
 }
 
 /** A proof as pieces of bytes. */
@@ -1315,10 +1385,17 @@ async function main() {
 
 if (typeof module === "object") {
     const words = { readRoot, readQuery, readWindow, readScript };
-    const judges = { Judge, CountJudge, judge, judgeCount, judgeJoin, judgeBundle };
-    const verdicts = { check, checkCount, checkJoin, refusalOf, pairLineOf };
-    const shown = { recordsOf, lineOf, linesOf, hexOf };
-    module.exports = { ...words, ...judges, ...verdicts, ...shown, distance, meet, run };
+    const judges = { Judge, CountJudge, PartJudge, BoxJudge };
+    const judging = { judge, judgeCount, judgeJoin, judgeBundle };
+    const verdicts = { check, checkCount, checkJoin, checkBoxes, refusalOf, pairLineOf };
+    const shown = { recordsOf, recordAt, lineOf, linesOf, hexOf, boundsOf };
+    const geometry = { rectAt, isInOrder, meet, within, distance, Meets };
+    const limits = { ALL_LAYERS, MOST_RECORDS, MOST_LEVEL, MOST_LAYER };
+    const rest = { digestOf, printLines, run };
+    module.exports = {
+        ...{ ...words, ...judges, ...judging, ...verdicts },
+        ...{ ...shown, ...geometry, ...limits, ...rest },
+    };
     if (require.main === module) {
         main();
     }

@@ -6,6 +6,7 @@ const fs = require("fs");
 const path = require("path");
 const { EXAMPLES, WEB, Bench, cut } = require("./bench.js");
 const client = require(path.join(WEB, "mrtree_check.js"));
+const page = require(path.join(WEB, "mrtree_page.js"));
 
 const PLACES = "b136e9ea66645cc4c87feaf0addfecbc0d52bd619bc06f05e004ff35cbfaff04";
 const WINDOW = "window:133700000,525100000,133800000,525200000";
@@ -290,8 +291,99 @@ async function bytesHold(bench) {
     }
 }
 
+/** What the pages tell of texts that mean no query; of a unit that is none first. */
+function faultsHold(bench) {
+    const rows = [
+        ["13.37 52.51 13.38 52.52", "1", "Give the size of a map unit"],
+        ["13.3777 52.5163 2", "1.0", "Give the size of a map unit"],
+        ["window:13.37,52.51,13.38,52.52", "1", "the numbers alone"],
+        ["window:13.37,52.51,13.38,52.52", "1e-7", "the numbers alone"],
+        ["window:1, 2, 3, 4", "1e-7", "the numbers alone"],
+        ["nearest:01,2,3", "1e-7", "the numbers alone"],
+        ["1 2 3 4", "0", "A map unit is a number above 0"],
+        ["no query", "none", "A map unit is a number above 0"],
+        ["", "", "A map unit is a number above 0"],
+        ["", "1", "Give the query."],
+        ["13.38 52.51 13.37 52.52", "1e-7", "x0 is above x1"],
+        ["0.00000001 0 0 1", "1e-7", "x0 is above x1"],
+        ["0 6e-9 1 5.9e-9", "1e-7", "y0 above y1"],
+        ["window:5,0,4,1", "1", "x0 is above x1"],
+        ["0 0 1 214.7483648", "1e-7", "beyond the coordinates"],
+        ["0 0 1 5e9", "1", "beyond the coordinates"],
+        ["window:-2147483649,0,0,0", "1", "beyond the coordinates"],
+        ["215 0 3", "1e-7", "beyond the coordinates"],
+        ["1 2 0", "1", "from 1 to 1024"],
+        ["1 2 1025", "1", "from 1 to 1024"],
+        ["1 2 2.5", "1e-7", "from 1 to 1024"],
+        ["1 2 3 4/1", "1e-7", "a mask"],
+        ["window:1,2,3,4/00000000000000001", "1", "a mask"],
+        ["nearest:1,2,3/", "1", "a mask"],
+        ["1 2", "1", "The query is no window"],
+        ["windows 1 2 3 4", "1", "The query is no window"],
+        ["window:1,2,3", "1", "The query is no window"],
+        ["1 2 3 4/5\n/", "1", "The query is no window"],
+    ];
+    for (const [text, size, told] of rows) {
+        const { word, fault } = page.meaningOf(text, page.readUnit(size));
+        bench.equal(word, null, `the query ${text} in ${size}`);
+        bench.holds(fault.includes(told), `of ${text} in ${size}: ${fault}`);
+    }
+    const whole = ["1.0 2 3. 4e0", "12e-1 0 24e-1 1"].map((text, at) => {
+        return page.meaningOf(text, page.readUnit(["1", "0.1"][at])).word;
+    });
+    bench.equal(whole.join(" "), "window:1,2,3,4 window:12,0,24,10", "numbers that are whole");
+}
+
+/** What the pages make of sizes, coordinates and windows in a unit. */
+function unitsHold(bench) {
+    const units = ["1e-7", "0.01", "3", "1.50e1", "x", "0", "-1", "", "1e", "1e-99", "1,5", ".5"];
+    const sizes = units.map((word) => page.readUnit(word));
+    const meant = "1,7 1,2 3,0 150,1 none none none none none 1,99 none none";
+    bench.equal(sizes.map((size) => String(size ?? "none")).join(" "), meant, "sizes of units");
+    const unit = page.readUnit("1e-7");
+    const sideOf = (side) => page.sideOf(side, unit, "degrees");
+    const sides = [0, 1, -1, 133777000, -(2 ** 31)].map(sideOf);
+    const told = "0° 0.0000001° \u22120.0000001° 13.3777° \u2212214.7483648°";
+    bench.equal(sides.join(" "), told, "coordinates in degrees");
+    const numbers = [["1.5", "1"], ["-1.5", "1"], ["7", "3"], ["-7", "3"], ["1e-9", "1e-7"]];
+    const ways = [...numbers, ["2", "1e9"]].map(([word, size]) => {
+        const number = page.readNumber(word);
+        const all = ["down", "nearest", "up"];
+        return all.map((way) => page.unitsOf(number, page.readUnit(size), way)).join();
+    });
+    bench.equal(ways.join(" "), "1,2,2 -2,-1,-1 2,2,3 -3,-2,-2 0,0,1 0,0,1", "numbers in units");
+    const mask = "/0000000000000001";
+    const rows = [
+        [`13.37 52.51 13.38 52.52${mask}`, `window:133700000,525100000,133800000,525200000${mask}`],
+        ["window: 13.37, 52.51; 13.38,52.52", "window:133700000,525100000,133800000,525200000"],
+        ["-0.00000001 -1 1. 0.00000001", "window:-1,-10000000,10000000,1"],
+        [" nearest:0,0,1 ", "nearest:0,0,1"],
+        ["nearest 13.3777 52.5163 2", "nearest:133777000,525163000,2"],
+        ...["", "1 2", "1 2 0", "1 2 1.5", "1 2 0 3", "1 2 3 x", "1 2 3 300", "1 2 3 4/1"].map(
+            (text) => [text, null]
+        ),
+    ];
+    for (const [text, word] of rows) {
+        const { word: found, fault } = page.meaningOf(text, unit);
+        bench.equal(found, word, `the query ${text}`);
+        bench.equal(fault === "", word !== null, `what is told of ${text}: ${fault}`);
+    }
+    const word = "window:1,2,3,4";
+    bench.equal(page.meaningOf(word, null).word, word, "a word without a unit");
+    faultsHold(bench);
+    const texts = ["", "ab", "\u00e4 \u4e2d", "a\u0007", "a\u2028b"].map((text) => {
+        return page.textOf(new TextEncoder().encode(text));
+    });
+    bench.equal(JSON.stringify(texts), '["","ab","\u00e4 \u4e2d",null,null]', "payloads as texts");
+    bench.equal(page.textOf(Uint8Array.of(0xff)), null, "a payload that is no text");
+    const words = [page.counted(1, "record"), page.counted(1234, "box", "boxes"), page.sized(1023)];
+    words.push(page.sized(1024), page.sized(3 * 2 ** 20));
+    bench.equal(words.join("; "), "1 record; 1,234 boxes; 1,023 bytes; 1 KB; 3,072 KB", "numbers");
+}
+
 async function main() {
     const bench = new Bench("calls");
+    unitsHold(bench);
     await waysHold(bench);
     await othersHold(bench);
     await versionsHold(bench);

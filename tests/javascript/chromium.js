@@ -79,14 +79,18 @@ class Browser {
     /** The value of an expression in the page, or what it promises. */
     async value(expression) {
         const how = { expression, returnByValue: true, awaitPromise: true };
-        const { result } = await this.call("Runtime.evaluate", how);
+        const { result, exceptionDetails } = await this.call("Runtime.evaluate", how);
+        if (exceptionDetails !== undefined) {
+            const { exception, text } = exceptionDetails;
+            throw new Error(`${expression}: ${exception?.description ?? text}`);
+        }
         return result.value;
     }
 
     /** Waits until an expression in the page is true; answers whether it became so. */
     async until(expression) {
         const end = Date.now() + PATIENCE;
-        while (!(await this.value(expression))) {
+        while (!(await this.value(expression).catch(() => false))) {
             if (Date.now() > end) {
                 return false;
             }
@@ -114,6 +118,70 @@ class Browser {
         const { root } = await this.call("DOM.getDocument");
         const { nodeId } = await this.call("DOM.querySelector", { nodeId: root.nodeId, selector });
         await this.call("DOM.setFileInputFiles", { files: [name], nodeId });
+    }
+
+    /** Gives the page a size, with a screen to touch where it is narrow; and its scheme. */
+    async show(width, height, scheme = "light") {
+        const mobile = width < 600;
+        const size = { width, height, deviceScaleFactor: 1, mobile };
+        await this.call("Emulation.setDeviceMetricsOverride", size);
+        const features = [{ name: "prefers-color-scheme", value: scheme }];
+        await this.call("Emulation.setEmulatedMedia", { features });
+    }
+
+    /** Presses and lets go of a key. */
+    async key(key) {
+        const text = key.length === 1 ? key : undefined;
+        await this.call("Input.dispatchKeyEvent", { type: "keyDown", key, text });
+        await this.call("Input.dispatchKeyEvent", { type: "keyUp", key });
+    }
+
+    /** Something that the mouse does at a place. */
+    async mouse(type, [x, y], more = {}) {
+        const how = { type, x, y, button: "left", clickCount: 1, ...more };
+        await this.call("Input.dispatchMouseEvent", how);
+    }
+
+    /** Drags the mouse from one place to another. */
+    async drag([x0, y0], [x1, y1], steps = 8) {
+        await this.mouse("mousePressed", [x0, y0]);
+        for (let step = 1; step <= steps; step++) {
+            const part = step / steps;
+            const place = [x0 + (x1 - x0) * part, y0 + (y1 - y0) * part];
+            await this.mouse("mouseMoved", place, { buttons: 1 });
+        }
+        await this.mouse("mouseReleased", [x1, y1]);
+    }
+
+    /** Clicks at a place. */
+    async click(place) {
+        await this.mouse("mousePressed", place);
+        await this.mouse("mouseReleased", place);
+    }
+
+    /** Touches the screen, moves each finger from one place to another, and lets go. */
+    async touch(fingers, steps = 8) {
+        const places = (part) =>
+            fingers.map(([[x0, y0], [x1, y1]], id) => {
+                return { id, x: x0 + (x1 - x0) * part, y: y0 + (y1 - y0) * part };
+            });
+        const call = (type, touchPoints) =>
+            this.call("Input.dispatchTouchEvent", { type, touchPoints });
+        await call("touchStart", places(0));
+        for (let step = 1; step <= steps; step++) {
+            await call("touchMove", places(step / steps));
+        }
+        await call("touchEnd", []);
+    }
+
+    /** Writes a picture of what is seen, or of the whole page, to a file. */
+    async shoot(file, isWhole = false) {
+        const { cssContentSize } = await this.call("Page.getLayoutMetrics");
+        const { width, height } = cssContentSize;
+        const clip = { x: 0, y: 0, width, height, scale: 1 };
+        const how = isWhole ? { clip, captureBeyondViewport: true } : {};
+        const { data } = await this.call("Page.captureScreenshot", how);
+        fs.writeFileSync(file, Buffer.from(data, "base64"));
     }
 
     /** Ends the browser. */

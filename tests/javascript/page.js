@@ -1,10 +1,11 @@
 "use strict";
 /**
- * The page clients/web/verify.html in headless Chromium: proofs are dropped on it and chosen, and
- * verdict, tables, picture and saved files are read from it and compared. Of examples/vectors it
- * takes all joins.
+ * The page clients/web/verify.html in headless Chromium: proofs are dropped on it and chosen, maps
+ * are asked by their addresses, and verdict, tables, picture and saved files are read from it and
+ * compared. Of examples/vectors it takes all joins.
  *
- * usage: node page.js [PICTURE]          PICTURE: a file for a picture of the page with the sample.
+ * usage: node page.js PROGRAM [PICTURE]     With a PICTURE nothing more is tested than the sample,
+ *     of which the page is put into that file.
  */
 
 const crypto = require("crypto");
@@ -14,6 +15,8 @@ const path = require("path");
 const { pathToFileURL } = require("url");
 const { EXAMPLES, WEB, Bench } = require("./bench.js");
 const { Browser, find, pause } = require("./chromium.js");
+const { Server, send } = require("./server.js");
+const { Program } = require("./maps.js");
 const { linesOf, put } = require("./spelled.js");
 const client = require(path.join(WEB, "mrtree_check.js"));
 
@@ -67,9 +70,10 @@ async function seen(browser) {
     return browser.value(SEEN);
 }
 
-/** Says what the proof shows: records, count or join. */
-function ask(browser, kind) {
-    return browser.value(`document.querySelector("#${kind}").click()`);
+/** What the page shows once it says what is still to be given. */
+async function wanted(browser) {
+    await browser.until("!at('verdict').textContent.startsWith('Checking')");
+    return browser.value(SEEN);
 }
 
 /** Holds that what is shown of the page is what belongs to such a proof. */
@@ -79,14 +83,15 @@ async function partsHold(bench, browser, kind) {
         const isAsRight = (one) => one.hidden !== one.dataset.of.split(" ").includes("${kind}");
         return parts.length + " " + parts.every(isAsRight);
     })()`);
-    bench.equal(told, "15 true", `the parts of the page that are shown: ${kind}`);
+    bench.equal(told, "16 true", `the parts of the page that are shown: ${kind}`);
 }
 
-/** Gives root, query and a file by a drop; answers what the page then shows. */
+/** Gives a file by a drop, root and query; answers what the page then shows. */
 async function given(browser, root, query, file) {
+    await browser.drop(file);
+    await browser.until("!document.querySelector('#query').closest('[data-of]').hidden");
     await browser.type("#root", root);
     await browser.type("#query", query);
-    await browser.drop(file);
     return seen(browser);
 }
 
@@ -171,12 +176,15 @@ async function othersHold(bench, browser, room) {
     const empty = "3192817fd1840eb7f63b1b289a173abad1772411a7b2a52117cfe44a09df8c30";
     const none = await given(browser, empty, "window:0,0,9,9", file);
     bench.equal(none.line, "accepted: 0 of the map's 0 records, at batch 0", "an empty map");
+    fs.writeFileSync(file, Buffer.concat([Buffer.from("MRMP\x01"), Buffer.alloc(4091)]));
+    const map = await given(browser, empty, "window:0,0,9,9", file);
+    const isTold = map.line === "refused BadMagic at 0" && map.means.includes("give its address");
+    bench.holds(isTold && map.rows === null, `a map file: ${map.line} ${map.means}`);
 }
 
 /** A count proof: how many are inside, and of what; no records and no GeoJSON beside it. */
 async function countsHold(bench, browser) {
     const file = path.join(EXAMPLES, "vectors", "level-2-count.proof");
-    await ask(browser, "count");
     const count = await given(browser, ROOT_POINTS, "window:200,200,800,600", file);
     const line = "accepted: 447 of the map's 2000 records lie inside, at batch 0";
     bench.equal(count.line, line, "a count");
@@ -188,25 +196,20 @@ async function countsHold(bench, browser) {
     const other = await given(browser, ROOT_POINTS, "window:200,200,800,601", file);
     bench.equal(other.line, "refused Needless at 13040", "a count for another window");
     await browser.type("#query", "nearest:0,0,1");
-    const wanting = await browser.value(SEEN);
-    const isTold = wanting.state === "waiting" && wanting.line.startsWith("A count is of");
-    bench.holds(isTold, "a count of nearest records");
+    const nearest = await seen(browser);
+    bench.equal(nearest.line, "refused WrongKind at 5", "a count of nearest records");
     const sample = path.join(EXAMPLES, "places-window.proof");
-    const first = await given(browser, PLACES, WINDOW, sample);
-    bench.equal(first.line, "refused BadVersion at 4", "a proof of version 1 for a count");
-    await ask(browser, "records");
     const again = await given(browser, PLACES, WINDOW, sample);
     bench.equal(String(again.rows), String(ROWS), "records behind a count");
     await partsHold(bench, browser, "records");
-    const answer = await given(browser, ROOT_POINTS, "window:200,200,800,600", file);
-    bench.equal(answer.line, "refused WrongKind at 5", "a count proof for records");
 }
 
-/** Gives both roots and a file by a drop. */
+/** Gives a file by a drop, and both roots. */
 async function giveJoin(browser, root, root2, file) {
+    await browser.drop(file);
+    await browser.until("!document.querySelector('#root2').closest('[data-of]').hidden");
     await browser.type("#root", root);
     await browser.type("#root2", root2);
-    await browser.drop(file);
 }
 
 /** The same; answers what the page then shows. */
@@ -259,9 +262,10 @@ function joinOfPoints(file) {
 async function joinsHold(bench, browser, room) {
     const [file, saved] = [path.join(room, "join.proof"), path.join(room, "pairs.txt")];
     const [root, root2] = joinOfPoints(file);
-    await ask(browser, "join");
-    await partsHold(bench, browser, "join");
+    await browser.drop(file);
     await browser.type("#root", root);
+    await browser.until("document.querySelector('#verdict').textContent.startsWith('Give')");
+    await partsHold(bench, browser, "join");
     const wanting = await browser.value(SEEN);
     const isTold = wanting.line.startsWith("Give the second root digest.");
     bench.holds(isTold && wanting.state === "waiting", `a join of one root: ${wanting.line}`);
@@ -287,22 +291,18 @@ async function joinsHold(bench, browser, room) {
     bench.holds((await savedText(saved)) === text, "the pairs that are saved");
     await noJoinsHold(bench, browser, [root, root2, file]);
     await vectorsHold(bench, browser, room);
-    await ask(browser, "records");
 }
 
-/** Maps in the other order; a join for an answer, and an answer for a join. */
+/** Maps in the other order; and an answer behind a join. */
 async function noJoinsHold(bench, browser, [root, root2, file]) {
     const turned = await givenJoin(browser, root2, root, file);
     bench.holds(turned.line.startsWith("refused first WrongRoot at "), `turned: ${turned.line}`);
     const isCleared = turned.pairs === null && turned.means.includes("in the other order");
     bench.holds(isCleared, `what a join of turned maps means: ${turned.means}`);
-    await ask(browser, "records");
-    const answer = await given(browser, root, "window:0,0,9,9", file);
-    bench.equal(answer.line, "refused BadMagic at 0", "a join for an answer");
-    await ask(browser, "join");
     const sample = path.join(EXAMPLES, "places-window.proof");
-    const none = await givenJoin(browser, PLACES, PLACES, sample);
-    bench.equal(none.line, "refused frame BadMagic at 0", "an answer for a join");
+    const answer = await given(browser, PLACES, WINDOW, sample);
+    bench.equal(String(answer.rows), String(ROWS), "an answer behind a join");
+    await partsHold(bench, browser, "records");
 }
 
 /** All joins of the vectors: the page says what is said there, or waits where a word is bad. */
@@ -314,10 +314,16 @@ async function vectorsHold(bench, browser, room) {
         const [command, root, root2, name] = vector.words;
         put(vector.files, "=");
         if (command === "check-join" && vector.words.length === 4 && fs.existsSync(name)) {
-            count += 1;
-            await giveJoin(browser, root, root2, path.join(room, name));
-            const told = await (vector.status === 1 ? browser.value(SEEN) : seen(browser));
-            vectorHolds(bench, vector, told);
+            if (fs.readFileSync(name).subarray(0, 4).toString() === "MRJN") {
+                count += 1;
+                await giveJoin(browser, root, root2, path.join(room, name));
+                const told = await (vector.status === 1 ? browser.value(SEEN) : seen(browser));
+                vectorHolds(bench, vector, told);
+            } else {
+                const frame = /^refused frame (BadMagic|Short) at 0\n$/;
+                const isBad = vector.status === 1 || frame.test(vector.text);
+                bench.holds(isBad, `line ${vector.number} has a proof that is not taken as a join`);
+            }
         }
         put(vector.files, ">");
     }
@@ -363,42 +369,203 @@ async function geojsonHolds(bench, browser, room) {
     bench.equal(told, "-50 1.5 -0.0025 0 none none", "coordinates in a unit");
 }
 
-/** A query comes with the address, and a root digest does not. */
+/** Windows in degrees and in metres. */
+async function unitsHold(bench, browser) {
+    const file = path.join(EXAMPLES, "places-window.proof");
+    await browser.type("#unit", "1e-7");
+    await browser.value("at('measure').value = 'degrees'");
+    const rows = [
+        ["13.37 52.51 13.38 52.52", "accepted", WINDOW],
+        ["window 13.37, 52.51, 13.38, 52.52", "accepted", WINDOW],
+        ["13.3700000001 52.51 13.38 52.52", "accepted", WINDOW],
+        ["13.37 52.51 13.38000001 52.52", "accepted", WINDOW.replace("133800000", "133800001")],
+        ["13.3777 52.5163 2", "refused", NEAREST],
+        ["13.38 52.51 13.37 52.52", "waiting", "", "x0 is above x1"],
+        ["13.37 52.51 13.38", "waiting", "", "from 1 to 1024"],
+        ["13.37 52.51 13.38 5e9", "waiting", "", "beyond the coordinates"],
+    ];
+    for (const [text, state, word, fault = ""] of rows) {
+        const wait = state === "waiting" ? browser.until("word === null") : null;
+        await browser.drop(file);
+        await browser.type("#root", PLACES);
+        await browser.type("#query", text);
+        await wait;
+        const told = await (state === "waiting" ? wanted : seen)(browser);
+        const isSo = told.state === state && told.line.includes(fault);
+        bench.holds(isSo, `the query ${text}: ${told.line}`);
+        const meant = word === "" ? "" : `that is ${word}, in map units of 1e-7 degrees`;
+        bench.equal(await browser.value("at('word').textContent"), meant, `the word of ${text}`);
+    }
+    await browser.type("#query", "133700000 525100000 133800000 525200000");
+    await browser.type("#unit", "1");
+    bench.equal((await seen(browser)).state, "accepted", "a window in map units");
+    const line = `that is ${WINDOW}, in map units of 1 degree`;
+    bench.equal(await browser.value("at('word').textContent"), line, "its word");
+    await browser.type("#unit", "none");
+    const none = await wanted(browser);
+    const isNone = none.state === "waiting" && none.line.startsWith("A map unit is a number above");
+    bench.holds(isNone, `a unit that is none: ${none.line}`);
+    await browser.type("#unit", "1");
+    await seen(browser);
+    await browser.value("at('measure').value = 'units'");
+    await browser.type("#query", "13.37 52.51 13.38 52.52");
+    await browser.type("#url", "http://127.0.0.1:1/m");
+    await browser.value("at('ask').click()");
+    const fractions = await wanted(browser);
+    const isAsked = fractions.line.startsWith("These numbers have fractions, and a map unit is 1.");
+    bench.holds(isAsked && fractions.state === "waiting", `degrees without: ${fractions.line}`);
+    await browser.type("#query", "0 0 9 9");
+    const plain = await browser.value("at('word').textContent");
+    bench.equal(plain, "that is window:0,0,9,9, in map units", "a window without a measure");
+}
+
+/** Gives an address and asks it; answers what the page then shows. */
+async function askedOf(browser, root, query, url, isCount = false) {
+    const fields = { "#root": root, "#query": query, "#url": url };
+    for (const [field, word] of Object.entries(fields)) {
+        await browser.type(field, word);
+    }
+    await browser.value(`at("counting").checked = ${isCount}`);
+    await browser.value("at('ask').click()");
+    return seen(browser);
+}
+
+/** Makes a map of 60,000 records of version 2; answers its root digest and their rectangles. */
+function largeMap(program) {
+    program.lines("make", "60000", "1", "made.txt");
+    const made = fs.readFileSync("made.txt", "utf8").replace(/ ([0-9a-f]+|-)\n/g, " 7 $1\n");
+    fs.writeFileSync("made.txt", made);
+    const root = program.lines("build2", "made.map", "made.txt").trim();
+    const rectOf = (line) => line.split(" ").slice(1, 5).map(Number);
+    return { root, rects: made.split("\n").slice(0, -1).map(rectOf) };
+}
+
+/** Maps that are asked by their addresses, of another origin than the page. */
+async function addressesHold(bench, browser, program, server, room) {
+    const before = process.cwd();
+    process.chdir(room);
+    fs.copyFileSync(path.join(EXAMPLES, "places.txt"), "places.txt");
+    program.lines("build", "places.map", "places.txt");
+    const { root, rects } = largeMap(program);
+    process.chdir(before);
+    const [places, large] = ["places.map", "made.map"].map((name) => {
+        return server.put(name, fs.readFileSync(path.join(room, name)));
+    });
+    const sample = await askedOf(browser, PLACES, WINDOW, places);
+    bench.equal(String(sample.rows), String(ROWS), `the sample by its address: ${sample.line}`);
+    bench.equal(sample.drawn, "0 1 0 2 2 1", "its picture");
+    const cost = await browser.value("at('cost').textContent");
+    bench.equal(cost, "1 request, 8 KB; the proof has 172 bytes", "what it has cost");
+    await browser.value("at('proved').click()");
+    await savedText(path.join(room, "answer.proof"));
+    const files = [path.join(room, "answer.proof"), path.join(EXAMPLES, "places-window.proof")];
+    const [kept, meant] = files.map((file) => fs.readFileSync(file));
+    bench.holds(kept.equals(meant), "the proof that is saved");
+    const near = await askedOf(browser, PLACES, NEAREST, places);
+    bench.equal(String(near.rows), String(ROWS), "the nearest by an address");
+    const window = "window:-500000,-500000,400000,300000";
+    const count = await askedOf(browser, root, window, large, true);
+    const inside = client.readQuery(window).rect;
+    const found = rects.filter((rect) => client.within(rect, inside)).length;
+    const line = `accepted: ${found} of the map's 60000 records lie inside, at batch 0`;
+    bench.equal(count.line, line, "a count by an address");
+    await partsHold(bench, browser, "count");
+    await refusedHold(bench, browser, server, [places, large, root]);
+    await longHolds(bench, browser, program, root, room);
+}
+
+/** Maps and servers that are refused, and one that does not answer. */
+async function refusedHold(bench, browser, server, [places, large, root]) {
+    const rows = [
+        [WINDOW, large, `refused map page 0 WrongRoot found ${root}`],
+        [WINDOW, `${server.url}none`, `failed Status ${server.url}none: status 404`],
+        [`${WINDOW}/0000000000000001`, places, "needs version 2"],
+    ];
+    for (const [query, url, line] of rows) {
+        const told = await askedOf(browser, PLACES, query, url);
+        const isNone = told.state === "refused" && told.rows === null;
+        bench.holds(isNone && told.line === line, `${url}: ${told.line}`);
+    }
+    server.trick = (response, { bytes }) => (send(response, 200, bytes), true);
+    const whole = await askedOf(browser, PLACES, WINDOW, places);
+    const isWhole = whole.line.startsWith("failed NoRanges ");
+    bench.holds(isWhole, `a server without ranges: ${whole.line}`);
+    server.trick = () => true; // no answer comes
+    await browser.value("at('ask').click()");
+    await browser.until("!at('stop').hidden");
+    await stopHolds(bench, browser, /^Asking \.\. 1 request, 0 bytes$/, "a question");
+    server.trick = null;
+}
+
+/** What is under way tells how far it is, and is stopped. */
+async function stopHolds(bench, browser, line, where) {
+    const told = (await browser.value(SEEN)).line;
+    bench.holds(line.test(told), `${where} on its way: ${told}`);
+    await browser.value("at('stop').click()");
+    await pause(300);
+    const { line: stopped, rows, state } = await browser.value(SEEN);
+    const isSo = stopped.startsWith("Stopped") && rows === null && state === "waiting";
+    const isHidden = await browser.value("at('stop').hidden");
+    bench.holds(isSo && isHidden, `${where} is stopped: ${stopped}`);
+}
+
+/** A long proof: it is told how far it is checked, and may be stopped. */
+async function longHolds(bench, browser, program, root, room) {
+    const file = path.join(room, "long.proof");
+    const query = "window:-2000000,-2000000,2000000,2000000";
+    program.lines("prove", path.join(room, "made.map"), query, file);
+    await browser.call("Emulation.setCPUThrottlingRate", { rate: 20 });
+    await browser.type("#root", root);
+    await browser.type("#query", query);
+    await browser.drop(file);
+    await browser.until("!at('stop').hidden");
+    await stopHolds(bench, browser, /^Checking \.\. [0-9]+ % of [0-9,]+ KB$/, "a long proof");
+    await browser.call("Emulation.setCPUThrottlingRate", { rate: 1 });
+    const told = await given(browser, root, query, file);
+    const line = "accepted: 60000 of the map's 60000 records, at batch 0";
+    bench.equal(told.line, line, "a long proof that is not stopped");
+}
+
+/** At 360 pixels nothing is wider than the page; dark and light. */
+async function narrowHolds(bench, browser) {
+    for (const [scheme, ground] of [["dark", "rgb(20, 23, 28)"], ["light", "rgb(255, 255, 255)"]]) {
+        await browser.show(360, 740, scheme);
+        await given(browser, PLACES, WINDOW, path.join(EXAMPLES, "places-window.proof"));
+        const wide = await browser.value("document.documentElement.scrollWidth");
+        bench.holds(wide <= 360, `the page is ${wide} pixels wide`);
+        const told = await browser.value("getComputedStyle(document.body).backgroundColor");
+        bench.equal(told, ground, `the ${scheme} page`);
+    }
+    await browser.show(1000, 1200);
+}
+
+/** Query, unit and address come with the page's address, and a root digest does not. */
 async function addressHolds(bench, browser, page) {
-    await browser.go(`${page}?again#root=${PLACES}&query=${NEAREST}`);
-    const fields = "['root', 'query'].map((id) => document.getElementById(id).value).join(' ')";
-    bench.equal(await browser.value(fields), ` ${NEAREST}`, "what comes with the address");
+    const more = "unit=1e-7&of=degrees&map=https://example.org/m";
+    await browser.go(`${page}?again#root=${PLACES}&query=${NEAREST}&${more}`);
+    const ids = "['root', 'query', 'unit', 'measure', 'url']";
+    const fields = `${ids}.map((id) => at(id).value).join(" ")`;
+    const meant = ` ${NEAREST} 1e-7 degrees https://example.org/m`;
+    bench.equal(await browser.value(fields), meant, "what comes with the address");
     await browser.type("#root", PLACES);
     await browser.drop(path.join(EXAMPLES, "places-nearest.proof"));
     bench.equal((await seen(browser)).state, "accepted", "the query of the address");
 }
 
-/** The page may ask no other place, and says so where a browser gives it no SHA-256. */
+/** The page says so where a browser gives it no SHA-256. */
 async function limitsHold(bench, browser, page) {
-    const refused = await browser.value(`new Promise((done) => {
-        addEventListener("securitypolicyviolation", (event) => done(event.violatedDirective));
-        fetch("https://example.org/").catch(() => {});
-    })`);
-    bench.equal(refused, "connect-src", "a call to another place");
     const without = "Object.defineProperty(Crypto.prototype, 'subtle', { get: () => undefined })";
     await browser.go(`${page}?without`, without);
     const trouble = await browser.value("document.getElementById('trouble').innerText");
     bench.holds(/^This browser gives SHA-256 to no page/.test(trouble), `no SHA-256: ${trouble}`);
 }
 
-/** A picture of the page with the sample, where one is asked for. */
-async function shoot(browser, picture) {
-    await given(browser, PLACES, WINDOW, path.join(EXAMPLES, "places-window.proof"));
-    const { cssContentSize } = await browser.call("Page.getLayoutMetrics");
-    const { width, height } = cssContentSize;
-    const how = { clip: { x: 0, y: 0, width, height, scale: 1 }, captureBeyondViewport: true };
-    const { data } = await browser.call("Page.captureScreenshot", how);
-    fs.writeFileSync(picture, Buffer.from(data, "base64"));
-}
-
-async function main([picture]) {
+async function main([name, picture]) {
     const bench = new Bench("the page in Chromium");
+    const program = new Program(path.resolve(name));
     const room = fs.mkdtempSync(path.join(os.tmpdir(), "web-page-"));
+    const server = await new Server().start();
+    server.headers = { "access-control-allow-origin": "*" };
     const browser = new Browser(find(), path.join(room, "profile"));
     try {
         const page = pathToFileURL(path.join(WEB, "verify.html")).href;
@@ -406,22 +573,33 @@ async function main([picture]) {
         await browser.call("Page.setDownloadBehavior", { behavior: "allow", downloadPath: room });
         await partsHold(bench, browser, "records");
         await sampleHolds(bench, browser);
+        if (picture !== undefined) {
+            await given(browser, PLACES, WINDOW, path.join(EXAMPLES, "places-window.proof"));
+            await browser.shoot(picture, true);
+            return;
+        }
         await refusalsHold(bench, browser, room);
         await othersHold(bench, browser, room);
         await countsHold(bench, browser);
         await joinsHold(bench, browser, room);
         await geojsonHolds(bench, browser, room);
+        await unitsHold(bench, browser);
         const elsewhere = browser.asked.filter((url) => !/^(file|blob):/.test(url));
         bench.equal(String(elsewhere), "", "addresses that the page asks for");
+        await addressesHold(bench, browser, program, server, room);
+        const others = browser.asked.filter((url) => !/^(file|blob):/.test(url));
+        const areMaps = others.length > 0 && others.every((url) => url.startsWith(server.url));
+        bench.holds(areMaps, `addresses that are asked for: ${others}`);
+        await narrowHolds(bench, browser);
         const isSeen = browser.asked.some((url) => url.endsWith("/mrtree_check.js"));
         bench.holds(isSeen, "what is asked for is seen");
         bench.equal(String(browser.told), "", "failures in the page");
-        await (picture && shoot(browser, picture));
         await addressHolds(bench, browser, page);
         await limitsHold(bench, browser, page);
     } finally {
         await browser.close();
-        fs.rmSync(room, { recursive: true, force: true });
+        await server.stop();
+        fs.rmSync(room, { recursive: true, force: true, maxRetries: 20, retryDelay: 250 });
     }
     bench.end();
 }

@@ -63,4 +63,4 @@ function put(files, sign) {
     }
 }
 
-module.exports = { linesOf, put };
+module.exports = { linesOf, put, bytesOf };

@@ -35,8 +35,8 @@ def read(name: str) -> bytes:
 class Bench:
     """Runs program and client in one folder, and counts what agrees."""
 
-    def __init__(self, program: str, is_long: bool) -> None:
-        self.program_path, self.is_long = os.path.abspath(program), is_long
+    def __init__(self, program: str, is_long: bool, name: str = "tests/clients") -> None:
+        self.program_path, self.is_long, self.name = os.path.abspath(program), is_long, name
         self.rows = self.failed = self.skipped = self.honest = self.bent = self.bundles = self.counts = self.joins = 0
 
     def holds(self, is_so: bool, what: str) -> None:
@@ -48,9 +48,13 @@ class Bench:
                 print("FAILED: " + what)
 
     def skip(self, what: str) -> None:
-        """Counts what cannot be tested here, and says so."""
+        """Counts what cannot be tested here, and says so as tests/skip does."""
         self.skipped += 1
-        print("tests/clients: SKIPPED, NOT TESTED: " + what)
+        line = "%s: SKIPPED, NOT TESTED: %s" % (self.name, what)
+        print(line, flush=True)
+        if os.environ.get("TESTS_SKIPPED"):
+            with open(os.environ["TESTS_SKIPPED"], "a") as file:
+                file.write(line + "\n")
 
     def program(self, words: List[str]) -> Ended:
         """What the program says; on standard error it says nothing."""

@@ -10,19 +10,22 @@ import time
 from typing import Callable, List, Optional, Tuple
 
 from bench import TOP, Bench, read, write
+import ask
 import chances
 import foretold
 import formats
 import inputs
 import mrtree_check
 import pages
+import servers
 import tables
 import trips
 import vectors
 import ways
 
 LONGEST = 40  # lines of a function
-MODULES = ["mrtree_check", "outputs", "sources", "records", "draw", "packing"]
+MODULES = ["mrtree_check", "mrtree_ask", "ranges", "pagewise", "layout"]
+MODULES += ["outputs", "sources", "records", "draw", "packing"]
 MOST_IN_SHORT = 2**17  # bytes of a proof that the short run takes from a story
 # The rules by which texts, batches, map files and proofs are refused.
 RULES = """TooMany NoEnd Head Form Number Coordinate Order Payload Repeat Query Layer OutOfOrder Present Full Absent
@@ -43,7 +46,7 @@ def style(bench: Bench) -> None:
     for name in MODULES:
         module = importlib.import_module(name)
         results = doctest.testmod(module)
-        has_some = results.attempted > 0 or name in ("outputs", "packing")
+        has_some = results.attempted > 0 or name in ("layout", "outputs", "packing")
         bench.holds(results.failed == 0 and has_some, "%s: its examples" % name)
         with open(module.__file__) as file:
             tree = ast.parse(file.read(), feature_version=(3, 9))
@@ -210,6 +213,8 @@ def main(how: str, program: str) -> int:
         ("files that are odd or do not fit", inputs.inputs_hold),
         ("from files of publishers and back", trips.trips_hold),
         ("answers, outputs and stops", ways.ways_hold),
+        ("maps asked by their pages", ask.asks_hold),
+        ("maps on servers", servers.all_hold),
         ("the examples on pages", pages.pages_hold),
     ]
     if bench.is_long:

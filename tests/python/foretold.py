@@ -387,11 +387,11 @@ class Course:
     def makes_calls(self, least: int) -> bool:
         """Whether a row has one run, and so many calls on files and on an output of 7 bytes a call are asked for.
 
-        A call of the shelf is one to four calls on files. How many `apply` makes for its changes is not foretold.
+        A call of the shelf is one to five calls on files. How many `apply` makes for its changes is not foretold.
         """
         is_one = [item.key for item in self.group.items if item.key in ("run", "do")] == ["run"]
         printed = -(-len(self.ended[1]) // MOST)
-        is_within = self.words[0] == "apply" or least <= 4 * self.calls + printed
+        is_within = self.words[0] == "apply" or least <= 5 * self.calls + printed
         return is_one and self.calls + printed <= least and is_within
 
     def has_pages(self, name: str, pages: int, free: int) -> bool:

@@ -43,13 +43,14 @@ CODE = r"`[^`]*`"
 LONGEST_RUN = 600  # seconds
 MOST_WORDS = 35  # of a sentence
 # The pages whose sentences are counted.
-PLAIN = """README.md CHANGELOG.md docs/PUBLISHING.md docs/SERVING.md docs/READING.md docs/DEVELOPING.md docs/SPEED.md
+PLAIN = """README.md CHANGELOG.md docs/PUBLISHING.md docs/SERVING.md docs/HOSTING.md docs/READING.md docs/DEVELOPING.md docs/SPEED.md
     docs/COUNTS.md docs/JOINS.md docs/HEADLINE.md docs/PROVED.md docs/HOSTILE.md docs/GLOSSARY.md docs/DECISIONS.md docs/COMMANDS.md docs/FORMATS.md
     docs/DESIGN.md docs/PROVING.md docs/DEFINITIONS.md""".split()
-# The words that the script itself answers, before any build.
+# The words that the script itself answers, before any build; and those that build, where the program is there.
 WRAPPER = """#!/bin/sh
 case ${1-} in
     -h | --help | help | version) exec '%s' "$@" ;;
+    quick | prepare) exit 0 ;;
 esac
 exec '%s' "$@"
 """
@@ -293,7 +294,7 @@ def page_holds(bench: Bench, page: str, text: str) -> int:
     for at, example in enumerate(examples):
         lacks = missing(example.lines)
         if lacks:
-            print("tests/clients: SKIPPED %s from line %d on: there is no %s" % (page, example.line, lacks))
+            bench.skip("%s from line %d on: there is no %s" % (page, example.line, lacks))
             return at
         example_holds(bench, page, example, given)
         given += [line for line in example.lines if re.match(GIVES, line)]

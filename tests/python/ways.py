@@ -528,7 +528,7 @@ def modules_hold(bench: Bench) -> None:
 
 
 def installs(bench: Bench) -> None:
-    """pip makes a package of the folder without a network: the module with its types, and three commands."""
+    """pip makes a package of the folder without a network: the modules with their types, and five commands."""
     if importlib.util.find_spec("pip") is None:
         bench.skip("pip installs the package: there is no pip")
         return
@@ -547,6 +547,11 @@ def installs(bench: Bench) -> None:
         ran = run([os.path.join(into, "bin", "mrtree-draw"), ROOT, WINDOW, PROOF, "-"])
         picture = read(os.path.join(EXAMPLES, "places-window.svg"))
         bench.holds((ran.returncode, ran.stdout) == (0, picture), "mrtree-draw: %s" % ran.returncode)
+        bench.program(["build", "m", os.path.join(EXAMPLES, "places.txt")])
+        ran = run([os.path.join(into, "bin", "mrtree-layout"), "m", "laid"])
+        bench.holds(ran.returncode == 0 and read("laid") == read("m"), "mrtree-layout: %s" % (ran,))
+        ran = run([os.path.join(into, "bin", "mrtree-ask"), ROOT, WINDOW, "laid"])
+        bench.holds((ran.returncode, ran.stdout) == bench.client(["check", ROOT, WINDOW, PROOF]), "mrtree-ask")
         asks = "import mrtree_check; print(mrtree_check.__version__, mrtree_check.check.__module__)"
         ran = run([sys.executable, "-c", asks])
         meant = "%s mrtree_check.mrtree_check\n" % mrtree_check.__version__

@@ -24,7 +24,7 @@ class Three(Bench):
     """Runs the program and both clients: where the one in Python is asked, the one in JavaScript is asked too."""
 
     def __init__(self, program: str, is_long: bool) -> None:
-        super().__init__(program, is_long)
+        super().__init__(program, is_long, "tests/web")
         self.chance, self.asked = random.Random(39), 0
         pipe = subprocess.PIPE
         self.node = subprocess.Popen(["node", os.path.abspath(ANSWER)], stdin=pipe, stdout=pipe, text=True)

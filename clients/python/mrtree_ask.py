@@ -1,0 +1,284 @@
+#!/usr/bin/env python3
+"""Asks a map by its root digest, where its file lies on a server or on the disk, and prints the checked answer.
+
+usage: mrtree_ask.py [OPTIONS] [check | check-count] ROOT QUERY SOURCE
+       mrtree_ask.py [OPTIONS] check-join ROOT ROOT2 SOURCE SOURCE2
+
+SOURCE is an address that begins with http:// or https://, or the name of a map file. Of it the pages are fetched that
+the query opens. The honest proof is made of them, and then it is checked by mrtree_check.py, whose lines are printed.
+
+--proof FILE        keeps the proof in a file, once it is accepted
+--most BYTES        fetches at most so many bytes in all, else 1073741824
+--requests NUMBER   sends at most so many requests in all, else 10000
+--seconds NUMBER    takes at most so long for them, else 600
+--help, -h          prints this, where it stands first
+
+Exit statuses are those of mrtree_check.py, and 10 where a map of version 2 is needed. docs/HOSTING.md has all texts.
+The script is tested, not proved.
+
+As a module: `ask(root, query, source)` answers what `check` of mrtree_check answers, or raises what it raises, and
+Failed where the file cannot be had. `ask_count` and `ask_join` do the same of counts and joins.
+"""
+from __future__ import annotations
+
+import sys
+
+if __name__ == "__main__":  # an interrupt while modules are read ends the run without a trace
+    sys.excepthook = lambda kind, *rest: kind is KeyboardInterrupt or sys.__excepthook__(kind, *rest)
+
+import signal
+
+if __name__ == "__main__":
+    signal.signal(signal.SIGINT, signal.SIG_DFL)
+
+import os
+from contextlib import suppress
+from typing import Dict, List, NamedTuple, Tuple, Union
+
+if __package__:
+    from . import mrtree_check as client
+    from . import outputs
+    from .mrtree_check import Answer, Count, Ended, Join, Query, Refused
+    from .pagewise import FarMap, MapRefused, join_proof
+    from .ranges import Failed, Limits, Meter, is_address, read_address, source_of, told
+else:
+    import mrtree_check as client
+    import outputs
+    from mrtree_check import Answer, Count, Ended, Join, Query, Refused
+    from pagewise import FarMap, MapRefused, join_proof
+    from ranges import Failed, Limits, Meter, is_address, read_address, source_of, told
+
+__all__ = ["FarMap", "Failed", "Limits", "MapRefused", "Refused", "ask", "ask_count", "ask_join", "open_map"]
+
+SCRIPT = "mrtree_ask.py"
+USAGE = "usage: %s [OPTIONS] [check | check-count] ROOT QUERY SOURCE" % SCRIPT
+USAGE += ", or: check-join ROOT ROOT2 SOURCE SOURCE2"
+
+
+# ---- as a module
+
+
+def open_map(root: str, source: str, limits: Limits = Limits()) -> FarMap:
+    """The map with a root digest, in a file at an address or of a name, for several queries. Raises as `ask`."""
+    return FarMap(client.read_root(root), source_of(source, Meter(limits)))
+
+
+def ask(root: str, query: str, source: str, limits: Limits = Limits()) -> Answer:
+    """The answer to a query word on the map with a root digest, whose file is at an address or has a name.
+
+    Raises Refused, and of that MapRefused where a page does not fit; Failed where the file cannot be had; Ended where a
+    mask is named and the map is of version 1; and ValueError where a word is no such word.
+    """
+    asked = client.read_query(query)
+    return client.check(root, query, open_map(root, source, limits).proof(asked))
+
+
+def ask_count(root: str, query: str, source: str, limits: Limits = Limits()) -> Count:
+    """How many records lie inside the window of a query word. Raises as `ask`."""
+    asked = client.read_window(query)
+    return client.check_count(root, query, open_map(root, source, limits).count_proof(asked))
+
+
+def ask_join(root: str, root2: str, source: str, source2: str, limits: Limits = Limits()) -> Join:
+    """Which records of two maps meet. Raises as `ask`; of Refused the part says of which map it is."""
+    digests = client.read_root(root), client.read_root(root2)
+    return client.check_join(root, root2, proof_of_join(*digests, [source, source2], Meter(limits)))
+
+
+def proof_of_join(root: bytes, root2: bytes, sources: List[str], meter: Meter) -> bytes:
+    """The honest proof of a join of the maps in two files. Raises as `ask_join`."""
+    fars = []
+    for part, one, source in zip(("first", "second"), (root, root2), sources):
+        try:
+            fars.append(FarMap(one, source_of(source, meter)))
+        except MapRefused as fault:
+            raise MapRefused(fault.rule, fault.place, fault.found, part) from None
+    return join_proof(*fars)
+
+
+def is_map(name: str) -> bool:
+    """Whether a word is an address, or the name of a file that begins as map files do.
+
+    >>> is_map("https://example.org/a.map"), is_map("no such file")
+    (True, False)
+    """
+    if is_address(name):
+        return True
+    with suppress(OSError, ValueError):
+        if os.path.isfile(name):
+            with open(name, "rb") as file:
+                return file.read(4) == b"MRMP"
+    return False
+
+
+# ---- the commands
+
+
+class Words(NamedTuple):
+    """The words of a command line: the command, the root digest, what is asked, the sources, and what options say.
+
+    What is asked is a query, and of `check-join` the second root digest. Where no proof is kept, its name is empty.
+    """
+
+    command: str
+    root: bytes
+    asked: Union[Query, bytes]
+    sources: List[str]
+    proof: str
+    limits: Limits
+
+
+Done = Tuple[bytes, List[str]]  # a proof, and the lines of its answer
+
+
+def check_done(words: Words, meter: Meter) -> Done:
+    """What comes of `check`."""
+    proof = FarMap(words.root, source_of(words.sources[0], meter)).proof(words.asked)
+    return proof, client.judge(words.root, words.asked, [proof]).lines()
+
+
+def count_done(words: Words, meter: Meter) -> Done:
+    """What comes of `check-count`."""
+    proof = FarMap(words.root, source_of(words.sources[0], meter)).count_proof(words.asked)
+    return proof, ["count %d" % client.judge_count(words.root, words.asked, [proof]).inside]
+
+
+def join_done(words: Words, meter: Meter) -> Done:
+    """What comes of `check-join`."""
+    proof = proof_of_join(words.root, words.asked, words.sources, meter)
+    return proof, ["pair %d %d" % pair for pair in client.judge_join(words.root, words.asked, [proof]).pairs]
+
+
+COMMANDS = {  # how many sources each has, what reads its second word, and what does it
+    "check": (1, client.read_query, check_done),
+    "check-count": (1, client.read_window, count_done),
+    "check-join": (2, client.read_root, join_done),
+}
+LIMITS = {"--most": "bytes", "--requests": "requests", "--seconds": "seconds"}  # the options that set one
+
+
+def read_words(words: List[str]) -> Words:
+    """What the words of a command line mean. Raises ValueError, with what is wrong, where they spell no command.
+
+    >>> words = read_words(["00" * 32, "nearest:1,2,3", "a.map", "--requests", "5"])
+    >>> words.command, words.asked.k, words.sources, words.proof, words.limits.requests
+    ('check', 3, ['a.map'], '', 5)
+    """
+    given, rest = read_options(words)
+    command = rest.pop(0) if rest and rest[0] in COMMANDS else "check"
+    count, read, _ = COMMANDS[command]
+    if len(rest) != 2 + count or "" in rest:
+        raise ValueError(USAGE)
+    root, asked, sources = client.read_root(rest[0]), read(rest[1]), rest[2:]
+    for source in filter(is_address, sources):
+        read_address(source)
+    proof = given.pop("--proof", "")
+    if proof:
+        refuse_same(proof, sources)
+    limits = {LIMITS[option]: read_number(option, word) for option, word in given.items()}
+    return Words(command, root, asked, sources, proof, Limits(**limits))
+
+
+def read_options(words: List[str]) -> Tuple[Dict[str, str], List[str]]:
+    """The options of a command line, and its other words. Raises ValueError."""
+    given: Dict[str, str] = {}
+    rest: List[str] = []
+    left = iter(words)
+    for word in left:
+        if not word.startswith("--"):
+            rest.append(word)
+            continue
+        value = next(left, "")
+        if word not in ("--proof", *LIMITS) or word in given or not value:
+            raise ValueError("%s is no option, or stands there twice, or has no value" % word)
+        given[word] = value
+    return given, rest
+
+
+def read_number(option: str, word: str) -> int:
+    """The number of an option. Raises ValueError."""
+    try:
+        return client.read_decimal(word, 0, 2**63 - 1)
+    except ValueError:
+        raise ValueError("%s stands before a whole number" % option) from None
+
+
+def refuse_same(proof: str, sources: List[str]) -> None:
+    """Raises ValueError where a proof is to stand in a file that is read."""
+    try:
+        outputs.refuse_same(proof, sources)
+    except outputs.Unfit as unfit:
+        raise ValueError(str(unfit)) from None
+
+
+def keep(name: str, proof: bytes) -> None:
+    """Keeps a proof in a file. Raises Failed."""
+    try:
+        with outputs.written(name) as file:
+            file.write(proof)
+    except (OSError, ValueError) as fault:
+        raise Failed("NoFile", name, told(fault)) from None
+
+
+def run(words: List[str]) -> Tuple[int, str]:
+    """Exit status and text of the words behind the script's name: of status 7 the text is for standard error.
+
+    >>> run(["--help"])[1].splitlines()[2]
+    'usage: mrtree_ask.py [OPTIONS] [check | check-count] ROOT QUERY SOURCE'
+
+    >>> run(["00" * 32, "window:0,0,1,1", "no such file"])
+    (7, 'failed NoFile no such file: missing\\n')
+    """
+    if words[:1] in (["-h"], ["--help"]):
+        return 0, (__doc__ or USAGE) + "\n" * (__doc__ is None)
+    try:
+        asked = read_words(words)
+    except ValueError:
+        return 1, "bad words\n"
+    try:
+        proof, lines = COMMANDS[asked.command][2](asked, Meter(asked.limits))
+        if asked.proof:
+            keep(asked.proof, proof)
+        return 0, "".join(line + "\n" for line in lines)
+    except Refused as fault:
+        return 2, "%s\n" % fault
+    except Ended as ended:
+        return ended.status, ended.line + "\n"
+    except MemoryError:
+        return 8, ""
+
+
+def explain(words: List[str]) -> None:
+    """Says in a terminal, on standard error, why words spell no command."""
+    try:
+        if sys.stderr and sys.stderr.isatty():
+            read_words(words)
+    except ValueError as fault:
+        outputs.tell(SCRIPT, str(fault))
+
+
+def main() -> int:
+    """Runs the words of the command line; answers the exit status."""
+    try:
+        words = [os.fsencode(word).decode() for word in sys.argv[1:]]
+        status, text = run(words)
+        if status == 7:
+            outputs.tell(SCRIPT, text.rstrip("\n"))
+            return status
+        left = memoryview(text.encode())
+        while left:
+            left = left[os.write(1, left) :]
+        if status == 1:
+            explain(words)
+    except (UnicodeDecodeError, OSError):
+        return 7
+    except MemoryError:
+        return 8
+    except KeyboardInterrupt:
+        return outputs.STOPPED
+    return status
+
+
+if __name__ == "__main__":
+    signal.signal(signal.SIGINT, signal.default_int_handler)
+    sys.exit(main())
