@@ -6,6 +6,7 @@ counted, and there are limits on bytes, requests and seconds.
 """
 from __future__ import annotations
 
+import functools
 import http.client
 import io
 import os
@@ -31,8 +32,11 @@ Place = Tuple[int, int]  # a range: the place of its first byte, and the place b
 AT_ONCE = 6  # requests
 PATIENCE = 30  # seconds without a byte, after which a server is taken for dead
 MOST_LED = 5  # times that a server may lead on to another address
+MOST_TIMES, MOST_MORE = 8, 2**20  # an answer has at most so many times the bytes of its range, and so many more
+LONGER = "the answer is longer than its range"
 MOST_TOLD = 200  # letters of what is told of a fault, some of which a server may have chosen
 LED = (301, 302, 303, 307, 308)  # the statuses by which it does
+PORT = {False: 80, True: 443}  # without TLS, and with it, where an address names none
 HEADERS = {"Accept-Encoding": "identity", "User-Agent": "mrtree-ask/" + __version__}
 RANGE = re.compile(r"bytes ([0-9]{1,19})-([0-9]{1,19})/([0-9]{1,19}|\*)", re.IGNORECASE)
 
@@ -131,7 +135,7 @@ class Address(NamedTuple):
     word: str
     secret: bool
     host: str
-    port: Optional[int]
+    port: int
     path: str
 
 
@@ -149,6 +153,8 @@ def read_address(word: str) -> Address:
 
     >>> read_address("https://example.org:8443/maps/a.map?v=1#part")[1:]
     (True, 'example.org', 8443, '/maps/a.map?v=1')
+    >>> read_address("http://[::1]/a.map")[1:]
+    (False, '::1', 80, '/a.map')
     >>> read_address("ftp://example.org/a.map")
     Traceback (most recent call last):
     ValueError: an address begins with http:// or https://
@@ -165,7 +171,8 @@ def read_address(word: str) -> Address:
     if not host or "@" in parts.netloc:
         raise ValueError("an address has the name of a host, and neither a user's name nor a password")
     path = (parts.path or "/") + (parts.query and "?" + parts.query)
-    return Address(word, parts.scheme.lower() == "https", host, port, path)
+    secret = parts.scheme.lower() == "https"
+    return Address(word, secret, host, PORT[secret] if port is None else port, path)
 
 
 def told(fault: BaseException) -> str:
@@ -173,20 +180,28 @@ def told(fault: BaseException) -> str:
     return getattr(fault, "strerror", None) or str(fault) or type(fault).__name__
 
 
-class Wire(io.RawIOBase):
-    """What comes by a socket: each piece is waited for as long as `left` says."""
+class Overlong(Exception):
+    """An answer has more bytes than may be."""
 
-    def __init__(self, link: socket.socket, left: Callable[[], float]) -> None:
-        self.link, self.raw, self.left = link, link.makefile("rb", buffering=0), left
+
+class Wire(io.RawIOBase):
+    """What comes by a socket, so many bytes at most: each piece is waited for as long as `left` says."""
+
+    def __init__(self, link: socket.socket, left: Callable[[], float], most: int) -> None:
+        self.link, self.raw, self.left, self.most = link, link.makefile("rb", buffering=0), left, most
 
     def readable(self) -> bool:
         """It is to be read."""
         return True
 
     def readinto(self, buffer: Any) -> Optional[int]:
-        """Puts the next piece into a buffer; answers its length."""
+        """Puts the next piece into a buffer; answers its length. Raises Overlong."""
         self.link.settimeout(self.left())
-        return self.raw.readinto(buffer)
+        size = self.raw.readinto(buffer)
+        self.most -= size or 0
+        if self.most < 0:
+            raise Overlong
+        return size
 
     def close(self) -> None:
         """Lets go of the socket."""
@@ -195,14 +210,15 @@ class Wire(io.RawIOBase):
 
 
 class Reply(http.client.HTTPResponse):
-    """An answer whose socket is waited for as long as `left` says."""
+    """An answer whose socket is waited for as long as `left` says, of at most so many bytes with its head.
 
-    left: Callable[[], float]
+    Python's own reader goes by what a server says: where that is a chunk of -1 bytes, it reads for ever.
+    """
 
-    def __init__(self, link: socket.socket, *words: Any, **more: Any) -> None:
+    def __init__(self, left: Callable[[], float], most: int, link: socket.socket, *words: Any, **more: Any) -> None:
         super().__init__(link, *words, **more)
         self.fp.close()
-        self.fp = io.BufferedReader(Wire(link, self.left))
+        self.fp = io.BufferedReader(Wire(link, left, most))
 
 
 class OnServer:
@@ -212,7 +228,6 @@ class OnServer:
         self.name, self.meter, self.address = word, meter, read_address(word)
         self.free: List[Tuple[str, http.client.HTTPConnection]] = []
         self.tls = ssl.create_default_context() if self.address.secret else None
-        self.reply = type("Reply", (Reply,), {"left": staticmethod(self.patience)})
 
     def failed(self, name: str, words: str) -> Failed:
         """The fault of this name."""
@@ -280,6 +295,8 @@ class OnServer:
                 self.address = self.led_to(address, reply.headers.get("location", ""))
                 self.meter.spend(1, 0, self.name)
             raise self.failed("Redirect", "led to " + self.address.word)
+        except Overlong:
+            raise self.failed("Longer", LONGER) from None
         except http.client.IncompleteRead:
             raise self.failed("Shorter", "the answer is shorter than its range") from None
         except socket.timeout:
@@ -313,7 +330,6 @@ class OnServer:
             link = http.client.HTTPSConnection(address.host, address.port, context=self.tls)
         else:
             link = http.client.HTTPConnection(address.host, address.port)
-        link.response_class = self.reply
         return link
 
     def asked(self, link: http.client.HTTPConnection, address: Address, place: Place) -> Reply:
@@ -321,16 +337,17 @@ class OnServer:
         link.timeout = self.patience()
         if link.sock is not None:
             link.sock.settimeout(link.timeout)
+        most = MOST_MORE + MOST_TIMES * (place[1] - place[0])
+        link.response_class = functools.partial(Reply, self.patience, most)
         link.request("GET", address.path, headers={**HEADERS, "Range": "bytes=%d-%d" % (place[0], place[1] - 1)})
         return link.getresponse()
 
     def led_to(self, address: Address, word: str) -> Address:
         """The address to which a server leads. Raises Failed (Redirect) where it may not."""
-        target = urljoin(address.word, word)
-        try:
+        target, led = word, None
+        with suppress(ValueError):
+            target = urljoin(address.word, word)
             led = read_address(target)
-        except ValueError:
-            led = None
         if not word or led is None or led.secret != address.secret:
             raise self.failed("Redirect", "led to " + (target if word else "no address"))
         return led
@@ -343,13 +360,13 @@ class OnServer:
             words = "the server gives no ranges" if reply.status == 200 else "status %d" % reply.status
             raise self.failed("NoRanges" if reply.status == 200 else "Status", words)
         encoding = ", ".join(reply.headers.get_all("content-encoding", []))
-        if encoding.lower() not in ("", "identity"):
+        if encoding.strip().lower() not in ("", "identity"):
             raise self.failed("Encoded", "the answer is encoded: " + encoding)
         size = self.size_of(", ".join(reply.headers.get_all("content-range", [])), place)
         told_size = size if reply.length is None else reply.length
         data = reply.read(size + 1) if told_size == size else b""
         if told_size > size or len(data) > size:
-            raise self.failed("Longer", "the answer is longer than its range")
+            raise self.failed("Longer", LONGER)
         if len(data) < size:
             raise self.failed("Shorter", "the answer is shorter than its range")
         return data

@@ -170,18 +170,20 @@ function isAddress(word) {
     return /^[A-Za-z][A-Za-z0-9+.-]*:\/\//.test(word);
 }
 
+/** The address of no user that a word spells, seen from another one; null where it is none. */
+function addressOf(word, from = undefined) {
+    try {
+        const address = new URL(word, from);
+        return address.username === "" && address.password === "" ? address : null;
+    } catch {
+        return null;
+    }
+}
+
 /** Whether a word spells an address: of letters of ASCII, by http or https, and of no user. */
 function isSource(word) {
-    if (!isAddress(word)) {
-        return word !== "";
-    }
-    try {
-        const { protocol, username, password } = new URL(word);
-        const isWeb = protocol === "http:" || protocol === "https:";
-        return isWeb && username === "" && password === "" && /^[!-~]+$/.test(word);
-    } catch {
-        return false;
-    }
+    const isSo = ["http:", "https:"].includes(addressOf(word)?.protocol) && /^[!-~]+$/.test(word);
+    return isAddress(word) ? isSo : word !== "";
 }
 
 /** A file on a server, by ranges. */
@@ -229,15 +231,15 @@ class OnServer {
             const answer = await this.fetched(url, { ...how, ...privacy });
             const isLed = LED.includes(answer.status);
             const word = isLed ? answer.headers.get("location") : answer.url || url;
-            const place = new URL(word || url, url);
-            if (place.protocol !== new URL(this.name).protocol) {
-                throw this.failed("Redirect", `led to ${place.href}`);
+            if (!word) {
+                throw this.failed("Redirect", "led to no address");
+            }
+            const place = addressOf(word, url);
+            if (place?.protocol !== new URL(this.name).protocol) {
+                throw this.failed("Redirect", `led to ${place?.href ?? word}`);
             }
             if (!isLed) {
                 return answer;
-            }
-            if (!word) {
-                throw this.failed("Redirect", "led to no address");
             }
             await answer.body?.cancel();
             url = place.href;
@@ -274,7 +276,7 @@ class OnServer {
             throw this.failed("Status", `status ${status}`);
         }
         const encoding = headers.get("content-encoding") ?? "";
-        if (!["", "identity"].includes(encoding.toLowerCase())) {
+        if (!["", "identity"].includes(encoding.trim().toLowerCase())) {
             throw this.failed("Encoded", `the answer is encoded: ${encoding}`);
         }
         const told = headers.get("content-range");
