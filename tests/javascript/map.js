@@ -255,6 +255,11 @@ async function touchHolds(bench, browser, map) {
     await scanHolds(bench, browser, map, "zoomed by fingers");
     await browser.value("choose((now.picture.records ?? now.picture.boxes)[0])");
     bench.holds(await browser.value(isNarrow), "with a card no wider than 360 pixels");
+    const areHidden = await browser.value(`["layers", "shade"].every((id) => {
+        at(id).hidden = false;
+        return getComputedStyle(at(id)).display === "none";
+    })`);
+    bench.holds(areHidden, "no key lies over the card at 360 pixels");
     await browser.value("at('given').open = true");
     await settled(browser);
     bench.holds(await browser.value(isNarrow), "with the form no wider than 360 pixels");
