@@ -19,6 +19,7 @@ const { Browser, find, pause } = require("./chromium.js");
 const { Server, send } = require("./server.js");
 const { Chance, Program, extentOf } = require("./maps.js");
 const client = require(path.join(WEB, "mrtree_check.js"));
+const { FarMap } = require(path.join(WEB, "mrtree_ask.js"));
 
 const UNIT = "1e-7";
 const SIZE = [800, 640]; // of the page
@@ -560,17 +561,54 @@ http {
     return { running, pages, there, without };
 }
 
+/** The button saves of the records in view the program's proof, with the window in its name. */
+async function savedHolds(bench, browser, program, map) {
+    const [proof, name, window] = await browser.value(`(() => {
+        const kept = [];
+        giveOut = ([bytes], type, file) => kept.push(hexOf(bytes), file);
+        at("save").click();
+        return [...kept, now.picture.window];
+    })()`);
+    const isSame = program.proof("prove", map.name, `window:${window}`).toString("hex") === proof;
+    const isNamed = name === `window_${window.join("_")}.proof`;
+    bench.holds(isSame && isNamed, `the proof that is saved, version ${map.version}: ${name}`);
+}
+
+/** In Node, from nginx: proofs of a window, of the nearest and of a count are the program's. */
+async function nodeHolds(bench, program, map, url, [x0, y0, x1, y1]) {
+    const far = await new FarMap(url).open(map.root);
+    const rows = [
+        ["prove", `window:${x0},${y0},${x1},${y1}`, (word) => far.ask(word)],
+        ["prove", `nearest:${x0},${y1},100`, (word) => far.ask(word)],
+        ["count", `window:${x0},${y0},${x1},${y1}`, (word) => far.askCount(word)],
+    ];
+    for (const [command, word, ask] of rows.slice(0, map.version === 2 ? 3 : 2)) {
+        const { accepted, proof } = await ask(word);
+        const isSame = program.proof(command, map.name, word).equals(proof);
+        const where = `nginx in Node, version ${map.version}: ${command} ${word}`;
+        bench.holds(accepted && isSame, where);
+    }
+}
+
 /** The page from nginx, on maps of other origins there; answers their addresses. */
-async function nginxHolds(bench, browser, room, maps, nginx) {
+async function nginxHolds(bench, browser, room, program, maps, nginx) {
     const { running, pages, there, without } = await startNginx(nginx, room);
     try {
         const page = `${pages}map.html`;
         for (const map of maps) {
             fs.writeFileSync(`${map.root}.map`, map.bytes);
-            await openMap(browser, page, `${there}${map.root}.map`, map.root);
+            const url = `${there}${map.root}.map`;
+            await openMap(browser, page, url, map.root);
             await scanHolds(bench, browser, map, `nginx, version ${map.version}`);
             await zoomToRecords(browser);
             await scanHolds(bench, browser, map, `nginx, version ${map.version}, zoomed`);
+            await savedHolds(bench, browser, program, map);
+            const top = await browser.value("canvas.getBoundingClientRect().top");
+            await browser.drag([400, top + 200], [300, top + 260]);
+            await settled(browser);
+            const where = `nginx, version ${map.version}, dragged`;
+            const { window } = await scanHolds(bench, browser, map, where);
+            await nodeHolds(bench, program, map, url, window);
         }
         const [map] = maps;
         const size = map.version === 2 ? 8192 : 4096;
@@ -646,7 +684,8 @@ async function main([name, nginx, folder]) {
         bench.equal(String(browser.told), "", "failures in the page");
         const origins = [maps.url, pages.url, "about:"];
         if (nginx) {
-            origins.push(...(await nginxHolds(bench, browser, room, [two, one], nginx)));
+            const all = [two, one];
+            origins.push(...(await nginxHolds(bench, browser, room, program, all, nginx)));
         }
         await addressesHold(bench, browser, maps, two, origins);
     } finally {
