@@ -38,7 +38,9 @@ use Rattle.mr_plan.specs.Found.{Found, ShowsMap}
 use Rattle.mr_plan.specs.Outcome.{Outcome}
 use Rattle.mr_plan.specs.Plan.{Plan, comes, opens, Input}
 use Rattle.mr_plan.specs.Untold.{IsFinding, MaySayAudit, MaySayBeside}
-use Rattle.mr_tool.specs.Promises.{HoldsBytes, DeliversOutcome, SaysWorth}
+use Rattle.mr_tool.specs.Asked.{HoldsBytes}
+use Rattle.mr_tool.specs.Promises.{DeliversOutcome}
+use Rattle.mr_tool.proofs.Statements.{SaysWorth}
 use Rattle.mr_plan.specs.Say.{given, given_map, needs, needs_map, needs_beside, prints, say_audit, say_audit_of, say_finding}
 use Rattle.mr_plan.specs.Lines.{sound_line, collision_lines}
 use Rattle.mr_pages.specs.declared.opening.Opened.{Opened}

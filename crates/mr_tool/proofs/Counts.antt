@@ -56,7 +56,9 @@ use Rattle.mr_command.specs.private.Steps.{PrintsEnding}
 use Rattle.mr_command.specs.declared.ending.Ending.{Ending}
 use Rattle.mr_command.specs.declared.ending.Halt.{Halt}
 use Rattle.mr_command.proofs.Verdicts.{says_count_verdict, says_count_finding}
-use Rattle.mr_tool.specs.Promises.{HoldsBytes, DeliversOutcome, SaysSoundOrPair, CollidesRightly, CountsHonest, PrintsCount, IsCountWorth, CountsOrCollides, AuditsAcceptedCount}
+use Rattle.mr_tool.specs.Asked.{HoldsBytes}
+use Rattle.mr_tool.specs.Promises.{DeliversOutcome}
+use Rattle.mr_tool.proofs.Statements.{SaysSoundOrPair, CollidesRightly, CountsHonest, PrintsCount, IsCountWorth, CountsOrCollides, AuditsAcceptedCount}
 use Rattle.mr_tool.proofs.CountWorth.{count_from, count_honest, shown_honest, law_of, narrow_ways, number_there, own_number, own_taken, own_verdict}
 use Rattle.mr_tool.proofs.Ended.{HasRun, IsRunOr, beside_on, ends_on, layers_of, not_collided, not_refused, not_stopped, other_status, ran, taken_on, told_ends, whole_of}
 use Rattle.mr_tool.proofs.Audited.{Shown, shown_audit, shown_beside}

@@ -18,7 +18,7 @@ use Rattle.mr_command.specs.private.Steps.{PrintsEnding}
 use Rattle.mr_plan.specs.Outcome.{Outcome}
 use Rattle.mr_plan.specs.Plan.{Plan, comes, opens, Input, IsInput}
 use Rattle.mr_plan.specs.Untold.{MaySayUntold}
-use Rattle.mr_tool.specs.Promises.{HoldsBytes}
+use Rattle.mr_tool.specs.Asked.{HoldsBytes}
 use Rattle.mr_plan.specs.Say.{given, given_map, needs, needs_map, needs_beside, say}
 use Rattle.mr_command.specs.declared.ending.Ending.{Ending}
 use Rattle.mr_command.specs.declared.ending.Halt.{Halt}

@@ -35,7 +35,8 @@ use Rattle.mr_plan.specs.First.{pages_by}
 use Rattle.mr_plan.specs.Outcome.{Outcome, IsHeld}
 use Rattle.mr_plan.specs.Plan.{Plan, comes, opens, LeadsToOutcome}
 use Rattle.mr_plan.specs.Untold.{MaySayApply}
-use Rattle.mr_tool.specs.Promises.{HoldsBytes, HoldsRecords, HoldsMap, HoldsProof, HoldsCut, HoldsMaps, HoldsPairs, HoldsHonestJoin, owner_of, HoldsBatch, HoldsScript, HoldsBundle, IsInOrder}
+use Rattle.mr_tool.specs.Asked.{HoldsBytes}
+use Rattle.mr_tool.specs.Promises.{HoldsRecords, HoldsMap, HoldsProof, HoldsCut, HoldsMaps, HoldsPairs, HoldsHonestJoin, owner_of, HoldsBatch, HoldsScript, HoldsBundle, IsInOrder}
 use Rattle.mr_plan.specs.Say.{given_map, needs, needs_map, lacks_proof_for, unless_lacking, say_written, say, say_root_of, say_build_of, say_list_of, say_upgrade_of, say_admitted, say_batch, say_change, say_apply, say_apply_of, say_proof_of, say_check, say_check_of, say_check_count, say_check_count_of, say_audit_count_of, say_script, say_serve, say_serve_of, given_queries, say_parts, say_parts_of, say_check_all, say_make_of, needs_maps, say_join_of, say_check_join, say_check_join_of, say_audit_join, say_audit_join_of, say_beside_maps}
 use Rattle.mr_plan.specs.Lines.{digest_line}
 use Rattle.mr_plan.specs.Words.{IsWord, words_of}

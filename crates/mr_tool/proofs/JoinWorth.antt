@@ -32,7 +32,7 @@ use Rattle.mr_plan.specs.Lines.{sound_line}
 use Rattle.mr_plan.specs.Say.{prints, say_audit_join_of, say_join_finding, say_join_of}
 use Rattle.mr_plan.specs.declared.status.Status.TheVariants.{Done}
 use Rattle.mr_command.proofs.Joined.{says_join_finding}
-use Rattle.mr_tool.specs.Promises.{owned_root}
+use Rattle.mr_tool.specs.Asked.{owned_root}
 
 -- the map of version 2 that its owner has
 abbrev pub owned_map : Owned → Opened

@@ -35,7 +35,8 @@ use Rattle.mr_command.specs.declared.ending.Ending.{Ending}
 use Rattle.mr_command.specs.declared.ending.Halt.{Halt}
 use Rattle.mr_command.proofs.Joined.{says_join_verdict}
 use Rattle.mr_command.proofs.Rereading.{loud_of}
-use Rattle.mr_tool.specs.Promises.{HoldsBytes, SaysJoinOrPair, JoinsHonest, PrintsPairs, IsJoinWorth, JoinsOrCollides, AuditsAcceptedJoin, JoinsCollideRightly, owned_root}
+use Rattle.mr_tool.specs.Asked.{HoldsBytes, owned_root}
+use Rattle.mr_tool.proofs.Statements.{SaysJoinOrPair, JoinsHonest, PrintsPairs, IsJoinWorth, JoinsOrCollides, AuditsAcceptedJoin, JoinsCollideRightly}
 use Rattle.mr_tool.proofs.JoinWorth.{accepted_join, honest_join, owned_map, said_by}
 use Rattle.mr_tool.proofs.Ended.{HasRun, IsRunOr, ends_on, map_on, not_collided, not_refused, not_stopped, other_status, ran, taken_on, told_ends, whole_of}
 

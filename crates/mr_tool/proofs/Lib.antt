@@ -9,3 +9,5 @@ pub mod Promises
 pub mod Counts
 pub mod Joins
 pub mod WholeRuns
+pub mod Statements
+pub mod Asked

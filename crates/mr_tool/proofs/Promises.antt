@@ -34,7 +34,9 @@ use Rattle.mr_command.specs.private.Steps.{PrintsEnding}
 use Rattle.mr_plan.specs.First.{pages_by}
 use Rattle.mr_plan.specs.Outcome.{Outcome}
 use Rattle.mr_plan.specs.Plan.{Plan, comes, LeadsToOutcome}
-use Rattle.mr_tool.specs.Promises.{HoldsBytes, CompletesWords, AnswersHonest, PrintsScan, IsWorth, AcceptsHonestOrCollides, AuditsAccepted, IsApplied, AppliesAlike, IsUpgraded, UpgradesAll, AppliesHere, IsAppliedHere, IsRecovered, RecoversHere}
+use Rattle.mr_tool.specs.Asked.{HoldsBytes}
+use Rattle.mr_tool.specs.Promises.{CompletesWords, IsApplied, AppliesAlike, IsUpgraded, UpgradesAll, AppliesHere, IsAppliedHere, IsRecovered, RecoversHere}
+use Rattle.mr_tool.proofs.Statements.{AnswersHonest, PrintsScan, IsWorth, AcceptsHonestOrCollides, AuditsAccepted}
 use Rattle.mr_plan.specs.Say.{say_apply_here, say_recover, prints, say, say_upgrade, say_upgrade_of, say_check, say_check_of}
 use Rattle.mr_plan.specs.Words.{SpellsCommand}
 use Rattle.mr_command.specs.declared.ending.Ending.{Ending}

@@ -27,6 +27,7 @@ use Rattle.mr_plan.specs.declared.words.Command.{Command}
 use Rattle.mr_plan.specs.declared.words.Command.TheVariants as commands
 use Rattle.mr_command.proofs.Counting.{few_none}
 use Rattle.mr_command.proofs.Rereading.{calm_of, loudly, carried_alike, comes_plain, loud_of}
+use Rattle.mr_tool.proofs.Asked.{asked_honest, asked_worth, asked_audited, asked_collides}
 use Rattle.mr_tool.proofs.Counts.{counted_honest, counted_worth, counted_audited, collided_rightly}
 use Rattle.mr_tool.proofs.Joins.{joined_honest, joined_worth, joined_audited, joined_collided}
 use Rattle.mr_tool.proofs.Promises.{completes, honest_answered, accepted_worth, accepted_audited, applied_alike, applied_here, recovered_here, upgraded_all}
@@ -84,17 +85,21 @@ module _ (hash : List ℕ → List ℕ) (words : List (List ℕ)) (before after 
         quiet = quiet carried;
         reads = reads carried;
         complete = completes hash words before after status came carried ended sized;
-        honest = honest_answered hash words before after status came carried ended sized;
-        worth = accepted_worth hash words before after status came carried ended sized;
-        audited = accepted_audited hash words before after status came carried ended sized;
-        collides = collided_rightly hash words before after status came carried ended sized;
-        count_honest = counted_honest hash words before after status came carried ended sized;
-        count_worth = counted_worth hash words before after status came carried ended sized;
-        count_audited = counted_audited hash words before after status came carried ended sized;
-        join_honest = joined_honest hash words before after status came carried ended sized;
-        join_worth = joined_worth hash words before after status came carried ended sized;
-        join_audited = joined_audited hash words before after status came carried ended sized;
-        join_collides = joined_collided hash words before after status came carried ended sized;
+        honest = asked_honest hash words before after status
+            (honest_answered hash words before after status came carried ended sized)
+            (counted_honest hash words before after status came carried ended sized)
+            (joined_honest hash words before after status came carried ended sized);
+        worth = asked_worth hash words before after status
+            (accepted_worth hash words before after status came carried ended sized)
+            (counted_worth hash words before after status came carried ended sized)
+            (joined_worth hash words before after status came carried ended sized);
+        audited = asked_audited hash words before after status
+            (accepted_audited hash words before after status came carried ended sized)
+            (counted_audited hash words before after status came carried ended sized)
+            (joined_audited hash words before after status came carried ended sized);
+        collides = asked_collides hash words before after status
+            (collided_rightly hash words before after status came carried ended sized)
+            (joined_collided hash words before after status came carried ended sized);
         alike = applied_alike hash words before after status came carried ended;
         upgrades = upgraded_all hash words before after status came carried ended;
         recovers = recovered_here hash words before after status came carried ended;
@@ -151,29 +156,28 @@ module _ (hash : List ℕ → List ℕ) (words : List (List ℕ)) (before after 
     quiet = λ command spelled. inr (quiet_words same ended.printed);
     reads = reads;
     complete = λ command spells order. absurd (none command spells);
-    honest = λ v t batch root q name bytes well layers low is_root spells held own. absurd
-        (none (commands.Check root q name) spells);
-    worth = λ v t batch root q name bytes well layers low is_root spells held done.
-        absurd (none (commands.Check root q name) spells);
-    audited = λ v t batch map q name held bytes answer spells map_held stands name_held proves.
-        absurd (none (commands.Audit map q name) spells);
-    collides = λ map q name spells is. elim spells [
-      | inl audit ↦ absurd (none (commands.Audit map q name) audit)
-      | inr count ↦ absurd (none (commands.AuditCount map q name) count)
-    ];
-    count_honest = λ t batch root w mask name bytes well low is_root spells held own.
-        absurd (none (commands.CheckCount root (asks (Window w) mask) name) spells);
-    count_worth = λ v t batch root w mask name bytes well layers low is_root spells held done.
-        absurd (none (commands.CheckCount root (asks (Window w) mask) name) spells);
-    count_audited = λ v t batch map w mask name held bytes said spells map_held stands name_held shows.
-        absurd (none (commands.AuditCount map (asks (Window w) mask) name) spells);
-    join_honest = λ m n first second name bytes own_m own_n is_first is_second spells held own.
-        absurd (none (commands.CheckJoin first second name) spells);
-    join_worth = λ m n first second name bytes own_m own_n is_first is_second spells held done.
-        absurd (none (commands.CheckJoin first second name) spells);
-    join_audited = λ m n first second name one other bytes pairs spells held_m stands_m held_n stands_n held given.
-        absurd (none (commands.AuditJoin first second name) spells);
-    join_collides = λ first second name spells is. absurd (none (commands.AuditJoin first second name) spells);
+    honest = asked_honest hash words before after status
+        (λ v t batch root q name bytes well layers low is_root spells held own. absurd
+        (none (commands.Check root q name) spells))
+        (λ t batch root w mask name bytes well low is_root spells held own. absurd
+        (none (commands.CheckCount root (asks (Window w) mask) name) spells))
+        (λ m n first second name bytes own_m own_n is_first is_second spells held own. absurd
+        (none (commands.CheckJoin first second name) spells));
+    worth = asked_worth hash words before after status
+        (λ v t batch root q name bytes well layers low is_root spells held done. absurd
+        (none (commands.Check root q name) spells))
+        (λ v t batch root w mask name bytes well layers low is_root spells held done. absurd
+        (none (commands.CheckCount root (asks (Window w) mask) name) spells))
+        (λ m n first second name bytes own_m own_n is_first is_second spells held done. absurd
+        (none (commands.CheckJoin first second name) spells));
+    audited = asked_audited hash words before after status
+        (λ v t batch map q name held bytes answer spells map_held stands name_held proves. absurd
+        (none (commands.Audit map q name) spells))
+        (λ v t batch map w mask name held bytes said spells map_held stands name_held shows. absurd
+        (none (commands.AuditCount map (asks (Window w) mask) name) spells))
+        (λ m n first second name one other bytes pairs spells held_m stands_m held_n stands_n held given. absurd
+        (none (commands.AuditJoin first second name) spells));
+    collides = λ command spells audit is. absurd (none command spells);
     alike = λ v t held old batch new bytes text b spells there stands beside right done.
         absurd (none (commands.Apply old batch new) spells);
     upgrades = λ v t batch old new bytes spells held stands done. absurd (none (commands.Upgrade old new) spells);

@@ -1,3 +1,4 @@
+pub mod Asked
 pub mod Layouts
 pub mod Promises
 pub mod Run

@@ -3,10 +3,9 @@
 ghost use Rattle.std.specs.Prelude.{◌≡◌, ℕ, List, length, Some, None, map};
 ghost use Rattle.std.specs.String.{string_bytes};
 ghost use Rattle.mr_outside.specs.Bytes.{AreBytes};
-ghost use Rattle.mr_command.specs.Answer.{NoCountFalls, world};
+ghost use Rattle.mr_command.specs.Answer.{world};
 ghost use Rattle.mr_command.specs.Ending.{RunsPlan, IsCarriedOut};
-ghost use Rattle.mr_tool.specs.Promises.{CompletesWords, AnswersHonest, AcceptsHonestOrCollides, AuditsAccepted, CollidesRightly, CountsHonest, CountsOrCollides, AuditsAcceptedCount, JoinsHonest, JoinsOrCollides, AuditsAcceptedJoin, JoinsCollideRightly, AppliesAlike, AppliesHere, RecoversHere, UpgradesAll};
-ghost use Rattle.mr_tool.specs.Run.{AnswersWords, BlamesRightly, IsRun, ReadsFewWords, StaysQuiet};
+ghost use Rattle.mr_tool.specs.Run.{IsRun};
 ghost use Rattle.mr_plan.specs.Say.{say_root, say_build, say_serve};
 ghost use Rattle.mr_plan.specs.Spelling.{IsSpelled};
 ghost use Rattle.mr_plan.specs.private.Asking.{MayBeAsked};
@@ -231,107 +230,12 @@ pub fn run<H: Hash32, S: Shelf, W: Sink, G: Gate, R: Threads + Sync>(
     out: &mut W,
     gate: &G,
 ) -> (Status, S)
-    // The run answers what is said of the files, or it stopped for want of memory or for something
-    // outside.
-    ensures answer { let before = world (S.state shelf) (W.state out.old) in
+    // What is promised of a run, as one record: its fields say each, with a comment.
+    ensures run { let before = world (S.state shelf) (W.state out.old) in
         let after = world (S.state result.1) (W.state out.new) in
-        AnswersWords H.of (map string_bytes words.now) before after result.0 }
-    // It blames something outside only where that failed, or where an input is told to be absent.
-    ensures outside { let before = world (S.state shelf) (W.state out.old) in
-        let after = world (S.state result.1) (W.state out.new) in
-        BlamesRightly H.of (map string_bytes words.now) before after result.0 }
-    ensures counts { let before = world (S.state shelf) (W.state out.old) in
-        let after = world (S.state result.1) (W.state out.new) in
-        NoCountFalls before after }
-    // Where it blames nothing outside and no want of memory, nothing outside failed. Of a map in
-    // its own file, whose journal may be absent, that is said where the files are told alone.
-    ensures quiet { let before = world (S.state shelf) (W.state out.old) in
-        let after = world (S.state result.1) (W.state out.new) in
-        StaysQuiet (map string_bytes words.now) before after result.0 }
-    // Where the files are told, no input that is read whole is read twice; of the commands that
-    // change a map in its own file nothing is said. A map that is read page by page takes its pages
-    // once. A large one takes the nodes besides that the proof opens, and for nearest records these
-    // twice. `apply`, where the batch may be applied, takes the pages once more for the copy, and
-    // what the changes read of the new file. Of a proof that `check` judges no piece is read behind
-    // the one that fixes a fault.
-    ensures reads { let before = world (S.state shelf) (W.state out.old) in
-        let after = world (S.state result.1) (W.state out.new) in
-        ReadsFewWords H.of (map string_bytes words.now) before after }
+        IsRun H.of (map string_bytes words.now) before after result.0 }
     // Words that spell no command leave the shelf alone.
     ensures unspoken { IsSpelled (map string_bytes words.now) None → result.1 ≡ shelf }
-    // Inputs that are in order are dealt with to the end. A map that is proved is in order where it
-    // is of version 2, or the queries name no mask; of a count or a join, where it is of version 2.
-    ensures complete { let before = world (S.state shelf) (W.state out.old) in
-        let after = world (S.state result.1) (W.state out.new) in
-        CompletesWords H.of (map string_bytes words.now) before after result.0 }
-    // The proof that an honest server gives is accepted, with the answer of a scan of the map, in
-    // lines of its version.
-    ensures honest { let before = world (S.state shelf) (W.state out.old) in
-        let after = world (S.state result.1) (W.state out.new) in
-        AnswersHonest H.of (map string_bytes words.now) before after result.0 }
-    // What is accepted is that proof, and the answer printed is that of a scan; or the hash
-    // function has a collision.
-    ensures worth { let before = world (S.state shelf) (W.state out.old) in
-        let after = world (S.state result.1) (W.state out.new) in
-        AcceptsHonestOrCollides H.of (map string_bytes words.now) before after result.0 }
-    // An audit of what is accepted says which of the two it is.
-    ensures audited { let before = world (S.state shelf) (W.state out.old) in
-        let after = world (S.state result.1) (W.state out.new) in
-        AuditsAccepted H.of (map string_bytes words.now) before after result.0 }
-    // Two strings that are shown as a collision are one.
-    ensures collides { let before = world (S.state shelf) (W.state out.old) in
-        let after = world (S.state result.1) (W.state out.new) in
-        CollidesRightly H.of (map string_bytes words.now) before after result.0 }
-    // The proof of a count that an honest server gives of a map of version 2 is accepted. The
-    // number is that of the records inside the window that are on one of the layers asked for.
-    ensures count_honest { let before = world (S.state shelf) (W.state out.old) in
-        let after = world (S.state result.1) (W.state out.new) in
-        CountsHonest H.of (map string_bytes words.now) before after result.0 }
-    // What is accepted as such a proof is that one, and the number printed is right; or the hash
-    // function has a collision.
-    ensures count_worth { let before = world (S.state shelf) (W.state out.old) in
-        let after = world (S.state result.1) (W.state out.new) in
-        CountsOrCollides H.of (map string_bytes words.now) before after result.0 }
-    // An audit of it says which of the two it is.
-    ensures count_audited { let before = world (S.state shelf) (W.state out.old) in
-        let after = world (S.state result.1) (W.state out.new) in
-        AuditsAcceptedCount H.of (map string_bytes words.now) before after result.0 }
-    // The proof of a join that an honest server gives of two maps of version 2 is accepted, with
-    // all pairs of their records that meet.
-    ensures join_honest { let before = world (S.state shelf) (W.state out.old) in
-        let after = world (S.state result.1) (W.state out.new) in
-        JoinsHonest H.of (map string_bytes words.now) before after result.0 }
-    // What is accepted as such a proof is that one, and the pairs printed are exactly those; or the
-    // hash function has a collision, in the first map or in the second.
-    ensures join_worth { let before = world (S.state shelf) (W.state out.old) in
-        let after = world (S.state result.1) (W.state out.new) in
-        JoinsOrCollides H.of (map string_bytes words.now) before after result.0 }
-    // An audit of it says which of the two it is.
-    ensures join_audited { let before = world (S.state shelf) (W.state out.old) in
-        let after = world (S.state result.1) (W.state out.new) in
-        AuditsAcceptedJoin H.of (map string_bytes words.now) before after result.0 }
-    // Two strings that this shows as a collision are one.
-    ensures join_collides { let before = world (S.state shelf) (W.state out.old) in
-        let after = world (S.state result.1) (W.state out.new) in
-        JoinsCollideRightly H.of (map string_bytes words.now) before after result.0 }
-    // What is made of a map by a batch goes by the map, of either version, and not by the layout of
-    // its file.
-    ensures alike { let before = world (S.state shelf) (W.state out.old) in
-        let after = world (S.state result.1) (W.state out.new) in
-        AppliesAlike H.of (map string_bytes words.now) before after result.0 }
-    // A map of either version is written anew in version 2, with its tree and its batch.
-    ensures upgrades { let before = world (S.state shelf) (W.state out.old) in
-        let after = world (S.state result.1) (W.state out.new) in
-        UpgradesAll H.of (map string_bytes words.now) before after result.0 }
-    // A map that a crash left beside its journal is recovered, and it is said whether there was
-    // anything to be done.
-    ensures recovers { let before = world (S.state shelf) (W.state out.old) in
-        let after = world (S.state result.1) (W.state out.new) in
-        RecoversHere (map string_bytes words.now) before after result.0 }
-    // A batch is applied to a map in its own file, which then stands for the map after it.
-    ensures applies_here { let before = world (S.state shelf) (W.state out.old) in
-        let after = world (S.state result.1) (W.state out.new) in
-        AppliesHere H.of (map string_bytes words.now) before after result.0 }
 {
     answered::<H, S, W, G, R>(rt, alloc, words, shelf, out, gate)
 }

@@ -10,33 +10,9 @@ returns-in-Ok-clause-given g c =
     let hash = g.H.Hashes.of in
     let before = world (g.S.Shelf.state c.args.shelf) (g.W.Sink.state c.args.out.now) in
     let after = world (g.S.Shelf.state c.run-status.result.1) (g.W.Sink.state c.run-status.new.out) in
-    let e = c.run-status.ensures in
-    let is : IsRun hash (map string_bytes c.deref.result.now) before after c.run-status.result.0 = record {
-      answer = e.answer;
-      outside = e.outside;
-      counts = e.counts;
-      quiet = e.quiet;
-      reads = e.reads;
-      complete = e.complete;
-      honest = e.honest;
-      worth = e.worth;
-      audited = e.audited;
-      collides = e.collides;
-      count_honest = e.count_honest;
-      count_worth = e.count_worth;
-      count_audited = e.count_audited;
-      join_honest = e.join_honest;
-      join_worth = e.join_worth;
-      join_audited = e.join_audited;
-      join_collides = e.join_collides;
-      alike = e.alike;
-      upgrades = e.upgrades;
-      recovers = e.recovers;
-      applies_here = e.applies_here;
-    } in
     subst (λ given. IfOk given (λ ws. EndsWith hash (map string_bytes ws.items) before after c.code.result))
     (sym c.in-Ok.is) (
       c.run-status.result.0,
       c.code.ensures,
-      subst (λ ws. IsRun hash (map string_bytes ws) before after c.run-status.result.0) c.deref.ensures.value is,
+      subst (λ ws. IsRun hash (map string_bytes ws) before after c.run-status.result.0) c.deref.ensures.value c.run-status.ensures.run,
     )
