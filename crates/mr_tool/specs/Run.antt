@@ -1,4 +1,4 @@
--- A run of the program on some words, as the clauses of `run` say it.
+-- A run of the program on some words, as `run` promises it.
 use Rattle.std.specs.Prelude.{◌≡◌, ◌⊎◌, ℕ, List, Option, Some, None}
 use Rattle.mr_outside.specs.Files.{Files}
 use Rattle.mr_command.specs.Answer.{World, ChangesInPlace, NoCountFalls, HasOutsideCause, IsAnswer, IsQuiet}

@@ -14,5 +14,6 @@ returns-in-Ok-clause-given g c =
     (sym c.in-Ok.is) (
       c.run-status.result.0,
       c.code.ensures,
-      subst (λ ws. IsRun hash (map string_bytes ws) before after c.run-status.result.0) c.deref.ensures.value c.run-status.ensures.run,
+      subst (λ ws. IsRun hash (map string_bytes ws) before after c.run-status.result.0) c.deref.ensures.value
+          c.run-status.ensures.run,
     )
