@@ -53,7 +53,7 @@ pub data Asked : Type 0 where
   number : Version → Tree → (batch : ℕ) → (window : Rectangle) → (mask : Option ℕ) → Asked
   pairs : Owned → Owned → Asked
 
--- the maps are such as there may be
+-- The maps are such as there may be. Of version 2 the layers are so in each well-formed tree.
 abbrev pub AreMaps : Asked → Type 0
 AreMaps (answer v t batch q) = WellFormed t × HasLayers v t × (batch < 2 ^ 64)
 AreMaps (number v t batch w mask) = WellFormed t × HasLayers v t × (batch < 2 ^ 64)
