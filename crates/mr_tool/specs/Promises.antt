@@ -235,8 +235,9 @@ DeliversOutcome said before after status = IsWhole said before after status
 -- ---- proofs
 
 -- A proof that an honest server gives is accepted, and what is printed is right: `check` prints what
--- a scan of the map's records gives, `check-count` their number inside the window, and `check-join`
--- all pairs of records that meet. So it is for all maps, and whatever is asked that has such a proof.
+-- a scan of the map's records gives, `check-count` how many of these lie inside the window and are
+-- on the layers asked for, and `check-join` all pairs of records that meet. So it is for all maps,
+-- and whatever is asked that has such a proof.
 abbrev pub AnswersHonest : (List ℕ → List ℕ) → List (List ℕ) → World → World → Status → Type 0
 AnswersHonest hash words before after status =
     (x : Asked) (proof : Bor (List ℕ)) (bytes : List ℕ)

@@ -47,6 +47,7 @@ pub record IsRun (hash : List ℕ → List ℕ) (words : List (List ℕ)) (befor
   pub answer : AnswersWords hash words before after status
   -- It blames something outside only where that failed, or where an input is told to be absent.
   pub outside : BlamesRightly hash words before after status
+  -- No count of faults or of reads falls.
   pub counts : NoCountFalls before after
   -- Where it blames nothing outside and no want of memory, nothing outside failed. Of a map in its
   -- own file, whose journal may be absent, that is said where the files are told alone.
@@ -62,7 +63,8 @@ pub record IsRun (hash : List ℕ → List ℕ) (words : List (List ℕ)) (befor
   -- of version 2, or the queries name no mask; of a count or a join, where it is of version 2.
   pub complete : CompletesWords hash words before after status
   -- The proof that an honest server gives is accepted, and what is printed is right: the answer of
-  -- a scan of the map, how many records lie inside a window, or all pairs of two maps.
+  -- a scan of the map, how many records lie inside a window and are on the layers asked for, or all
+  -- pairs of two maps.
   pub honest : AnswersHonest hash words before after status
   -- What is accepted is that proof, and what is printed is right; or the hash function has a
   -- collision.
