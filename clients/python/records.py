@@ -8,14 +8,17 @@ usage: records.py text FILE RECORDS [options]              the record text of a 
        records.py answer ROOT QUERY PROOF OUT [options]    checks a proof, and writes the answer as GeoJSON
        records.py answers ROOT SCRIPT BUNDLE OUT [options] the same of a bundle, where each part of it is accepted
        records.py features LINES OUT [options]             what `list`, `check`, `check-all` or `audit` printed, as GeoJSON
+       records.py find ROOT MAP OUT KEY .. [options]       the records of keys whose places are known, checked
+       records.py info FILE                                what a file is, or what lies at an address
        records.py COMMAND --help                           the options of a command
 
 A file is GeoJSON, a GeoJSON text sequence, CSV or a record text: by the end of its name, or as --form says. `-` is the
 standard input or output. Each feature becomes a record: a point, or the box round a line or an area. A point goes to
 the nearest map unit, and a box is rounded outwards. The number is the feature's id, or the property or column that
---number names; the payload is the text or number that --payload names, in UTF-8. Record texts that are read or written
-are of version 1; answers are of either version. Of `answer` PROOF may be a map file too, or the address of one: then
-the pages are read that the query opens, and make the proof.
+--number names; or it is made of a key, a text that --key names. The payload is the text or number that --payload names,
+in UTF-8. With --layer record texts and batches are of version 2, which has layers, and else of version 1; record texts
+of either are read. Of `answer` PROOF may be a map file too, or the address of one: then the pages are read that the
+query opens, and make the proof.
 
 What does not fit is told on standard error, and then the output is left as it was. Exit statuses: 0, 1 where words or a
 file do not fit, 2 where a proof is refused, 7 where a file cannot be read or written, 8 without memory. This script is
@@ -34,23 +37,27 @@ if __name__ == "__main__":
     signal.signal(signal.SIGINT, signal.SIG_DFL)
 
 import argparse
+import hashlib
 import json
+import os
 import re
-from contextlib import suppress
+from contextlib import ExitStack, contextmanager, suppress
 from decimal import Decimal
-from typing import Any, Dict, Iterable, Iterator, List, NamedTuple, NoReturn, Optional, Sequence, Tuple
+from typing import Any, Dict, Iterable, Iterator, List, NamedTuple, NoReturn, Optional, Sequence, Tuple, Union
 
 if __package__:
-    from . import mrtree_ask, outputs, sources
+    from . import kinds, mrtree_ask, outputs, shapes, sources
     from . import mrtree_check as client
     from .mrtree_check import Query, Record
     from .outputs import Unfit
     from .ranges import Limits
     from .sources import Grid, Options, State, clipped, number_of
 else:
+    import kinds
     import mrtree_ask
     import mrtree_check as client
     import outputs
+    import shapes
     import sources
     from mrtree_check import Query, Record
     from outputs import Unfit
@@ -61,12 +68,20 @@ SCRIPT = "records.py"
 MOST_EXACT = 2**53 - 1  # the greatest whole number that every reader of JSON keeps
 QUERIES = "queries"  # the property that tells which queries of a script a feature answers
 MOST_TOLD = 5  # features that are told by their number
+MOST_OF_LAYERS = 2**20  # bytes of a file of layers
+ROUNDED = "; it has one with another: it is of another state, or a program rounded its numbers (COORDINATE_PRECISION)"
 HELP = """--unit: a map unit in the file's unit, as 1e-7 of a degree, or 1 metre
 --number: the property or column of the number, for the feature's id or the column number
---payload: the property or column of the payload, which else is none
---layer: the property that gets the layer of a record, of a map of version 2
+--key: the property or column of the key, a text from whose SHA-256 the number is made
+--payload: the property or column of the payload, which else is the key, or none
+--layer: the layer of all records, from 0 to 63, or the property or column that has it; of an answer the one that gets it
+--layers: a file of the numbers that names of layers have: on each line a number, a space and a name
 --digest: the payload is the SHA-256 of the feature's canonical bytes, by RFC 8785
---shapes: of an answer made with --digest, the file that has the features
+--shapes: of a map made with --digest, the file that has the features, or its address if an index stands beside it
+--shapes-to: a file that is to have the features, with --digest; beside it stands an index, FILE.index
+--places-to: a file that is to tell where the record of each number is
+--places: where records are: a file that --places-to has written, or its address, or a record text
+--by-number: the words are numbers, and no keys
 --place: the columns x,y of a point, x0,y0,x1,y1 of a box, or that of well-known text; else x,y or WKT
 --delimiter: what stands between the fields of CSV, a comma or one character, or tab
 --form: how the input is written, where its name does not tell: geojson, geojsonseq, csv or text
@@ -77,16 +92,17 @@ HELP = """--unit: a map unit in the file's unit, as 1e-7 of a degree, or 1 metre
 # ---- what is made of records
 
 
-def text(packed: Iterable[bytes]) -> Iterator[str]:
-    """The lines of a record text."""
-    for record in sources.unpacked(packed):
-        yield record.line() + "\n"
+def text(packed: Iterable[bytes], version: int = 1) -> Iterator[str]:
+    """The lines of a record text of a version."""
+    for record in sources.unpacked(packed, version):
+        yield record.line(version) + "\n"
 
 
-def batch(number: int, old: List[bytes], new: List[bytes]) -> List[str]:
+def batch(number: int, old: List[bytes], new: List[bytes], version: int = 1) -> List[str]:
     """The lines of the batch of this number that leads from one state of a map to another. Raises Unfit.
 
-    What left or changed goes out in rising number, and then what came or changed comes in.
+    Both states are of this version. What left or changed goes out in rising number, and then what came or changed comes
+    in.
 
     >>> one, two, three = [client.record_bytes(Record(number, (0, 0, 0, 0), b"")) for number in (1, 2, 3)]
     >>> batch(5, [one, two], [client.record_bytes(Record(2, (0, 0, 0, 0), b"a")), three])
@@ -97,8 +113,20 @@ def batch(number: int, old: List[bytes], new: List[bytes]) -> List[str]:
     come = [one for one in new if one not in before]
     if len(gone) + len(come) > sources.MOST:
         raise Unfit("%d changes, and a batch has at most %d" % (len(gone) + len(come), sources.MOST))
-    lines = ["- %d\n" % record.number for record in sources.unpacked(gone)]
-    return ["batch %d\n" % number, *lines, *("+ " + line for line in text(come))]
+    lines = ["- %d\n" % record.number for record in sources.unpacked(gone, version)]
+    return ["batch %d\n" % number, *lines, *("+ " + line for line in text(come, version))]
+
+
+def alike(old: State, new: State) -> Tuple[State, State]:
+    """Two states in one version. Raises Unfit where the new one has no layers, and the old one has.
+
+    An old state of version 1 is that of a map which `upgrade` made, so with all records on layer 0.
+    """
+    if new.version < old.version and new.packed:
+        words = "%s: it has no layers, and %s has: --layer N puts all records on one, --layer PROPERTY each on its own"
+        raise Unfit(words % (new.reading.name, old.reading.name))
+    is_later = max(old.version, new.version) == 2
+    return (old.upgraded(), new.upgraded()) if is_later else (old, new)
 
 
 def query_word(words: Sequence[str], grid: Grid) -> str:
@@ -197,6 +225,17 @@ def collection(features: Iterable[str]) -> Iterator[str]:
 # ---- features by their digests
 
 
+def shapes_for(given: argparse.Namespace, records: Sequence[Record]) -> List[str]:
+    """The features of records, from the shapes that a command line names. Raises Unfit, OSError and what shapes do."""
+    if not shapes.has_index(given.shapes):
+        return shapes_of(given.shapes, given.form, options_of(given), records)
+    try:
+        found = shapes.open_shapes(given.shapes, limits_of(given)).fetch(records)
+    except ValueError as fault:
+        raise Unfit(str(fault)) from None
+    return [found[record.number].decode("utf-8") for record in records]
+
+
 def shapes_of(name: str, form: Optional[str], options: Options, records: Sequence[Record]) -> List[str]:
     """The features of a file whose digests are the payloads of these records, in their order. Raises Unfit, OSError."""
     wanted, found = {record.number: record.payload for record in records}, {}
@@ -205,20 +244,25 @@ def shapes_of(name: str, form: Optional[str], options: Options, records: Sequenc
     if form not in ("geojson", "geojsonseq"):
         raise Unfit("%s: --shapes takes GeoJSON" % name)
     try:
-        with open(name, "rb") as file:
-            all_ = sources.features_of(file) if form == "geojson" else sources.values_of(reading, file)
-            for one in sources.counted(all_, reading) if form == "geojson" else all_:
-                number = sources.number_of_feature(one, sources.properties_of(one), options.number)
-                if number in wanted and sources.digest_of(one) == wanted[number]:
-                    found[number] = sources.canonical(one)
+        with sources.opened(name) as file:
+            is_plain = form == "geojson"
+            all_ = sources.features_of(file, reading) if is_plain else sources.values_of(reading, file)
+            for one in sources.counted(all_, reading) if is_plain else all_:
+                number = sources.number_of_feature(one, sources.properties_of(one), reading)
+                if number in wanted:
+                    shape = sources.canonical_bytes(one, reading.raw())
+                    is_right = hashlib.sha256(shape).digest() == wanted[number]
+                    found.setdefault(number, None)
+                    found[number] = shape.decode("utf-8") if is_right else found[number]
     except RecursionError:
         raise Unfit(reading.where() + sources.DEEP) from None
     except Unfit as unfit:
         raise Unfit(reading.where() + str(unfit)) from None
-    missing = [record.number for record in records if record.number not in found]
+    missing = [record.number for record in records if found.get(record.number) is None]
     if missing:
-        raise Unfit("%s: it has no feature of the number %d with the digest of the answer" % (name, missing[0]))
-    return [found[record.number] for record in records]
+        words = "%s: it has no feature of the number %d with the digest of the answer" % (name, missing[0])
+        raise Unfit(words + ROUNDED * (missing[0] in found))
+    return [found[record.number] or "" for record in records]
 
 
 # ---- lines that were printed
@@ -237,7 +281,7 @@ def printed(file: Iterable[bytes]) -> Iterator[Tuple[Record, List[int]]]:
             return
         reading.at = 1 if first == b"sound\n" else 0
         rest = lines if reading.at else joined(first, lines)
-        for record in sources.from_lines(rest, reading, with_layers=True):
+        for record, _ in sources.from_lines(rest, reading):
             yield record, []
     except Unfit as unfit:
         raise Unfit("line %d: %s" % (reading.at, unfit)) from None
@@ -262,7 +306,7 @@ def verdicts(lines: List[bytes], reading: sources.Reading) -> Iterator[Tuple[int
             raise Unfit("not each part of the bundle was accepted, or lines are missing")
         number, size = number + 1, int(head[2])
         start = reading.at
-        records = list(sources.from_lines(lines[start : start + size], reading, with_layers=True))
+        records = [record for record, _ in sources.from_lines(lines[start : start + size], reading)]
         if int(head[1]) != number or len(records) != size:
             raise Unfit("the answer to query %d is not there whole" % number)
         yield number, records
@@ -306,7 +350,7 @@ def around(rects: List[client.Rect]) -> client.Rect:
 def tell_state(state: State) -> None:
     """Says on standard error what a file gave: how many records, how many without payload, and what was left out."""
     reading = state.reading
-    told = extent(sources.unpacked(state.packed), reading.options.grid) + ", %d without payload" % reading.bare
+    told = extent(state.records(), reading.options.grid) + ", %d without payload" % reading.bare
     if reading.skipped:
         told += "; left out, since without geometry: %d" % reading.skipped
     outputs.tell(SCRIPT, told)
@@ -321,8 +365,10 @@ def tell_state(state: State) -> None:
 
 def text_command(given: argparse.Namespace) -> None:
     """Writes the record text of a file."""
-    state = sources.read_state(given.FILE, given.form, options_of(given))
-    write(given.RECORDS, [given.FILE], text(state.packed))
+    with shelf_of(given) as shelf:
+        options = options_of(given)._replace(keep=shelf and shelf.keep)
+        state = sources.read_state(given.FILE, given.form, options)
+        write_state(given, given.RECORDS, text(state.packed, state.version), state, shelf)
     tell_state(state)
 
 
@@ -331,13 +377,50 @@ def batch_command(given: argparse.Namespace) -> None:
     number, options = number_of(given.N), options_of(given)
     if number == 0:
         raise Unfit("no map takes batch 0: a map that was just built is at batch 0, and takes batch 1")
-    old = sources.read_state(given.OLD, given.form, options)
-    new = sources.read_state(given.NEW, given.form, options)
-    lines = batch(number, old.packed, new.packed)
-    write(given.BATCH, [given.OLD, given.NEW], lines)
+    is_text = (given.form or sources.form_of(given.OLD)) == "text"
+    old = sources.read_state(given.OLD, given.form, options._replace(layer=None) if is_text else options)
+    with shelf_of(given) as shelf:
+        new = sources.read_state(given.NEW, given.form, options._replace(keep=shelf and shelf.keep))
+        old, new = alike(old, new)
+        lines = batch(number, old.packed, new.packed, new.version)
+        write_state(given, given.BATCH, lines, new, shelf)
     gone = sum(line[0] == "-" for line in lines)
     outputs.tell(SCRIPT, "records that go: %d, that come: %d, and then:" % (gone, len(lines) - 1 - gone))
     tell_state(new)
+
+
+@contextmanager
+def shelf_of(given: argparse.Namespace) -> Iterator[Optional[shapes.Shelf]]:
+    """Where shapes wait until they are written, where they are to be. Raises OSError."""
+    if not given.shapes_to:
+        yield None
+        return
+    try:
+        shelf = shapes.Shelf(os.path.dirname(os.path.realpath(given.shapes_to)))
+    except OSError as fault:
+        fault.filename = given.shapes_to
+        raise
+    with shelf.file:
+        yield shelf
+
+
+def write_state(
+    given: argparse.Namespace, name: str, lines: Iterable[str], state: State, shelf: Optional[shapes.Shelf]
+) -> None:
+    """Writes lines to a file of this name, and beside it the shapes and places of a state. Raises Unfit and OSError."""
+    names = [name] + ([given.shapes_to, shapes.index_name(given.shapes_to)] if shelf else [])
+    names += [given.places_to] if given.places_to else []
+    inputs = [vars(given)[one] for one in ("FILE", "OLD", "NEW", "layers") if vars(given).get(one)]
+    with ExitStack() as stack:
+        files = []
+        for at, one in enumerate(names):
+            files.append(stack.enter_context(outputs.written(one, [*inputs, *names[:at]])))
+        files[0].writelines(line.encode("utf-8") for line in lines)
+        if shelf:
+            shelf.write(files[1], files[2])
+        if given.places_to:
+            entries = [shapes.entry_of_place(record) for record in state.records()]
+            shapes.write_index(files[-1], shapes.PLACES, entries, 0)
 
 
 def query_command(given: argparse.Namespace) -> None:
@@ -353,7 +436,7 @@ def answer_command(given: argparse.Namespace) -> None:
     features = [feature(record, naming) for record in answer.records]
     if given.shapes:
         inputs.append(given.shapes)
-        features = shapes_of(given.shapes, given.form, options_of(given), answer.records)
+        features = shapes_for(given, answer.records)
     write(given.OUT, inputs, collection(features))
     told = extent(answer.records, naming.grid) + ", of a map of %d at batch %d" % (answer.count, answer.batch)
     outputs.tell(SCRIPT, told)
@@ -363,11 +446,15 @@ def proof_of(given: argparse.Namespace, query: Query) -> client.Pieces:
     """The proof in a file, or the one that the pages of a map give. Raises Unfit, Refused and Ended."""
     if not mrtree_ask.is_map(given.PROOF):
         return client.read_pieces(given.PROOF, given.most)
-    limits = Limits() if given.most is None else Limits(bytes=given.most)
     try:
-        return [mrtree_ask.open_map(given.ROOT, given.PROOF, limits).proof(query)]
+        return [mrtree_ask.open_map(given.ROOT, given.PROOF, limits_of(given)).proof(query)]
     except ValueError as fault:
         raise Unfit(str(fault)) from None
+
+
+def limits_of(given: argparse.Namespace) -> Limits:
+    """How much is asked of servers."""
+    return Limits() if given.most is None else Limits(bytes=given.most)
 
 
 def answers_command(given: argparse.Namespace) -> None:
@@ -393,6 +480,62 @@ def features_command(given: argparse.Namespace) -> None:
     except Unfit as unfit:
         raise Unfit("%s: %s" % (given.LINES, unfit)) from None
     write_several(given, records, [given.LINES])
+
+
+def find_command(given: argparse.Namespace) -> None:
+    """Writes the records of keys, as a map has them where they are to be. Raises as `answer_command`."""
+    numbers = {word: number_of(word) if given.by_number else sources.hashed(word)[0] for word in given.KEYS}
+    places, naming = places_for(given, numbers), naming_of(given)
+    found: List[Record] = []
+    missing: List[str] = []
+    root, _ = root_and_query(given.ROOT, "window:0,0,0,0")
+    if not mrtree_ask.is_map(given.MAP):
+        raise Unfit("%s is no map file: find asks a map file, or the address of one" % given.MAP)
+    try:
+        far = mrtree_ask.open_map(given.ROOT, given.MAP, limits_of(given))
+        for word, number in numbers.items():
+            query = Query(places[number], 0)
+            records = client.judge(root, query, [far.proof(query)]).records
+            own = [record for record in records if record.number == number]
+            found += own
+            missing += [] if own else [word]
+    except ValueError as fault:
+        raise Unfit(str(fault)) from None
+    told = shapes_for(given, found) if given.shapes else [feature(record, naming) for record in found]
+    write(given.OUT, [given.MAP, given.places, *filter(None, [given.shapes])], collection(told))
+    for word in missing[:MOST_TOLD]:
+        rect = " ".join(map(naming.grid.in_file, places[numbers[word]]))
+        outputs.tell(SCRIPT, "the map has no record of %s at %s, checked" % (clipped(word), rect))
+    outputs.tell(SCRIPT, "found: %d, not there: %d" % (len(found), len(missing)))
+
+
+def places_for(given: argparse.Namespace, numbers: Dict[str, int]) -> Dict[int, client.Rect]:
+    """Where the records of some numbers are to be, each named by a word. Raises Unfit where that is not known."""
+    wanted = set(numbers.values())
+    if not given.places:
+        raise Unfit("--places has to be given: a file that tells where records are")
+    if shapes.is_index(given.places):
+        try:
+            places = shapes.places_of(given.places, wanted, limits_of(given))
+        except ValueError as fault:
+            raise Unfit(str(fault)) from None
+    else:
+        reading = sources.Reading(given.places, Options(Grid(Decimal(1))))
+        try:
+            with sources.opened(given.places) as file:
+                lines = sources.from_lines(file, reading)
+                places = {record.number: record.rect for record, _ in lines if record.number in wanted}
+        except Unfit as unfit:
+            raise Unfit(reading.where() + str(unfit)) from None
+    for word, number in numbers.items():
+        if number not in places:
+            raise Unfit("%s tells no place of %s, so that it cannot be asked for" % (given.places, clipped(word)))
+    return places
+
+
+def info_command(given: argparse.Namespace) -> None:
+    """Prints what a file is."""
+    write("-", [], (line + "\n" for line in kinds.lines_of(given.FILE, limits_of(given))))
 
 
 def write_several(given: argparse.Namespace, records: List[Tuple[Record, List[int]]], inputs: List[str]) -> None:
@@ -424,7 +567,30 @@ def options_of(given: argparse.Namespace) -> Options:
     """How the files of a command line are read."""
     grid, place = given.unit or Grid(Decimal(1)), given.place
     names = given.number, given.payload, place, given.delimiter or ","
-    return Options(grid, *names, given.skip_empty, given.digest or bool(given.shapes))
+    options = Options(grid, *names, given.skip_empty, given.digest or bool(given.shapes), given.key)
+    return options._replace(layer=layer_of_all(given.layer), layers=layers_of(given))
+
+
+def layer_of_all(word: Optional[str]) -> Union[None, int, str]:
+    """The layer of all records that a word spells, or else the property that it names. Raises Unfit."""
+    if word is None or not re.fullmatch("[0-9]+", word):
+        return word
+    if len(word) > 2 or int(word) > client.MOST_LAYER:
+        raise Unfit("--layer is a number from 0 to %d, or names a property" % client.MOST_LAYER)
+    return int(word)
+
+
+def layers_of(given: argparse.Namespace) -> Optional[Dict[str, int]]:
+    """The numbers of layers in the file that --layers names. Raises Unfit and OSError."""
+    if not given.layers:
+        return None
+    if given.layer is None or given.layer.isdigit():
+        raise Unfit("--layers says the numbers of names, and --layer the property that has such a name")
+    with sources.opened(given.layers) as file:
+        try:
+            return sources.read_layers(file.read(MOST_OF_LAYERS))
+        except Unfit as unfit:
+            raise Unfit("%s: %s" % (given.layers, unfit)) from None
 
 
 def naming_of(given: argparse.Namespace) -> Naming:
@@ -484,14 +650,16 @@ class Parser(argparse.ArgumentParser):
         write("-", [], [self.format_help()])
 
 
-READS = "unit number payload digest place delimiter form skip-empty"  # the options of a command that reads files
+READS = "unit number key payload layer layers digest shapes-to places-to place delimiter form skip-empty"  # of files
 COMMANDS = {
     "text": (text_command, "FILE RECORDS", READS),
     "batch": (batch_command, "N OLD NEW BATCH", READS),
     "query": (query_command, "WORDS", "unit"),
-    "answer": (answer_command, "ROOT QUERY PROOF OUT", "unit number payload layer digest shapes form most"),
+    "answer": (answer_command, "ROOT QUERY PROOF OUT", "unit number key payload layer digest shapes form most"),
     "answers": (answers_command, "ROOT SCRIPT BUNDLE OUT", "unit number payload layer digest most"),
     "features": (features_command, "LINES OUT", "unit number payload layer digest"),
+    "find": (find_command, "ROOT MAP OUT KEYS", "unit number key payload layer digest shapes places by-number form most"),
+    "info": (info_command, "FILE", "most"),
 }
 ENDS = tuple(sources.FORMS)
 TYPES: Dict[str, Any] = {"--unit": unit_of, "--place": place_of, "--delimiter": delimiter_of, "--most": most_of}
@@ -505,9 +673,9 @@ def parser() -> Parser:
     for command, (_, names, options) in COMMANDS.items():
         one = commands.add_parser(command, prog="%s %s" % (SCRIPT, command), allow_abbrev=False)
         for name in names.split():
-            one.add_argument(name, nargs="+" if name == "WORDS" else None)
+            one.add_argument(name, nargs="+" if name in ("WORDS", "KEYS") else None)
         for option, told in (line.split(": ", 1) for line in HELP.split("\n")):
-            is_sign = option in ("--digest", "--skip-empty")
+            is_sign = option in ("--digest", "--skip-empty", "--by-number")
             if option[2:] not in options.split():
                 one.set_defaults(**{option[2:].replace("-", "_"): False if is_sign else None})
             elif is_sign:
@@ -525,13 +693,28 @@ def arguments(words: List[str]) -> argparse.Namespace:
     )
     if given.form not in (None, *sources.FORMS.values(), "text"):
         raise Unfit("--form is geojson, geojsonseq, csv or text, and not %s" % clipped(given.form))
+    if given.command == "info":
+        return given
+    if given.command in ("text", "batch"):
+        refuse_other_reads(given)
     if given.payload and (given.digest or given.shapes):
         raise Unfit("the payload is either what --payload names or, with --digest or --shapes, a digest")
     files = [vars(given)[name] for name in ("FILE", "OLD", "NEW") if name in given]
-    is_text = given.form == "text" or not (given.form or any(name.lower().endswith(ENDS) for name in files))
+    is_text = given.form == "text" or not (given.form or any(sources.plain_name(name).endswith(ENDS) for name in files))
     if given.unit is None and not (files and is_text):
         raise Unfit("--unit has to be given: how large a map unit is in the file's unit")
     return given
+
+
+def refuse_other_reads(given: argparse.Namespace) -> None:
+    """Raises Unfit where options do not go together by which files are read."""
+    if given.key and given.number:
+        raise Unfit("the number is either what --number names or, with --key, made of a key")
+    if given.shapes_to and not given.digest:
+        raise Unfit("--shapes-to writes the features of a map that has their digests: --digest")
+    for option, word in (("--shapes-to", given.shapes_to), ("--places-to", given.places_to)):
+        if word and (word == "-" or outputs.is_special(word)):
+            raise Unfit("%s names a file of its own" % option)
 
 
 def run(words: List[str]) -> None:

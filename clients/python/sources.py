@@ -1,19 +1,22 @@
 """Records from the files that publishers have: GeoJSON, GeoJSON text sequences, CSV and record texts.
 
-A file is read as it comes, and of its features no more is kept than their records. `Options` says how it is read. What
-does not fit raises Unfit, with its file and its feature or line. Tested, and not proved.
+A file is read as it comes, and of its features no more is kept than their records. One whose name ends with .gz is
+unpacked on the way. `Options` says how it is read. What does not fit raises Unfit, with its file and its feature or
+line. Tested, and not proved.
 """
 from __future__ import annotations
 
 import codecs
 import csv
+import gzip
 import hashlib
 import json
 import re
 import struct
+import zlib
 from decimal import MAX_EMAX, MIN_EMIN, ROUND_05UP, ROUND_CEILING, ROUND_FLOOR, ROUND_HALF_EVEN
 from decimal import Context, Decimal, Inexact, InvalidOperation
-from typing import IO, Any, Dict, Iterable, Iterator, List, NamedTuple, NoReturn, Optional, Sequence, Set, Tuple
+from typing import IO, Any, Callable, Dict, Iterable, Iterator, List, NamedTuple, NoReturn, Optional, Sequence, Tuple, Union
 
 if __package__:
     from .mrtree_check import MOST_LAYER, Record, Rect, read_decimal, record_bytes
@@ -39,6 +42,7 @@ FORMS = {
 UNREADABLE = (".shp", ".gpkg", ".kml", ".gml", ".fgb", ".zip", ".dbf", ".xlsx", ".parquet")
 # ROUND_05UP: what is rounded to 80 digits and then to a whole number is as if it were rounded once.
 EXACT = Context(prec=80, rounding=ROUND_05UP, Emin=MIN_EMIN, Emax=MAX_EMAX)
+MOST_UNIT = Decimal("1e30")  # the largest size of a map unit
 Box = Tuple[Decimal, Decimal, Decimal, Decimal]  # x0, y0, x1, y1 in the file's unit
 
 
@@ -67,7 +71,8 @@ class Grid:
                 return units
         ends = spelled(self.unit * -(2**31)), spelled(self.unit * (2**31 - 1))
         told = clipped(value), str(self.unit).lower(), *ends
-        raise Unfit("the coordinate %s is out of range: with --unit %s from %s to %s" % told)
+        words = "the coordinate %s is out of range: with --unit %s from %s to %s" % told
+        raise Unfit(words + larger_unit(value))
 
     def rect(self, box: Box) -> Rect:
         """A box in map units: a point at the nearest one, else the least rectangle that holds it. Raises Unfit.
@@ -95,6 +100,20 @@ class Grid:
         return spelled(EXACT.multiply(Decimal(units), self.unit))
 
 
+def larger_unit(value: Decimal) -> str:
+    """Which larger unit, a power of ten, would do for a coordinate, as the end of a message; nothing where none would.
+
+    >>> larger_unit(Decimal("5796287.22")), larger_unit(Decimal(523)), larger_unit(Decimal("1e999"))
+    ('; a larger unit, as 0.01, would do', '; a larger unit, as 1e-6, would do', '')
+    """
+    power = abs(value).adjusted() - 9
+    power += abs(value) > Decimal(2**31 - 2).scaleb(power) if power < 40 else 0
+    if Decimal(1).scaleb(min(power, 40)) > MOST_UNIT:
+        return ""
+    unit = Decimal(1).scaleb(power)
+    return "; a larger unit, as %s, would do" % (spelled(unit) if -4 < power < 9 else "1e%d" % power)
+
+
 class Options(NamedTuple):
     """How a file is read: its map units, and the names of what is taken from it."""
 
@@ -105,6 +124,10 @@ class Options(NamedTuple):
     delimiter: str = ","  # what stands between fields of CSV
     skips_empty: bool = False  # whether features without a position are left out
     is_digest: bool = False  # whether the payload is the digest of the feature's canonical bytes
+    key: Optional[str] = None  # the property or column of the key, a text whose SHA-256 gives the number
+    layer: Union[None, int, str] = None  # the layer of all records, or the property or column of it; else version 1
+    layers: Optional[Dict[str, int]] = None  # the layers by the texts of that property
+    keep: Optional[Callable[[Record, bytes], None]] = None  # takes each record with its feature's canonical bytes
 
 
 class Reading:
@@ -115,6 +138,9 @@ class Reading:
         self.part, self.at = "", 0  # what is being read: "line" or "feature", and the how many-th
         self.skipped = self.bare = 0  # features that are left out, and records without a payload
         self.has_payload = False  # whether some feature has the property of the payload
+        self.version = 1 if options.layer is None else 2  # of a record text that of its lines
+        self.key, self.mark = "", 0  # the last key, and the next bits of its SHA-256 behind the number
+        self.raw: Callable[[], str] = str  # gives the JSON text of the last feature, an empty one where it is not held
         self.cut: List[str] = []  # the features that are cut at the antimeridian, each by its line or number
 
     def where(self) -> str:
@@ -168,27 +194,97 @@ def number_of(value: Any) -> int:
         raise Unfit("the number %s is no whole number from 0 and below 2^64" % clipped(value)) from None
 
 
+def text_of(value: Any, what: str) -> str:
+    """A text as it is, a number in its canonical decimal, and none of null. Raises Unfit of anything else.
+
+    >>> text_of("Tor", "payload"), text_of(None, "payload"), text_of(Decimal("1.50"), "key"), text_of(True, "payload")
+    ('Tor', '', '1.5', 'true')
+    """
+    if type(value) is Decimal:
+        if not -200 < value.adjusted() < 200:
+            raise Unfit("the %s %s has more than 200 digits" % (what, clipped(value)))
+        return spelled(value)
+    if type(value) is bool:
+        return clipped(value)
+    if value is not None and type(value) is not str:
+        raise Unfit("the %s %s is neither a text nor a number" % (what, clipped(value)))
+    return value or ""
+
+
 def payload_of(value: Any) -> bytes:
     """The payload that a text is in UTF-8, or a number in its canonical decimal. Raises Unfit where it has no room.
 
     >>> payload_of("Tor"), payload_of(None), payload_of(Decimal("1.50")), payload_of(True)
     (b'Tor', b'', b'1.5', b'true')
     """
-    if type(value) is Decimal:
-        if not -200 < value.adjusted() < 200:
-            raise Unfit("the payload %s has more than 200 digits" % clipped(value))
-        value = spelled(value)
-    elif type(value) is bool:
-        value = clipped(value)
-    if value is not None and type(value) is not str:
-        raise Unfit("the payload %s is neither a text nor a number" % clipped(value))
     try:
-        payload = (value or "").encode("utf-8")
+        payload = text_of(value, "payload").encode("utf-8")
     except UnicodeEncodeError:
         raise Unfit("the payload is not UTF-8") from None
     if len(payload) > 200:
         raise Unfit("the payload has %d bytes, and 200 are the most" % len(payload))
     return payload
+
+
+def hashed(key: str) -> Tuple[int, int]:
+    """The number of a key, the first 8 bytes of the SHA-256 of its UTF-8; and its next 4 bytes. Raises Unfit.
+
+    >>> hashed("DEBE000000001ABC")[0], hashed("12/3")[0]
+    (4118383698152195645, 12140195663999862151)
+    """
+    try:
+        whole = hashlib.sha256(key.encode("utf-8")).digest()
+    except UnicodeEncodeError:
+        raise Unfit("the key is not UTF-8") from None
+    return int.from_bytes(whole[:8], "big"), int.from_bytes(whole[8:12], "big")
+
+
+def number_of_key(value: Any, reading: "Reading") -> int:
+    """The number of a key. Raises Unfit where there is none."""
+    reading.key = text_of(value, "key")
+    if not reading.key:
+        raise Unfit("the key is empty")
+    number, reading.mark = hashed(reading.key)
+    return number
+
+
+def layer_of(value: Any, options: Options) -> int:
+    """The layer that a value of its property says: its number, or the name of one. Raises Unfit."""
+    text = text_of(value, "layer")
+    if options.layers is not None:
+        if text not in options.layers:
+            raise Unfit("the layer %s is none of those that --layers names" % clipped(text))
+        return options.layers[text]
+    try:
+        return read_decimal(re.sub(r"\.0{1,20}\Z", "", text), 0, MOST_LAYER)
+    except ValueError:
+        words = "the layer %s is no whole number from 0 to %d: --layers FILE says the numbers of names"
+        raise Unfit(words % (clipped(text), MOST_LAYER)) from None
+
+
+def read_layers(text: bytes) -> Dict[str, int]:
+    """The layers that a text names: on each line a number from 0 to 63, a space and a name. Raises Unfit.
+
+    >>> read_layers(b"0 house\\n1 main road\\n0 garage\\n")
+    {'house': 0, 'main road': 1, 'garage': 0}
+    """
+    found: Dict[str, int] = {}
+    for at, line in enumerate(utf8(text, True).split("\n"), 1):
+        number, _, name = line.rstrip("\r").partition(" ")
+        if not number and not name:
+            continue
+        try:
+            layer = read_decimal(number, 0, MOST_LAYER)
+        except ValueError:
+            layer = -1
+        if layer < 0 or not name:
+            raise Unfit("line %d: it is no number from 0 to %d, a space and a name" % (at, MOST_LAYER))
+        if name in found:
+            raise Unfit("line %d: the name %s stands twice" % (at, clipped(name)))
+        found[name] = layer
+    if not found:
+        raise Unfit("it names no layers")
+    return found
 
 
 def decimal_of(field: str) -> Decimal:
@@ -258,6 +354,7 @@ class Text:
 
     def __init__(self, file: IO[bytes]) -> None:
         self.file, self.held, self.at, self.line, self.is_whole = file, "", 0, 1, False
+        self.began = 0  # the place of the last value
         self.decoder = codecs.getincrementaldecoder("utf-8-sig")()
 
     def more(self) -> None:
@@ -296,7 +393,7 @@ class Text:
             try:
                 value, end = scanned(self.held, self.at)
                 if end < len(self.held) or self.is_whole:
-                    self.at = end
+                    self.began, self.at = self.at, end
                     return value
             except Unfit as unfit:
                 self.fail(str(unfit), self.at)
@@ -304,6 +401,10 @@ class Text:
                 if self.is_whole:
                     self.fail(in_words(error), error.pos)
             self.more()
+
+    def last(self) -> str:
+        """The text of the last value, as long as nothing behind it was read."""
+        return self.held[self.began : self.at]
 
     def key(self) -> str:
         """Goes over the next key of an object. Raises Unfit."""
@@ -327,11 +428,12 @@ class Text:
                 return
 
 
-def features_of(file: IO[bytes]) -> Iterator[Any]:
+def features_of(file: IO[bytes], reading: "Reading") -> Iterator[Any]:
     """The features of a GeoJSON text: of a feature, or a collection of features. Raises Unfit.
 
     >>> import io
-    >>> list(features_of(io.BytesIO(b'{"type": "FeatureCollection", "features": [1, "a"]}')))
+    >>> text = io.BytesIO(b'{"type": "FeatureCollection", "features": [1, "a"]}')
+    >>> list(features_of(text, Reading("a.geojson", Options(Grid(Decimal(1))))))
     [Decimal('1'), 'a']
     """
     text, members, sign = Text(file), {}, ","
@@ -346,7 +448,9 @@ def features_of(file: IO[bytes]) -> Iterator[Any]:
             text.fail("the key %s stands twice" % clipped(key), text.at)
         text.take(":")
         if key == "features" and text.sign() == "[" and members.get("type") != "Feature":
+            reading.raw = text.last
             yield from text.items()
+            reading.raw = str
             members[key] = []
         else:
             members[key] = text.value()
@@ -388,6 +492,7 @@ def values_of(reading: Reading, file: IO[bytes]) -> Iterator[Any]:
                 raise Unfit(in_words(error)) from None
             if end < len(line):
                 raise Unfit("something stands behind its feature")
+            reading.raw = line.__str__
             yield value
 
 
@@ -473,29 +578,43 @@ def placed(rect: Optional[Rect], reading: Reading) -> bool:
 # ---- features
 
 
-def number_of_feature(feature: Dict[str, Any], properties: Dict[str, Any], name: Optional[str]) -> int:
-    """The number of a feature: its id, or the property of this name. Raises Unfit."""
+def number_of_feature(feature: Dict[str, Any], properties: Dict[str, Any], reading: Reading) -> int:
+    """The number of a feature: its id, or that of the property that is named, or of its key. Raises Unfit."""
+    name, key = reading.options.number, reading.options.key
+    if key is not None:
+        return number_of_key(needed(properties, key, "key"), reading)
     if name is None:
         if "id" not in feature:
-            raise Unfit("it has no id: --number PROPERTY names the property that has the number")
+            words = "it has no id: --number PROPERTY names the property that has the number"
+            raise Unfit(words + ", and --key PROPERTY one whose text is the key")
         return number_of(feature["id"])
+    return number_of(needed(properties, name, "number"))
+
+
+def needed(properties: Dict[str, Any], name: str, what: str) -> Any:
+    """The property of this name. Raises Unfit where there is none."""
     key = like(name, properties)
     if key is None:
-        raise Unfit("it has no property %s, which is to be its number" % clipped(name))
-    return number_of(properties[key])
+        raise Unfit("it has no property %s, which is to be its %s" % (clipped(name), what))
+    return properties[key]
 
 
-def payload_of_feature(feature: Dict[str, Any], properties: Dict[str, Any], reading: Reading) -> bytes:
-    """The payload of a feature: the property that is named, or the digest of its canonical bytes. Raises Unfit."""
-    if reading.options.is_digest:
-        return digest_of(feature)
+def payload_of_feature(properties: Dict[str, Any], reading: Reading) -> bytes:
+    """The payload of a feature: the property that is named, else the key, if it has one. Raises Unfit."""
     if reading.options.payload is None:
-        return b""
+        return payload_of(reading.key)
     key = like(reading.options.payload, properties)
     if key is None:
         return b""
     reading.has_payload = True
     return payload_of(properties[key])
+
+
+def layer_of_feature(properties: Dict[str, Any], options: Options) -> int:
+    """The layer of a feature: the one of all, or the property that is named. Raises Unfit."""
+    if type(options.layer) is str:
+        return layer_of(needed(properties, options.layer, "layer"), options)
+    return options.layer or 0  # type: ignore[return-value]
 
 
 def properties_of(feature: Any) -> Dict[str, Any]:
@@ -516,8 +635,20 @@ def from_features(features: Iterable[Any], reading: Reading) -> Iterator[Record]
         properties = properties_of(feature)
         rect = rect_of(feature.get("geometry"), reading)
         if rect is not None or placed(rect, reading):
-            number = number_of_feature(feature, properties, reading.options.number)
-            yield Record(number, rect, payload_of_feature(feature, properties, reading))  # type: ignore[arg-type]
+            yield record_of_feature(feature, properties, rect, reading)  # type: ignore[arg-type]
+
+
+def record_of_feature(feature: Dict[str, Any], properties: Dict[str, Any], rect: Rect, reading: Reading) -> Record:
+    """The record of a feature in this rectangle. Raises Unfit."""
+    options = reading.options
+    number, layer = number_of_feature(feature, properties, reading), layer_of_feature(properties, options)
+    if not options.is_digest:
+        return Record(number, rect, payload_of_feature(properties, reading), layer)
+    shape = canonical_bytes(feature, reading.raw())
+    record = Record(number, rect, hashlib.sha256(shape).digest(), layer)
+    if options.keep:
+        options.keep(record, shape)
+    return record
 
 
 def counted(features: Iterable[Any], reading: Reading) -> Iterator[Any]:
@@ -540,18 +671,20 @@ def number_in_javascript(value: Decimal) -> str:
     double = float(value) if value.adjusted() < 400 else float("inf")
     if double in (float("inf"), float("-inf")):
         raise Unfit("the number %s is too large for a digest" % clipped(value))
-    sign, digits_, exponent = Decimal(repr(double)).as_tuple()
+    shortest = repr(double)
+    if "e" not in shortest:
+        whole = shortest[:-2] if shortest.endswith(".0") else shortest
+        return "0" if whole == "-0" else whole
+    sign, digits_, exponent = Decimal(shortest).as_tuple()
     digits = "".join(map(str, digits_)).rstrip("0") or "0"
-    point = len(digits_) + int(exponent) if double else 1
+    point = len(digits_) + int(exponent)
     if len(digits) <= point <= 21:
         text = digits + "0" * (point - len(digits))
-    elif 0 < point <= 21:
-        text = digits[:point] + "." + digits[point:]
     elif -6 < point <= 0:
         text = "0." + "0" * -point + digits
     else:
         text = digits[0] + ("." + digits[1:] if digits[1:] else "") + "e%+d" % (point - 1)
-    return "-" + text if sign and double else text
+    return "-" + text if sign else text
 
 
 def canonical(value: Any) -> str:
@@ -570,10 +703,46 @@ def canonical(value: Any) -> str:
     return json.dumps(value, ensure_ascii=False)
 
 
-def digest_of(feature: Dict[str, Any]) -> bytes:
-    """The SHA-256 of the canonical bytes of a feature. Raises Unfit."""
+def short_whole(word: str) -> int:
+    """A whole number of so few digits that a double has each of them. Raises ValueError of a longer one."""
+    if len(word) > 15:
+        raise ValueError
+    return int(word)
+
+
+# Python's own reader and writer of JSON make the canonical text of most features, and much faster. Not so of a number
+# with an exponent or with nothing but a zero behind its point, nor of a long whole one; and where a text has letters
+# above U+FFFF, by which keys are in another order.
+FAST_READER = json.JSONDecoder(parse_int=short_whole)
+FAST_WRITER = json.JSONEncoder(
+    ensure_ascii=False, separators=(",", ":"), sort_keys=True, check_circular=False, allow_nan=False
+)
+OTHER_SIGNS = (".0,", ".0]", ".0}", "e-", "e+")  # one of them is in each text that has such a number
+OTHER_NUMBER = re.compile(r"[\[:,]-?(?:[0-9]+\.0[,\]}]|[0-9.]+e)")
+
+
+def fast_canonical(raw: str) -> str:
+    """The canonical text of a JSON text without doubled keys; an empty one where this way is not sure of it.
+
+    >>> fast_canonical('{"b": [1.50, 2], "a": null}'), fast_canonical('{"a": 1.0}'), fast_canonical('[1E5]')
+    ('{"a":null,"b":[1.5,2]}', '', '')
+    """
     try:
-        return hashlib.sha256(canonical(feature).encode("utf-8")).digest()
+        text = FAST_WRITER.encode(FAST_READER.raw_decode(raw)[0]) if raw else ""
+    except (ValueError, RecursionError):
+        return ""
+    if any(sign in text for sign in OTHER_SIGNS) and OTHER_NUMBER.search(text):
+        return ""
+    return text
+
+
+def canonical_bytes(feature: Dict[str, Any], raw: str = "") -> bytes:
+    """The canonical bytes of a feature, of which a JSON text may be at hand. Raises Unfit."""
+    text = fast_canonical(raw)
+    try:
+        if not text or not text.isascii() and len(text.encode("utf-16-le")) > 2 * len(text):
+            text = canonical(feature)
+        return text.encode("utf-8")
     except UnicodeEncodeError:
         raise Unfit("a text in it is not UTF-8") from None
 
@@ -751,15 +920,21 @@ def from_rows(rows: Iterator[List[str]], reading: Reading) -> Iterator[Record]:
     if not columns:
         reading.part = ""
         raise Unfit("there is no line with the names of the columns")
-    number_at = column(columns, options.number or "number", "--number")
+    key_at = column(columns, options.key, "--key") if options.key else None
+    number_at = column(columns, options.number or "number", "--number") if key_at is None else 0
+    layer_at = column(columns, options.layer, "--layer") if type(options.layer) is str else None
+    layer = options.layer if type(options.layer) is int else 0
     place_at = place_columns(columns, options.place)
-    payload_at = column(columns, options.payload, "--payload") if options.payload else None
+    payload_at = column(columns, options.payload, "--payload") if options.payload else key_at
     reading.has_payload = payload_at is not None
     for fields in full_rows(rows, columns):
         rect = rect_of_fields([fields[at] for at in place_at], reading)
         if rect is not None or placed(rect, reading):
+            has_key = key_at is not None
+            number = number_of_key(fields[key_at], reading) if has_key else number_of(fields[number_at].strip())
             payload = payload_of(fields[payload_at]) if payload_at is not None else b""
-            yield Record(number_of(fields[number_at].strip()), rect, payload)  # type: ignore[arg-type]
+            own_layer = layer if layer_at is None else layer_of(fields[layer_at].strip(), options)
+            yield Record(number, rect, payload, own_layer)  # type: ignore[arg-type]
 
 
 def from_csv(file: IO[bytes], reading: Reading) -> Iterator[Record]:
@@ -783,15 +958,15 @@ def from_csv(file: IO[bytes], reading: Reading) -> Iterator[Record]:
 # ---- record texts
 
 
-def record_of_line(line: str, with_layers: bool = False) -> Record:
-    """The record that a record line spells: of version 1, or with layers of version 2 too. Raises Unfit.
+def record_of_line(line: str) -> Tuple[Record, int]:
+    """The record that a record line spells, and the version of the line. Raises Unfit.
 
-    >>> record_of_line("7 1 2 3 4 6162"), record_of_line("7 1 2 3 4 5 -", True).layer
-    (Record(number=7, rect=(1, 2, 3, 4), payload=b'ab', layer=0), 5)
+    >>> record_of_line("7 1 2 3 4 6162"), record_of_line("7 1 2 3 4 5 -")[0].layer
+    ((Record(number=7, rect=(1, 2, 3, 4), payload=b'ab', layer=0), 1), 5)
     """
     fields = line.split(" ")
     try:
-        if len(fields) not in (6, 6 + with_layers) or not re.fullmatch("-|([0-9a-f]{2}){1,200}", fields[-1]):
+        if len(fields) not in (6, 7) or not re.fullmatch("-|([0-9a-f]{2}){1,200}", fields[-1]):
             raise ValueError
         layer = read_decimal(fields[5], 0, MOST_LAYER) if len(fields) == 7 else 0
         number = read_decimal(fields[0], 0, 2**64 - 1)
@@ -800,17 +975,31 @@ def record_of_line(line: str, with_layers: bool = False) -> Record:
             raise ValueError
     except ValueError:
         raise Unfit("it is no record line") from None
-    return Record(number, (x0, y0, x1, y1), bytes.fromhex(fields[-1].strip("-")), layer)
+    return Record(number, (x0, y0, x1, y1), bytes.fromhex(fields[-1].strip("-")), layer), len(fields) - 5
 
 
-def from_lines(file: Iterable[bytes], reading: Reading, with_layers: bool = False) -> Iterator[Record]:
-    """The records of record lines, in their order. Raises Unfit."""
+def from_lines(file: Iterable[bytes], reading: Reading) -> Iterator[Tuple[Record, int]]:
+    """The records of record lines, in their order, each with the version of its line. Raises Unfit."""
     reading.part = "line"
     for line in file:
         reading.at += 1
         if line[-1:] != b"\n":
             raise Unfit("it has no line feed")
-        yield record_of_line(utf8(line[:-1], reading.at == 1), with_layers)
+        yield record_of_line(utf8(line[:-1], reading.at == 1))
+
+
+def from_text(file: Iterable[bytes], reading: Reading) -> Iterator[Record]:
+    """The records of a record text, of either version; of version 1 on the layer of all, if there is one. Raises Unfit."""
+    layer, version = reading.options.layer, 0
+    for record, own in from_lines(file, reading):
+        if version and own != version:
+            raise Unfit("it is a record line of version %d, and those before it are of version %d" % (own, version))
+        if own == 2 and layer is not None:
+            raise Unfit("its line has a layer already, and --layer gives another")
+        if type(layer) is str:
+            raise Unfit("a record text has no property %s: --layer N puts all records on one layer" % clipped(layer))
+        version, reading.version = own, max(own, reading.version)
+        yield record if layer is None else record._replace(layer=layer)
 
 
 # ---- a state of a map
@@ -821,41 +1010,81 @@ class State(NamedTuple):
 
     packed: List[bytes]
     reading: Reading
+    version: int = 1
+
+    def records(self) -> Iterator[Record]:
+        """The records, in rising number."""
+        return unpacked(self.packed, self.version)
+
+    def upgraded(self) -> "State":
+        """The same in version 2: records of version 1 go to layer 0, as `upgrade` has it."""
+        if self.version == 2:
+            return self
+        return self._replace(packed=[one[:24] + b"\0" + one[24:] for one in self.packed], version=2)
 
 
 def form_of(name: str) -> str:
     """How a file of this name is written. Raises Unfit where it cannot be read."""
-    lower = name.lower()
+    lower = plain_name(name)
     if lower.endswith(UNREADABLE):
         raise Unfit("it is neither GeoJSON, CSV nor a record text; ogr2ogr makes such of it")
     return next((form for end, form in FORMS.items() if lower.endswith(end)), "text")
 
 
+def plain_name(name: str) -> str:
+    """A name in lower case, without .gz at its end.
+
+    >>> plain_name("A.GeoJSON.GZ")
+    'a.geojson'
+    """
+    lower = name.lower()
+    return lower[:-3] if lower.endswith(".gz") else lower
+
+
+def opened(name: str) -> IO[bytes]:
+    """A file to read, `-` for the standard input; one with .gz at its end is unpacked. Raises OSError."""
+    if name.lower().endswith(".gz"):
+        return gzip.open(name, "rb")  # type: ignore[return-value]
+    return open(0 if name == "-" else name, "rb", closefd=name != "-")
+
+
 def records_of(file: IO[bytes], form: str, reading: Reading) -> Iterator[Record]:
     """The records of a file that is written in this form. Raises Unfit."""
     if form == "geojson":
-        return from_features(counted(features_of(file), reading), reading)
+        return from_features(counted(features_of(file, reading), reading), reading)
     if form == "geojsonseq":
         return from_features(values_of(reading, file), reading)
     if reading.options.is_digest:
         raise Unfit("--digest is of features, so of GeoJSON")
-    return from_csv(file, reading) if form == "csv" else from_lines(file, reading)
+    return from_csv(file, reading) if form == "csv" else from_text(file, reading)
 
 
 def gathered(records: Iterable[Record], reading: Reading) -> List[bytes]:
     """The bytes of records, in rising number. Raises Unfit where a number stands twice, or they are too many."""
-    numbers: Set[int] = set()
+    places: Dict[int, int] = {}  # where each number stands, above 2^32 times the mark of its key
     packed: List[bytes] = []
     for record in records:
-        if record.number in numbers:
-            raise Unfit("the number %d stands twice" % record.number)
+        place = reading.at << 32 | reading.mark
+        first = places.setdefault(record.number, place)
+        if first != place:
+            raise Unfit(twice(record.number, first, reading))
         if len(packed) == MOST:
-            raise Unfit("a map has at most %d records" % MOST)
-        numbers.add(record.number)
-        packed.append(record_bytes(record))
+            raise Unfit("a map has at most %d records: docs/ATLAS.md says how to publish more" % MOST)
+        packed.append(record_bytes(record, reading.version))
         reading.bare += not record.payload
     packed.sort()
     return packed
+
+
+def twice(number: int, first: int, reading: Reading) -> str:
+    """What is wrong where a number stands twice: its key does, or two keys have one number."""
+    place = "%s %d" % (reading.part, first >> 32)
+    if not reading.key:
+        return "the number %d stands twice, first at %s" % (number, place)
+    if first & 2**32 - 1 == reading.mark:
+        return "the key %s stands twice, first at %s" % (clipped(reading.key), place)
+    words = "the key %s has the number %d, and another key has it too, at %s: give one of them another key"
+    return words % (clipped(reading.key), number, place)
 
 
 def read_state(name: str, form: Optional[str], options: Options) -> State:
@@ -863,21 +1092,23 @@ def read_state(name: str, form: Optional[str], options: Options) -> State:
     reading = Reading(name, options)
     try:
         form = form or form_of(name)
-        with open(0 if name == "-" else name, "rb", closefd=name != "-") as file:
+        with opened(name) as file:
             packed = gathered(records_of(file, form, reading), reading)
         if options.payload and form != "text" and packed and not reading.has_payload:
             reading.part = ""
             raise Unfit("no feature has the property %s, which is to be the payload" % clipped(options.payload))
     except RecursionError:
         raise Unfit(reading.where() + DEEP) from None
+    except (EOFError, zlib.error, gzip.BadGzipFile):
+        raise Unfit(reading.where() + "it cannot be unpacked: it was cut off, or is no gzip file") from None
     except Unfit as unfit:
         raise Unfit(reading.where() + str(unfit)) from None
-    return State(packed, reading)
+    return State(packed, reading, reading.version)
 
 
-def unpacked(packed: Iterable[bytes]) -> Iterator[Record]:
-    """The records that some bytes are."""
-    head = struct.Struct(">Q4iB")
+def unpacked(packed: Iterable[bytes], version: int = 1) -> Iterator[Record]:
+    """The records that some bytes of a version are."""
+    head = struct.Struct(">Q4iB" if version == 1 else ">Q4iBB")
     for one in packed:
-        number, x0, y0, x1, y1, _ = head.unpack_from(one)
-        yield Record(number, (x0, y0, x1, y1), one[25:])
+        number, x0, y0, x1, y1, layer, *_ = head.unpack_from(one)
+        yield Record(number, (x0, y0, x1, y1), one[head.size :], layer if version == 2 else 0)
