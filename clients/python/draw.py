@@ -297,6 +297,9 @@ def drawn_count(root: str, word: str, proof: client.Pieces) -> Tuple[str, int]:
 def run(words: List[str]) -> None:
     """Does what the words of a command line say. Raises what outputs.status_of tells."""
     most = None
+    if words[:1] and words[0] in ("-h", "--help", "--version"):
+        outputs.print_help(words[0], "draw.py", __doc__)
+        return
     try:
         if words[:1] == ["--most"]:
             most, words = client.read_most("".join(words[1:2])), words[2:]

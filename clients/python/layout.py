@@ -122,6 +122,9 @@ def main(words: Optional[List[str]] = None) -> int:
 
     def work() -> None:
         """Does what the words say."""
+        if given[:1] and given[0] in ("-h", "--help", "--version"):
+            outputs.print_help(given[0], SCRIPT, __doc__)
+            return
         if len(given) != 2 or "" in given or any(word.startswith("--") for word in given):
             raise Unfit("usage: layout.py OLD NEW")
         outputs.tell(SCRIPT, "%d pages" % lay_out(*given))

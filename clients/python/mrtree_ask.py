@@ -11,7 +11,7 @@ the query opens. The honest proof is made of them, and then it is checked by mrt
 --most BYTES        fetches at most so many bytes in all, else 1073741824
 --requests NUMBER   sends at most so many requests in all, else 10000
 --seconds NUMBER    takes at most so long for them, else 600
---help, -h          prints this, where it stands first
+--help, -h          prints this, where it stands first; --version the version
 
 Exit statuses are those of mrtree_check.py, and 10 where a map of version 2 is needed. docs/HOSTING.md has all texts.
 The script is tested, not proved.
@@ -32,6 +32,7 @@ if __name__ == "__main__":
     signal.signal(signal.SIGINT, signal.SIG_DFL)
 
 import os
+import re
 from contextlib import suppress
 from typing import Dict, List, NamedTuple, Tuple, Union
 
@@ -39,13 +40,13 @@ if __package__:
     from . import mrtree_check as client
     from . import outputs
     from .mrtree_check import Answer, Count, Ended, Join, Query, Refused
-    from .pagewise import FarMap, MapRefused, join_proof
+    from .pagewise import MEANINGS, FarMap, MapRefused, join_proof
     from .ranges import Failed, Limits, Meter, is_address, read_address, source_of, told
 else:
     import mrtree_check as client
     import outputs
     from mrtree_check import Answer, Count, Ended, Join, Query, Refused
-    from pagewise import FarMap, MapRefused, join_proof
+    from pagewise import MEANINGS, FarMap, MapRefused, join_proof
     from ranges import Failed, Limits, Meter, is_address, read_address, source_of, told
 
 __all__ = ["FarMap", "Failed", "Limits", "MapRefused", "Refused", "ask", "ask_count", "ask_join", "open_map"]
@@ -231,6 +232,8 @@ def run(words: List[str]) -> Tuple[int, str]:
     """
     if words[:1] in (["-h"], ["--help"]):
         return 0, (__doc__ or USAGE) + "\n" * (__doc__ is None)
+    if words[:1] == ["--version"]:
+        return 0, "%s %s\n" % (SCRIPT, client.__version__)
     try:
         asked = read_words(words)
     except ValueError:
@@ -248,13 +251,19 @@ def run(words: List[str]) -> Tuple[int, str]:
         return 8, ""
 
 
-def explain(words: List[str]) -> None:
-    """Says in a terminal, on standard error, why words spell no command."""
+def explain(words: List[str], status: int, text: str) -> None:
+    """Says on standard error why words spell no command, or what a status other than 0 mostly means."""
     try:
-        if sys.stderr and sys.stderr.isatty():
+        if status == 1:
             read_words(words)
+        page = re.search(r"map page [0-9]+ ([A-Za-z]+)", text) if status == 2 else None
+        why = MEANINGS.get(page[1], "") if page else client.meaning_of(text)
+        if status == 10:
+            why = "the map is of version 1, which has no layers, no counts and no joins"
     except ValueError as fault:
-        outputs.tell(SCRIPT, str(fault))
+        why = str(fault)
+    if why:
+        outputs.tell(SCRIPT, why)
 
 
 def main() -> int:
@@ -268,8 +277,8 @@ def main() -> int:
         left = memoryview(text.encode())
         while left:
             left = left[os.write(1, left) :]
-        if status == 1:
-            explain(words)
+        if status:
+            explain(words, status, text)
     except (UnicodeDecodeError, OSError):
         return 7
     except MemoryError:

@@ -5,10 +5,15 @@ usage: mrtree_check.py [--most BYTES] [check] ROOT QUERY PROOF
        mrtree_check.py [--most BYTES] check-count ROOT QUERY PROOF
        mrtree_check.py [--most BYTES] check-join ROOT ROOT2 PROOF
        mrtree_check.py [--most BYTES] check-all ROOT SCRIPT BUNDLE
+       mrtree_check.py --help | -h | --version
+
+ROOT is the root digest of a map, 64 hexadecimal digits; QUERY is window:x0,y0,x1,y1 or nearest:x,y,k, in map units; and
+PROOF is the file of a proof. Of many queries SCRIPT has one on each line, and BUNDLE a proof for each.
 
 Lines and exit statuses are those of the program's commands of these names, with three differences. A file may be a pipe
 too. The name `-` is the standard input. And of a proof or bundle no more is read than `--most` allows: a longer one
-ends with status 7. It is tested against the program, and not proved.
+ends with status 7. Where the status is not 0, a line on standard error says what that mostly means. The script is
+tested against the program, and not proved.
 
 As a module: `check(root, query, proof)` answers the records, the batch and the count of the map, or raises `Refused`;
 `check_count(root, query, proof)` answers how many records lie inside a window, by a count proof; and
@@ -59,6 +64,32 @@ MOST_RADIUS = 2 * (2**32 - 1) ** 2  # the greatest squared distance
 MOST_LINES = 65536  # of a script
 PIECE = 65536  # bytes that are read at once
 COMMAND = "mrtree_check.py [--most BYTES]"
+# What a run mostly means that did not end with 0, by how its line begins; of several the first one that fits.
+MEANINGS = {
+    "refused frame BadMagic": "the file is no proof of a join",
+    "refused frame BadFlag": "the file is no proof of a join",
+    "refused frame BadRect": "the file is no proof of a join",
+    "refused frame Short": "the proof was cut off, or is no proof of a join",
+    "refused frame": "the proof is of another second map",
+    "refused first WrongRoot": "the proof is of another first map, or of another state of it",
+    "refused second WrongRoot": "the proof is of another second map, or of another state of it",
+    "refused WrongRoot": "the proof is of another map, or of another state of it than ROOT is; or it was changed",
+    "refused WrongKind": "the proof is for another query, or of a count and not of an answer, or the other way round",
+    "refused Hidden": "the proof is for another query, or holds back a part of what was asked for",
+    "refused Needless": "the proof is for another query",
+    "refused WrongRadius": "the proof is for another query",
+    "refused BadMagic": "the file is no proof of an answer, nor of a count",
+    "refused BadVersion": "the proof is of an unknown version, or of version 1, which has none for layers and for counts",
+    "refused Short": "the proof was cut off",
+    "refused Trailing": "there is more in the file than a proof",
+    "refused": "what the server gave was not taken: it is not right and whole",
+    "missing query": "the bundle ends before it",
+    "bundle broken": "the bundle was cut off, or has more in it than a proof for each query",
+    "bad text": "that line of the script is no query, or has no line feed behind it",
+    "missing": "there is no such file, or no such folder on the way to it",
+    "shelf fault": "it is a folder or a device, or may not be read",
+    "longer than": "--most allows no more bytes",
+}
 
 
 class Record(NamedTuple):
@@ -149,6 +180,10 @@ class Refused(Exception):
         found = " found " + self.found.hex() if self.found else ""
         return "refused %s%s at %d%s" % (self.part and self.part + " ", self.rule, self.place, found)
 
+    def meaning(self) -> str:
+        """What it mostly is."""
+        return meaning_of(str(self))
+
 
 class Ended(Exception):
     """A run ends before it has an answer, with this exit status and this line."""
@@ -156,6 +191,22 @@ class Ended(Exception):
     def __init__(self, status: int, line: str) -> None:
         super().__init__(status, line)
         self.status, self.line = status, line
+
+
+def meaning_of(text: str) -> str:
+    """What a run mostly means that printed this text and did not end with 0; nothing where that is not known.
+
+    >>> meaning_of("refused Needless at 161"), meaning_of("query 1 ok 0\\nquery 2 refused Short at 9\\n")
+    ('the proof is for another query', 'query 2: the proof was cut off')
+    """
+    front = ""
+    for line in text.split("\n"):
+        part = re.match("(query [0-9]+) (refused .*|missing)", line)
+        if part or line.startswith("bundle broken"):
+            front, text = (part[1] + ": ", part[2]) if part else ("", line)
+            break
+    text = "missing query" if text == "missing" else text
+    return next((front + words for begins, words in MEANINGS.items() if text.startswith(begins)), "")
 
 
 def digest(preimage: bytes) -> bytes:
@@ -1080,6 +1131,10 @@ def run(words: List[str]) -> Tuple[int, str]:
     >>> run(["check", "00", "window:0,0,1,1", "proof"])
     (1, 'bad words\\n')
     """
+    if words[:1] in (["-h"], ["--help"]):
+        return 0, __doc__ or "usage: %s [check] ROOT QUERY PROOF\n" % COMMAND
+    if words[:1] == ["--version"]:
+        return 0, "mrtree_check.py %s\n" % __version__
     try:
         command, root, asked, name, most = read_words(words)
     except ValueError:
@@ -1093,25 +1148,31 @@ def run(words: List[str]) -> Tuple[int, str]:
         return 8, ""
 
 
-def explain(words: List[str]) -> None:
-    """Says in a terminal, on standard error, why words spell no command."""
+def explain(words: List[str], status: int, text: str) -> None:
+    """Says on standard error why words spell no command, or what a status other than 0 mostly means."""
     try:
-        if sys.stderr and sys.stderr.isatty():
+        why = meaning_of(text) if status != 1 else ""
+        if status == 1:
             read_words(words)
     except ValueError as fault:
-        print("mrtree_check.py: %s" % fault, file=sys.stderr)
+        why = str(fault)
+    try:
+        if why and sys.stderr:
+            print("mrtree_check.py: %s" % why, file=sys.stderr, flush=True)
+    except (OSError, ValueError):
+        pass
 
 
 def main() -> int:
-    """Runs the words of the command line, and prints to standard output alone; answers the exit status."""
+    """Runs the words of the command line; answers the exit status."""
     try:
         words = [os.fsencode(word).decode() for word in sys.argv[1:]]
         status, text = run(words)
         left = memoryview(text.encode())
         while left:
             left = left[os.write(1, left) :]
-        if status == 1:
-            explain(words)
+        if status:
+            explain(words, status, text)
     except (UnicodeDecodeError, OSError):
         return 7
     except MemoryError:

@@ -11,12 +11,12 @@ import contextlib
 import os
 import stat
 import sys
-from typing import IO, Callable, Iterator, Sequence
+from typing import IO, Callable, Iterator, Optional, Sequence
 
 if __package__:
-    from .mrtree_check import Ended, Refused
+    from .mrtree_check import Ended, Refused, __version__, meaning_of
 else:
-    from mrtree_check import Ended, Refused
+    from mrtree_check import Ended, Refused, __version__, meaning_of
 
 STOPPED, UNREAD = 130, 141  # the statuses of a run that is interrupted, and of one whose output nobody reads
 
@@ -89,6 +89,13 @@ def tell(script: str, words: str) -> None:
             print("%s: %s" % (script, words), file=sys.stderr, flush=True)
 
 
+def print_help(word: str, script: str, told: Optional[str]) -> None:
+    """Prints what a script says of itself, or for the word --version its version. Raises OSError."""
+    text = "%s %s\n" % (script, __version__) if word == "--version" else told or "usage: %s\n" % script
+    with written("-") as file:
+        file.write(text.encode("utf-8"))
+
+
 def status_of(script: str, work: Callable[[], None]) -> int:
     """Does the work of a script; answers its exit status, once what went wrong is told in a line."""
     try:
@@ -96,9 +103,13 @@ def status_of(script: str, work: Callable[[], None]) -> int:
         return 0
     except (Unfit, Refused) as fault:
         tell(script, str(fault))
+        if isinstance(fault, Refused):
+            tell(script, fault.meaning())
         return 2 if isinstance(fault, Refused) else 1
     except Ended as ended:
         tell(script, ended.line)
+        if type(ended) is Ended and ended.status == 2:
+            tell(script, meaning_of(ended.line))
         return ended.status
     except BrokenPipeError:
         return UNREAD

@@ -26,6 +26,16 @@ FIRST = 16384  # bytes that are fetched first: page 0 and the next one, in versi
 GAP = 2  # pages that nobody asked for, between two that are fetched at once
 MOST_RANGE = 2**20  # bytes of a range
 MOST_LEAVES = 20000  # that are kept from one query to the next
+MEANINGS = {  # what it mostly is that a map's file is refused, by the rule
+    "Size": "the file ends before its first page does, or later than that says: it is no map file, or was cut off",
+    "Unsealed": "the file is no map file, or was not written to its end",
+    "Header": "the file is no map file of a version that is known here",
+    "WrongRoot": "the file is of another map than the one with this root digest, or of another state of it",
+    "Outside": "the file has no such page: it was cut off, or changed",
+    "Page": "the page has no such node: the file was changed",
+    "Digest": "the page has another node than the one that belongs there: the file was changed",
+    "Twice": "a node stands at two places: the root digest is of no map",
+}
 
 
 class MapRefused(Refused):
@@ -34,6 +44,10 @@ class MapRefused(Refused):
     def __str__(self) -> str:
         found = " found " + self.found.hex() if self.found else ""
         return "refused %smap page %d %s%s" % (self.part and self.part + " ", self.place, self.rule, found)
+
+    def meaning(self) -> str:
+        """What it mostly is."""
+        return MEANINGS[self.rule]
 
 
 class Child(NamedTuple):

@@ -661,6 +661,24 @@ COMMANDS = {
     "find": (find_command, "ROOT MAP OUT KEYS", "unit number key payload layer digest shapes places by-number form most"),
     "info": (info_command, "FILE", "most"),
 }
+WORDS = {  # what the words of commands are
+    "FILE": "the file: GeoJSON, a feature on each line, CSV or a record text; of info any file, or an address",
+    "RECORDS": "the record text that is written",
+    "N": "the number of the batch: one more than that of the map",
+    "OLD": "the file of the state that the map is in",
+    "NEW": "the file of the state that it is to come to",
+    "BATCH": "the batch text that is written",
+    "WORDS": "window X0 Y0 X1 Y1, or nearest X Y K, in the file's unit",
+    "ROOT": "the root digest of the map: 64 hexadecimal digits, from somebody you trust",
+    "QUERY": "a query word in map units, as `query` prints it",
+    "PROOF": "the file of a proof, or a map file, or the address of one",
+    "SCRIPT": "the file of a script: a query word on each line",
+    "BUNDLE": "the file of the proofs for a script",
+    "LINES": "a file of what was printed",
+    "MAP": "a map file, or its address",
+    "OUT": "the file that is written",
+    "KEYS": "keys, or with --by-number record numbers",
+}
 ENDS = tuple(sources.FORMS)
 TYPES: Dict[str, Any] = {"--unit": unit_of, "--place": place_of, "--delimiter": delimiter_of, "--most": most_of}
 
@@ -669,11 +687,12 @@ def parser() -> Parser:
     """The parser of all command lines."""
     raw = argparse.RawDescriptionHelpFormatter
     whole = Parser(prog=SCRIPT, description=__doc__, usage=argparse.SUPPRESS, formatter_class=raw)
+    whole.add_argument("--version", action="version", version="%s %s" % (SCRIPT, client.__version__))
     commands = whole.add_subparsers(dest="command", required=True, help=argparse.SUPPRESS)
     for command, (_, names, options) in COMMANDS.items():
         one = commands.add_parser(command, prog="%s %s" % (SCRIPT, command), allow_abbrev=False)
         for name in names.split():
-            one.add_argument(name, nargs="+" if name in ("WORDS", "KEYS") else None)
+            one.add_argument(name, nargs="+" if name in ("WORDS", "KEYS") else None, help=WORDS[name])
         for option, told in (line.split(": ", 1) for line in HELP.split("\n")):
             is_sign = option in ("--digest", "--skip-empty", "--by-number")
             if option[2:] not in options.split():

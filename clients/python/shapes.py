@@ -31,6 +31,16 @@ MOST = 2**26  # entries
 FIRST = 16384  # bytes of an index that are fetched first
 GAP = 16384  # bytes that nobody asked for, between two that are fetched at once
 MOST_RANGE = 2**22  # bytes of a range
+MEANINGS = {  # what it mostly is that a shape or an index is refused, by the rule
+    "Head": "the file is no index of this kind, or of a version that is not known here",
+    "Order": "the index was changed, or is none",
+    "Payload": "the payload of the record is no digest: the map was not made with --digest",
+    "Missing": "the index does not have the record: it is of another map, or of another state of it",
+    "Outside": "the index names a place behind the end of the shapes",
+    "Place": "the sides of the place are out of order",
+    "Digest": "the feature is another than the map's: it is of another state, or a program rounded its numbers",
+    "Short": "the file was cut off, or is of another state than the index",
+}
 END = ".index"  # what stands behind the name of the shapes in that of their index
 
 
@@ -49,6 +59,10 @@ class ShapeRefused(Refused):
         if self.number is None:
             return "refused index %s" % self.rule
         return "refused shape %d %s" % (self.number, self.rule)
+
+    def meaning(self) -> str:
+        """What it mostly is."""
+        return MEANINGS[self.rule]
 
     def __reduce__(self) -> Tuple[type, Tuple[Optional[int], str]]:
         return type(self), (self.number, self.rule)

@@ -1106,6 +1106,9 @@ async function runAsk(words) {
     if (["-h", "--help"].includes(words[0])) {
         return [0, HELP];
     }
+    if (words[0] === "--version") {
+        return [0, [`mrtree_ask.js ${client.VERSION}`]];
+    }
     try {
         const given = readAsked(words);
         const [proof, lines] = await answerOf(given);
@@ -1123,13 +1126,13 @@ async function runAsk(words) {
         if (error.line === undefined) {
             throw error;
         }
-        return [error.status, [error.line]];
+        return [error.status, [error.line], error.means];
     }
 }
 
 /**
- * Runs the words of the command line: what failed goes to standard error, all else is printed. In a
- * terminal it says there too why words spell no command.
+ * Runs the words of the command line: what failed goes to standard error, all else is printed. There
+ * it is said too why words spell no command, and what a refusal mostly means.
  */
 async function mainAsk() {
     const [status, lines, why] = await runAsk(process.argv.slice(2));
@@ -1140,9 +1143,7 @@ async function mainAsk() {
     }
     process.stdout.on("error", () => {}); // printLines tells of it
     process.exitCode = (await client.printLines(lines)) ? status : 7;
-    if (status === 1 && process.stderr.isTTY) {
-        process.stderr.write(`mrtree_ask.js: ${why}\n`);
-    }
+    client.explain("mrtree_ask.js", status, lines, why);
 }
 
 if (typeof module === "object") {

@@ -39,6 +39,62 @@ const PAIRS = Array.from({ length: 256 }, (_, byte) => byte.toString(16).padStar
 const LEAF = { tag: LETTER_L, most: 16, longest: 2 + 16 * 226 };
 const INNER = { tag: LETTER_N, most: 64, longest: 3 + 64 * 64 };
 
+/** What it mostly means that a proof is refused, by its rule. */
+const MEANS = {
+    WrongRoot: "The proof is of another map, or of another state of it; or it was changed.",
+    BadMagic: "This file is no proof of an answer, nor of a count.",
+    BadVersion: "This file is no proof of a version that is known here; or the query names " +
+        "layers, or is for a count, and the proof is of a map that has no layers.",
+    Short: "The proof was cut off.",
+    Trailing: "There is more in the file than a proof.",
+    Hidden: "The proof is for another query, or holds back a part of what was asked for.",
+    Needless: "The proof is for another query.",
+    WrongKind: "The proof is for another kind of query, or shows a count and not records, or " +
+        "the other way round.",
+    WrongRadius: "The proof is for another query.",
+};
+/** The same of a join, whose faults are in its frame or in one of its two parts. */
+const MEANS_OF_JOIN = {
+    WrongRoot: "This part is of another map than that with the root digest, or of another state " +
+        "of it; or it was changed. Or the two root digests stand in the other order.",
+    BadMagic: "This file, or this part of it, is no proof of a join.",
+    BadVersion: "This part is of no version that is known here, or of a map of version 1, which " +
+        "has no joins.",
+    Short: MEANS.Short,
+    Trailing: MEANS.Trailing,
+    Hidden: "This part holds back what may meet a record of the other map; or the other part is " +
+        "of another join.",
+    Needless: "This part opens what meets no record of the other map; or the other part is of " +
+        "another join.",
+    WrongKind: "This part shows an answer or a count, and is no part of a join.",
+    WrongFlag: "The proof says that the second map has no records, and it has some.",
+    WrongRect: "The proof names another rectangle than that of the second map.",
+};
+/** What other lines mostly mean with which a command ends, by how they begin. */
+const LINES_MEAN = [
+    ["missing", "There is no such file, or no such folder on the way to it."],
+    ["shelf fault", "It is a folder or a device, or may not be read."],
+    ["bad text", "That line of the script is no query, or has no line feed behind it."],
+    ["bundle broken", "The bundle was cut off, or has more in it than a proof for each query."],
+    ["needs version 2", "The map is of version 1, which has no layers, no counts and no joins."],
+];
+const VERSION = "1.3.0";
+const HELP_OF_CHECK = [
+    "The client, in JavaScript: says whether an answer is that of the map with a root digest.",
+    "",
+    "usage: node mrtree_check.js [check] ROOT QUERY PROOF",
+    "       node mrtree_check.js check-count ROOT QUERY PROOF",
+    "       node mrtree_check.js check-join ROOT ROOT2 PROOF",
+    "       node mrtree_check.js check-all ROOT SCRIPT BUNDLE",
+    "       node mrtree_check.js --help | -h | --version",
+    "",
+    "ROOT is the root digest of a map, 64 hexadecimal digits; QUERY is window:x0,y0,x1,y1 or",
+    "nearest:x,y,k, in map units; and PROOF is the file of a proof. Of many queries SCRIPT has one",
+    "on each line, and BUNDLE a proof for each. `-` is the standard input. Exit statuses: 0",
+    "accepted, 1 the words spell no command, 2 refused, 3 a line of the script is no query, 7 a",
+    "file cannot be read, 8 without memory. It is tested, and not proved.",
+];
+
 /** Web Crypto's hashes; undefined where the browser gives none, as to a page that came by http. */
 const subtle =
     globalThis.crypto?.subtle ??
@@ -1364,6 +1420,47 @@ async function run(words, read = readPieces) {
     }
 }
 
+/** What the lines of a run mostly mean that did not end with 0; nothing where that is not known. */
+function refusalMeans(lines) {
+    const isFault = /^query [0-9]+ (refused|missing)|^bundle broken/;
+    const line = lines.find((one) => isFault.test(one)) ?? lines[0] ?? "";
+    const [, front = "", rest] = /^(query [0-9]+ )?(.*)$/.exec(line);
+    if (front !== "" && rest === "missing") {
+        return `${front.trim()}: The bundle ends before it.`;
+    }
+    const [, part, rule] = /^refused (frame |first |second )?([A-Za-z]+) at /.exec(rest) ?? [];
+    const other = "What the server gave was not taken: it is not right and whole.";
+    const known = (part === undefined ? MEANS : MEANS_OF_JOIN)[rule] ?? other;
+    const means = rule !== undefined ? known
+        : (LINES_MEAN.find(([begins]) => rest.startsWith(begins)) ?? ["", ""])[1];
+    return means === "" || front === "" ? means : `${front.trim()}: ${means}`;
+}
+
+/** Why words spell no command. */
+function whyBadWords(words) {
+    const [command, root, asked] = words.length === 4 ? words : ["check", ...words];
+    if (![3, 4].includes(words.length) || words.includes("") ||
+        !(COMMANDS.has(command) || command === "check-all")) {
+        return "usage: node mrtree_check.js [check | check-count] ROOT QUERY PROOF, or: " +
+            "check-join ROOT ROOT2 PROOF, or: check-all ROOT SCRIPT BUNDLE";
+    }
+    const isNoRoot = readRoot(root) === null || command === "check-join" && readRoot(asked) === null;
+    return isNoRoot ? "the root digest is not 64 lower-case hexadecimal digits"
+        : command === "check-all" ? "the script and the bundle have one name"
+        : readQuery(asked) !== null ? "a count is of the records inside a window, and this query " +
+            "is for nearest records"
+        : "the query is no window:x0,y0,x1,y1 and no nearest:x,y,k, in whole map units, with x0 " +
+            "at most x1, y0 at most y1, k from 1 to 1024, and behind it / and a mask or nothing";
+}
+
+/** Says in a line on standard error what the lines of a run mostly mean; nothing of status 0. */
+function explain(script, status, lines, why = refusalMeans(lines)) {
+    if (status !== 0 && why !== "") {
+        process.stderr.on("error", () => {}); // whether anybody reads it changes no status
+        process.stderr.write(`${script}: ${why}\n`);
+    }
+}
+
 /** Prints lines; answers whether all went out. */
 async function printLines(lines) {
     for (let at = 0; at < lines.length; at += 1000) {
@@ -1376,11 +1473,16 @@ async function printLines(lines) {
     return true;
 }
 
-/** Runs the words of the command line, and prints to standard output alone. */
+/** Runs the words of the command line; what they mean is said on standard error. */
 async function main() {
-    const [status, lines] = await run(process.argv.slice(2));
+    const words = process.argv.slice(2);
+    const first = { "-h": HELP_OF_CHECK, "--help": HELP_OF_CHECK };
+    first["--version"] = [`mrtree_check.js ${VERSION}`];
+    const isOwn = Object.hasOwn(first, words[0] ?? "");
+    const [status, lines] = isOwn ? [0, first[words[0]]] : await run(words);
     process.stdout.on("error", () => {}); // printLines tells of it
     process.exitCode = (await printLines(lines)) ? status : 7;
+    explain("mrtree_check.js", status, lines, status === 1 ? whyBadWords(words) : undefined);
 }
 
 if (typeof module === "object") {
@@ -1391,7 +1493,7 @@ if (typeof module === "object") {
     const shown = { recordsOf, recordAt, lineOf, linesOf, hexOf, boundsOf };
     const geometry = { rectAt, isInOrder, meet, within, distance, Meets };
     const limits = { ALL_LAYERS, MOST_RECORDS, MOST_LEVEL, MOST_LAYER };
-    const rest = { digestOf, printLines, run };
+    const rest = { digestOf, printLines, run, explain, refusalMeans, VERSION };
     module.exports = {
         ...{ ...words, ...judges, ...judging, ...verdicts },
         ...{ ...shown, ...geometry, ...limits, ...rest },
