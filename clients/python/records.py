@@ -411,10 +411,14 @@ def write_state(
     names = [name] + ([given.shapes_to, shapes.index_name(given.shapes_to)] if shelf else [])
     names += [given.places_to] if given.places_to else []
     inputs = [vars(given)[one] for one in ("FILE", "OLD", "NEW", "layers") if vars(given).get(one)]
+    for at, one in enumerate(names):
+        with suppress(ValueError):
+            if os.path.realpath(one) in map(os.path.realpath, names[:at]):
+                raise Unfit("%s names two outputs: give each a name of its own" % one)
     with ExitStack() as stack:
         files = []
-        for at, one in enumerate(names):
-            files.append(stack.enter_context(outputs.written(one, [*inputs, *names[:at]])))
+        for one in names:
+            files.append(stack.enter_context(outputs.written(one, inputs)))
         files[0].writelines(line.encode("utf-8") for line in lines)
         if shelf:
             shelf.write(files[1], files[2])

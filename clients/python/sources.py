@@ -42,7 +42,7 @@ FORMS = {
 UNREADABLE = (".shp", ".gpkg", ".kml", ".gml", ".fgb", ".zip", ".dbf", ".xlsx", ".parquet")
 # ROUND_05UP: what is rounded to 80 digits and then to a whole number is as if it were rounded once.
 EXACT = Context(prec=80, rounding=ROUND_05UP, Emin=MIN_EMIN, Emax=MAX_EMAX)
-MOST_UNIT = Decimal("1e30")  # the largest size of a map unit
+MOST_POWER = 30  # of ten, in the size of a map unit
 Box = Tuple[Decimal, Decimal, Decimal, Decimal]  # x0, y0, x1, y1 in the file's unit
 
 
@@ -106,9 +106,11 @@ def larger_unit(value: Decimal) -> str:
     >>> larger_unit(Decimal("5796287.22")), larger_unit(Decimal(523)), larger_unit(Decimal("1e999"))
     ('; a larger unit, as 0.01, would do', '; a larger unit, as 1e-6, would do', '')
     """
-    power = abs(value).adjusted() - 9
-    power += abs(value) > Decimal(2**31 - 2).scaleb(power) if power < 40 else 0
-    if Decimal(1).scaleb(min(power, 40)) > MOST_UNIT:
+    power = value.adjusted() - 9
+    if power > MOST_POWER:
+        return ""
+    power += value.copy_abs() > Decimal(2**31 - 2).scaleb(power)
+    if power > MOST_POWER:
         return ""
     unit = Decimal(1).scaleb(power)
     return "; a larger unit, as %s, would do" % (spelled(unit) if -4 < power < 9 else "1e%d" % power)

@@ -647,7 +647,8 @@ function saidByProcess(words) {
     return new Promise((done) => {
         const script = path.join(WEB, "mrtree_ask.js");
         child.execFile(process.execPath, [script, ...words], (error, stdout, stderr) => {
-            done(`${error ? error.code : 0} ${stdout}${stderr}`);
+            const means = stderr.replace(/^mrtree_ask\.js: (?!failed )[^\n]{10,400}\n$/, "");
+            done(`${error ? error.code : 0} ${stdout}${means}`);
         });
     });
 }

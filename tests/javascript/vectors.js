@@ -31,7 +31,8 @@ function saidByProcess(words, isPiped) {
     const given = isPiped ? [...words.slice(0, -1), "-"] : words;
     const script = path.join(WEB, "mrtree_check.js");
     const ran = child.spawnSync(process.execPath, [script, ...given], { input });
-    return `${ran.status} ${ran.stdout}${ran.stderr}`;
+    const isLine = /^(mrtree_check\.js: [^\n]{10,300}\n)?$/.test(ran.stderr);
+    return `${ran.status} ${ran.stdout}${isLine && (ran.status !== 0 || `${ran.stderr}` === "") ? "" : ran.stderr}`;
 }
 
 /** The client says what a vector says, however it is given the file. */

@@ -11,6 +11,7 @@ from typing import Callable, List, Optional, Tuple
 
 from bench import TOP, Bench, read, write
 import ask
+import beside
 import chances
 import foretold
 import formats
@@ -25,7 +26,7 @@ import ways
 
 LONGEST = 40  # lines of a function
 MODULES = ["mrtree_check", "mrtree_ask", "ranges", "pagewise", "layout"]
-MODULES += ["outputs", "sources", "records", "draw", "packing"]
+MODULES += ["outputs", "sources", "shapes", "kinds", "records", "draw", "packing"]
 MOST_IN_SHORT = 2**17  # bytes of a proof that the short run takes from a story
 # The rules by which texts, batches, map files and proofs are refused.
 RULES = """TooMany NoEnd Head Form Number Coordinate Order Payload Repeat Query Layer OutOfOrder Present Full Absent
@@ -213,6 +214,7 @@ def main(how: str, program: str) -> int:
         ("files that are odd or do not fit", inputs.inputs_hold),
         ("from files of publishers and back", trips.trips_hold),
         ("answers, outputs and stops", ways.ways_hold),
+        ("shapes, places, keys and kinds of files", beside.beside_holds),
         ("maps asked by their pages", ask.asks_hold),
         ("maps on servers", servers.all_hold),
         ("the examples on pages", pages.pages_hold),

@@ -29,6 +29,10 @@ LARGE = [
 ]
 
 
+# Files that rows name behind --layers.
+LAYERS = {"layers": b"0 house\n1 main road\n0 garage\n", "twice": b"0 house\n1 house\n", "bad": b"house 0\n", "empty": b""}
+
+
 class Row(NamedTuple):
     """A row: its line, the file's name, its bytes, the options, the status, what is said and what is written."""
 
@@ -83,6 +87,8 @@ def inputs_hold(bench: Bench) -> None:
     """Each file of the table, and some that are too large for it."""
     rows = list(rows_of("inputs.tsv"))
     bench.holds(len(rows) >= LEAST, "inputs.tsv has %d rows" % len(rows))
+    for name, bytes_ in LAYERS.items():
+        write(name, bytes_)
     for row in rows:
         row_holds(bench, row)
     for name, bytes_, options, says in LARGE:

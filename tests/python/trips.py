@@ -47,7 +47,8 @@ def sample_holds(bench: Bench) -> None:
         bench.holds(read("p.svg").count(b'class="answer" cx') == 2, "the answer in the picture of " + name)
     os.remove("p.svg")
     said = bench.call(draw, [root, "window:0,0,1,1", example("places-window.proof"), "p.svg"])
-    is_so = said == (2, b"draw.py: refused Needless at 161\n") and not os.path.exists("p.svg")
+    told = b"draw.py: refused Needless at 161\ndraw.py: the proof is for another query\n"
+    is_so = said == (2, told) and not os.path.exists("p.svg")
     bench.holds(is_so, "a refused proof is drawn, or it is said %s" % (said,))
 
 
