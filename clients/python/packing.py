@@ -14,7 +14,7 @@ import mrtree_check
 
 HERE = os.path.dirname(os.path.abspath(__file__))
 FILES = ["__init__.py", "mrtree_check.py", "mrtree_ask.py", "ranges.py", "pagewise.py", "layout.py"]
-FILES += ["outputs.py", "sources.py", "shapes.py", "kinds.py", "records.py", "draw.py", "py.typed"]
+FILES += ["outputs.py", "sources.py", "statement.py", "shapes.py", "kinds.py", "records.py", "draw.py", "py.typed"]
 NAME = "mrtree_check-%s" % mrtree_check.__version__
 METADATA = """Metadata-Version: 2.1
 Name: mrtree-check

@@ -26,7 +26,7 @@ import ways
 
 LONGEST = 40  # lines of a function
 MODULES = ["mrtree_check", "mrtree_ask", "ranges", "pagewise", "layout"]
-MODULES += ["outputs", "sources", "shapes", "kinds", "records", "draw", "packing"]
+MODULES += ["outputs", "sources", "statement", "shapes", "kinds", "records", "draw", "packing"]
 MOST_IN_SHORT = 2**17  # bytes of a proof that the short run takes from a story
 # The rules by which texts, batches, map files and proofs are refused.
 RULES = """TooMany NoEnd Head Form Number Coordinate Order Payload Repeat Query Layer OutOfOrder Present Full Absent
