@@ -269,7 +269,7 @@ def clash_of(values: Dict[str, str]) -> str:
     """The keys that do not go together, in a statement whose values are right one by one; empty where all do."""
     payload = values["payload"]
     clashes = {
-        "records": "atlas" not in values and int(values["records"]) > MOST_RECORDS,
+        "records atlas": "atlas" not in values and int(values["records"]) > MOST_RECORDS,
         "crs axes": values["crs"] in DEGREES and values["axes"] != AXES[0],
         "numbers keys": "numbers" in values and "keys" in values,
         "keys payload": payload == "key" and "keys" not in values,
