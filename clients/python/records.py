@@ -10,6 +10,7 @@ usage: records.py text FILE RECORDS [options]              the record text of a 
        records.py features LINES OUT [options]             what `list`, `check`, `check-all` or `audit` printed, as GeoJSON
        records.py find ROOT MAP OUT KEY .. [options]       the records of keys whose places are known, checked
        records.py info FILE                                what a file is, or what lies at an address
+       records.py statement MAP OUT [options]              the statement of a map, in the form that tools read
        records.py COMMAND --help                           the options of a command
 
 A file is GeoJSON, a GeoJSON text sequence, CSV or a record text: by the end of its name, or as --form says. `-` is the
@@ -19,6 +20,9 @@ the nearest map unit, and a box is rounded outwards. The number is the feature's
 in UTF-8. With --layer record texts and batches are of version 2, which has layers, and else of version 1; record texts
 of either are read. Of `answer` PROOF may be a map file too, or the address of one: then the pages are read that the
 query opens, and make the proof.
+
+With --statement FILE the publisher's statement says root, unit, coordinate system, payload and layers, and the word
+ROOT is left out. So may PROOF be, where the statement has the map's address.
 
 What does not fit is told on standard error, and then the output is left as it was. Exit statuses: 0, 1 where words or a
 file do not fit, 2 where a proof is refused, 7 where a file cannot be read or written, 8 without memory. This script is
@@ -37,21 +41,23 @@ if __name__ == "__main__":
     signal.signal(signal.SIGINT, signal.SIG_DFL)
 
 import argparse
+import datetime
 import hashlib
 import json
 import os
 import re
 from contextlib import ExitStack, contextmanager, suppress
 from decimal import Decimal
-from typing import Any, Dict, Iterable, Iterator, List, NamedTuple, NoReturn, Optional, Sequence, Tuple, Union
+from typing import Any, Dict, Iterable, Iterator, List, Mapping, NamedTuple, NoReturn, Optional, Sequence, Tuple, Union
 
 if __package__:
-    from . import kinds, mrtree_ask, outputs, shapes, sources
+    from . import kinds, mrtree_ask, outputs, shapes, sources, statement
     from . import mrtree_check as client
     from .mrtree_check import Query, Record
     from .outputs import Unfit
     from .ranges import Limits
     from .sources import Grid, Options, State, clipped, number_of
+    from .statement import Statement
 else:
     import kinds
     import mrtree_ask
@@ -59,14 +65,19 @@ else:
     import outputs
     import shapes
     import sources
+    import statement
     from mrtree_check import Query, Record
     from outputs import Unfit
     from ranges import Limits
     from sources import Grid, Options, State, clipped, number_of
+    from statement import Statement
 
 SCRIPT = "records.py"
 MOST_EXACT = 2**53 - 1  # the greatest whole number that every reader of JSON keeps
+MOST_OF_DEGREES = Decimal("1e-4")  # a map unit up to this is taken for one of degrees, where nothing says so
 QUERIES = "queries"  # the property that tells which queries of a script a feature answers
+SOME = client.read_query("nearest:0,0,16")  # some records, of which payloads are looked at
+SAID = ("map", "crs", "axes", "numbers", "layers", "shapes", "address", "from", "until")  # options that are lines
 MOST_TOLD = 5  # features that are told by their number
 MOST_OF_LAYERS = 2**20  # bytes of a file of layers
 ROUNDED = "; it has one with another: it is of another state, or a program rounded its numbers (COORDINATE_PRECISION)"
@@ -86,7 +97,20 @@ HELP = """--unit: a map unit in the file's unit, as 1e-7 of a degree, or 1 metre
 --delimiter: what stands between the fields of CSV, a comma or one character, or tab
 --form: how the input is written, where its name does not tell: geojson, geojsonseq, csv or text
 --skip-empty: leaves out features without geometry, and counts them
---most: the most bytes of a proof, a bundle or a map that are read"""
+--most: the most bytes of a proof, a bundle or a map that are read
+--format: how the answer is written: geojson, or geojsonseq (a feature on each line), or csv (with well-known text)
+--crs: the coordinate system of the map, as EPSG:25833
+--statement: the publisher's statement of the map, a file or an address; of several the newest is taken
+--publishers: a file of publishers (ssh-keygen's allowed signers), one of whom has to have signed the statement
+--map: words that say what the map is
+--axes: what x and y are: longitude latitude, or east north, or x y
+--numbers: words that say what the numbers are
+--hexadecimal: the payloads are neither texts nor digests
+--address: where the map file is to be had
+--from: the day from which on the statement holds, else today
+--until: the day until which the next statement comes
+--ended: a root digest that has ended; the option may stand several times
+--after: the statement before, which this one follows: its root has ended, and what is not given is as it was"""
 
 
 # ---- what is made of records
@@ -161,6 +185,8 @@ class Naming(NamedTuple):
     payload: Optional[str] = None
     is_digest: bool = False  # whether the payload is a digest, which becomes the property `digest`
     layer: Optional[str] = None
+    hexadecimal: Optional[str] = None  # the property that has the payload in hexadecimal
+    layers: Mapping[int, str] = {}  # the names of layers
 
 
 def geometry(record: Record, grid: Grid) -> str:
@@ -186,21 +212,32 @@ def feature(record: Record, naming: Naming, queries: Sequence[int] = ()) -> str:
     >>> print(feature(Record(7, (15, 20, 15, 20), b""), Naming(Grid(Decimal("0.1")))))
     {"type":"Feature","id":7,"properties":{},"geometry":{"type":"Point","coordinates":[1.5,2]}}
     """
-    number = record.number if record.number <= MOST_EXACT else str(record.number)
-    properties: Dict[str, Any] = {naming.number: number} if naming.number else {}
+    properties = properties_of(record, naming)
+    if queries:
+        properties[QUERIES] = list(queries)
+    told = '"id":%s,"properties":%s' % (json.dumps(exact(record.number)), compact(properties))
+    return '{"type":"Feature",%s,"geometry":%s}' % (told, geometry(record, naming.grid))
+
+
+def exact(number: int) -> Union[int, str]:
+    """A number as each reader of JSON keeps it: a large one as its digits."""
+    return number if number <= MOST_EXACT else str(number)
+
+
+def properties_of(record: Record, naming: Naming) -> Dict[str, Any]:
+    """The properties of a record. Raises Unfit."""
+    properties: Dict[str, Any] = {naming.number: exact(record.number)} if naming.number else {}
     if naming.layer:
-        properties[naming.layer] = record.layer
+        name = naming.layers.get(record.layer, str(record.layer))
+        properties[naming.layer] = name if naming.layers else record.layer
     if naming.payload and record.payload:
         try:
             properties[naming.payload] = record.payload.decode("utf-8")
         except UnicodeDecodeError:
             raise Unfit("the payload of record %d is not UTF-8" % record.number) from None
-    if naming.is_digest:
-        properties["digest"] = record.payload.hex()
-    if queries:
-        properties[QUERIES] = list(queries)
-    told = '"id":%s,"properties":%s' % (json.dumps(number), compact(properties))
-    return '{"type":"Feature",%s,"geometry":%s}' % (told, geometry(record, naming.grid))
+    for name in filter(None, ["digest" if naming.is_digest else None, naming.hexadecimal]):
+        properties[name] = record.payload.hex()
+    return properties
 
 
 def compact(value: Any) -> str:
@@ -208,18 +245,71 @@ def compact(value: Any) -> str:
     return json.dumps(value, ensure_ascii=False, separators=(",", ":"))
 
 
-def collection(features: Iterable[str]) -> Iterator[str]:
-    """The GeoJSON of some features, a line each.
+def collection(features: Iterable[str], crs: Optional[str] = None) -> Iterator[str]:
+    """The GeoJSON of some features, a line each, in a coordinate system that it says unless it is in degrees.
 
     >>> "".join(collection(["1", "2"]))
     '{"type":"FeatureCollection","features":[\\n1,\\n2\\n]}\\n'
+    >>> next(collection([], "EPSG:25833"))[28:]
+    '"crs":{"type":"name","properties":{"name":"urn:ogc:def:crs:EPSG::25833"}},"features":[\\n'
     """
-    yield '{"type":"FeatureCollection","features":[\n'
+    said = ""
+    if crs and crs not in statement.DEGREES:
+        name = "urn:ogc:def:crs:" + crs.replace(":", "::")
+        said = '"crs":%s,' % compact({"type": "name", "properties": {"name": name}})
+    yield '{"type":"FeatureCollection",%s"features":[\n' % said
     between = ""
     for one in features:
         yield between + one
         between = ",\n"
     yield "\n]}\n"
+
+
+# ---- CSV of records
+
+
+def well_known(record: Record, grid: Grid) -> str:
+    """The rectangle of a record as well-known text.
+
+    >>> well_known(Record(7, (15, 20, 15, 25), b""), Grid(Decimal("0.1")))
+    'LINESTRING (1.5 2,1.5 2.5)'
+    """
+    x0, y0, x1, y1 = map(grid.in_file, record.rect)
+    if (x0, y0) == (x1, y1):
+        return "POINT (%s %s)" % (x0, y0)
+    if x0 == x1 or y0 == y1:
+        return "LINESTRING (%s %s,%s %s)" % (x0, y0, x1, y1)
+    return "POLYGON ((%s %s,%s %s,%s %s,%s %s,%s %s))" % (x0, y0, x1, y0, x1, y1, x0, y1, x0, y0)
+
+
+def table(records: Iterable[Tuple[Record, Sequence[int]]], naming: Naming, with_queries: bool) -> Iterator[str]:
+    """The CSV of records, with well-known text. Raises Unfit.
+
+    >>> naming = Naming(Grid(Decimal(1)), payload="name")
+    >>> list(table([(Record(7, (1, 2, 1, 2), b'a "b" c'), [])], naming, False))
+    ['WKT,number,name\\n', 'POINT (1 2),7,"a ""b"" c"\\n']
+    """
+    names = [naming.number or "number", naming.layer, naming.payload, "digest" if naming.is_digest else None]
+    columns = ["WKT", *filter(None, [*names, naming.hexadecimal, QUERIES if with_queries else None])]
+    if len({name.lower() for name in columns}) < len(columns):
+        raise Unfit("two columns of CSV would have one name: --number and --layer name others")
+    yield row(columns)
+    for record, queries in records:
+        properties = {**properties_of(record, naming), columns[1]: record.number}
+        properties.update({"WKT": well_known(record, naming.grid), QUERIES: " ".join(map(str, queries))})
+        if "\0" in str(properties.get(naming.payload, "")):
+            raise Unfit("the payload of record %d has a zero byte, which CSV cannot have" % record.number)
+        yield row(str(properties.get(name, "")) for name in columns)
+
+
+def row(fields: Iterable[str]) -> str:
+    """A row of CSV.
+
+    >>> row(["a,b", "", " d"])
+    '"a,b",, d\\n'
+    """
+    quoted = ('"%s"' % field.replace('"', '""') if re.search('[",\r\n]', field) else field for field in fields)
+    return ",".join(quoted) + "\n"
 
 
 # ---- features by their digests
@@ -347,6 +437,20 @@ def around(rects: List[client.Rect]) -> client.Rect:
     return min(x0s), min(y0s), max(x1s), max(y1s)
 
 
+def tell_latitudes(records: Iterable[Record], grid: Grid, is_degrees: bool) -> None:
+    """Says on standard error where records of a map in degrees lie beyond the poles, as by a wrong unit."""
+    sides = [side for record in records for side in record.rect[1::2]] if is_degrees else []
+    worst = max(map(grid.in_file, (min(sides), max(sides))), key=lambda side: abs(Decimal(side))) if sides else "0"
+    if abs(Decimal(worst)) > 90:
+        words = "no latitude is above 90 or below -90, and there is %s: is a map unit %s degrees, and y the latitude?"
+        outputs.tell(SCRIPT, words % (worst, str(grid.unit).lower()))
+
+
+def looks_like_degrees(grid: Grid, crs: Optional[str]) -> bool:
+    """Whether a map is in degrees by its coordinate system; or where that is not known, by the size of a map unit."""
+    return crs in statement.DEGREES if crs else grid.unit <= MOST_OF_DEGREES
+
+
 def tell_state(state: State) -> None:
     """Says on standard error what a file gave: how many records, how many without payload, and what was left out."""
     reading = state.reading
@@ -358,6 +462,8 @@ def tell_state(state: State) -> None:
         places = ", ".join(reading.cut[:MOST_TOLD]) + (" .." if reading.cut[MOST_TOLD:] else "")
         words = "cut at the antimeridian, so that the box goes round the earth (make two features of each): %d, %s"
         outputs.tell(SCRIPT, words % (len(reading.cut), places))
+    grid = reading.options.grid
+    tell_latitudes(sources.unpacked(state.packed), grid, looks_like_degrees(grid, None))
 
 
 # ---- the commands
@@ -435,15 +541,50 @@ def query_command(given: argparse.Namespace) -> None:
 def answer_command(given: argparse.Namespace) -> None:
     """Writes the answer that a proof proves."""
     root, query = root_and_query(given.ROOT, given.QUERY)
-    answer = client.judge(root, query, proof_of(given, query))
-    inputs, naming = [given.PROOF], naming_of(given)
-    features = [feature(record, naming) for record in answer.records]
+    with statement.judged(given.said):
+        answer = client.judge(root, query, proof_of(given, query))
+    compare(given, [answer])
+    inputs, naming = [given.PROOF, *(given.statement or [])], naming_of(given)
     if given.shapes:
         inputs.append(given.shapes)
         features = shapes_for(given, answer.records)
-    write(given.OUT, inputs, collection(features))
+    else:
+        features = [feature(record, naming) for record in answer.records]
+    rows = [(record, []) for record in answer.records]
+    write(given.OUT, inputs, written_as(given, features, rows, naming))
     told = extent(answer.records, naming.grid) + ", of a map of %d at batch %d" % (answer.count, answer.batch)
     outputs.tell(SCRIPT, told)
+    tell_system(given, answer.records)
+
+
+def compare(given: argparse.Namespace, answers: Iterable[client.Answer]) -> None:
+    """Raises StatementRefused where a statement says something else than accepted proofs."""
+    for answer in answers if given.said else ():
+        statement.compare(given.said, answer.version, answer.batch, answer.count)
+        statement.compare_records(given.said, answer.records)
+
+
+Rows = Sequence[Tuple[Record, Sequence[int]]]
+
+
+def written_as(given: argparse.Namespace, features: List[str], rows: Rows, naming: Naming) -> Iterator[str]:
+    """The lines of an answer, in the format that was asked for. Raises Unfit."""
+    if given.format == "csv":
+        return table(rows, naming, any(queries for _, queries in rows))
+    if given.format == "geojsonseq":
+        return (one + "\n" for one in features)
+    return collection(features, given.crs)
+
+
+def tell_system(given: argparse.Namespace, records: Sequence[Record]) -> None:
+    """Says on standard error what an answer does not say of its coordinate system, and where that cannot be right."""
+    said, is_plain = given.said, given.format in (None, "geojson")
+    is_degrees = said.is_in_degrees() if said else looks_like_degrees(given.unit, given.crs)
+    if given.crs and given.crs not in statement.DEGREES and not is_plain:
+        outputs.tell(SCRIPT, "%s says no coordinate system; it is %s" % (given.format, given.crs))
+    if said and not said.crs and not is_degrees and is_plain:
+        outputs.tell(SCRIPT, "the map has no coordinate system that is known, and GeoJSON is taken for degrees")
+    tell_latitudes(records, given.unit, is_degrees)
 
 
 def proof_of(given: argparse.Namespace, query: Query) -> client.Pieces:
@@ -468,12 +609,21 @@ def answers_command(given: argparse.Namespace) -> None:
     found, broken = client.judge_bundle(root, queries, client.read_pieces(given.BUNDLE, given.most))
     for number, verdict in enumerate(found, 1):
         if verdict.answer is None:
+            refuse_if_ended(given, verdict.refused)
             raise client.Ended(2, "query %d %s" % (number, verdict.refused or "missing"))
     if broken is not None:
         raise client.Ended(2, "bundle broken at %d" % broken)
+    compare(given, (verdict.answer for verdict in found if verdict.answer))
     answers = ((at, verdict.answer.records if verdict.answer else []) for at, verdict in enumerate(found, 1))
     records = list(merged(answers))
     write_several(given, records, [given.SCRIPT, given.BUNDLE])
+
+
+def refuse_if_ended(given: argparse.Namespace, refused: Optional[client.Refused]) -> None:
+    """Raises StatementRefused where a proof leads to a root that has ended, as a statement says."""
+    if refused is not None:
+        with suppress(client.Refused), statement.judged(given.said):
+            raise refused
 
 
 def features_command(given: argparse.Namespace) -> None:
@@ -542,11 +692,73 @@ def info_command(given: argparse.Namespace) -> None:
     write("-", [], (line + "\n" for line in kinds.lines_of(given.FILE, limits_of(given))))
 
 
+def statement_command(given: argparse.Namespace) -> None:
+    """Writes the statement of a map, whose root, version, batch and count are read from the map itself."""
+    root, far = opened(given.MAP)
+    before = statement.values_of(statement.open_named(given.after, given.publishers)) if given.after else {}
+    lines = lines_said(given, before, root)
+    lines.update(version=str(far.head.version), batch=str(far.head.batch), records=str(far.head.count))
+    text_ = statement.text_of(lines)
+    try:
+        said = statement.read_statement(text_.encode("utf-8", "surrogatepass"))
+    except statement.BadStatement as bad:
+        name, _, key = bad.rule.partition(" ")
+        missing = "--%s has to be given: %s" % (key, statement.KEYS.get(key, ""))
+        raise Unfit(missing if name == "Missing" else bad.meaning()) from None
+    statement.compare_records(said, client.judge(far.root, SOME, [far.proof(SOME)]).records)
+    write(given.OUT, [given.MAP, *filter(None, [given.after])], [text_])
+    words = "root %s, version %d, batch %d, %d records"
+    outputs.tell(SCRIPT, words % (root, said.version, said.batch, said.records))
+
+
+def opened(name: str) -> Tuple[str, mrtree_ask.FarMap]:
+    """The root digest that the first page of a map's file has, and the map. Raises Unfit, Refused and Ended."""
+    try:
+        mrtree_ask.open_map("0" * 64, name)
+        raise Unfit("%s: its root digest is all zeros" % name)
+    except mrtree_ask.MapRefused as fault:
+        if fault.rule != "WrongRoot":
+            raise
+        return fault.found.hex(), mrtree_ask.open_map(fault.found.hex(), name)
+    except ValueError as fault:
+        raise Unfit(str(fault)) from None
+
+
+def lines_said(given: argparse.Namespace, before: Dict[str, str], root: str) -> Dict[str, str]:
+    """The lines that a command line and the statement before say of a map with this root digest."""
+    lines = {key: value for key, value in before.items() if key not in ("from", "until")}
+    for key in ("address", "shapes"):
+        if key in lines:  # a file may be named by the root digest
+            lines[key] = lines[key].replace(before["root"], root)
+    words = {key: vars(given)[key] for key in SAID if vars(given)[key]}
+    if given.numbers or given.key:
+        lines = {key: value for key, value in lines.items() if key not in ("numbers", "keys")}
+        words.update({"keys": given.key} if given.key else {})
+    if given.unit:
+        words["unit"] = str(given.unit.unit).lower()
+    ended = [*before.get("ended", "none").split(" "), before.get("root", "none"), *(given.ended or [])]
+    others = [one for one in dict.fromkeys(ended) if one not in ("none", root)]
+    today = datetime.datetime.now(datetime.timezone.utc).date().isoformat()
+    payload = {} if before and not payload_said(given) else {"payload": payload_said(given) or "none"}
+    return {"from": today, **lines, **words, **payload, "root": root, "ended": " ".join(others) or "none"}
+
+
+def payload_said(given: argparse.Namespace) -> str:
+    """What a command line says of payloads; empty where it says nothing."""
+    kinds = {"text %s" % given.payload: given.payload, "digest": given.digest, "hexadecimal": given.hexadecimal}
+    found = [kind for kind, is_given in kinds.items() if is_given] or ["key"] * bool(given.key)
+    if len(found) > 1:
+        raise Unfit("--payload, --digest and --hexadecimal say different things of the payloads")
+    return "".join(found)
+
+
 def write_several(given: argparse.Namespace, records: List[Tuple[Record, List[int]]], inputs: List[str]) -> None:
     """Writes the features of records, each with the queries that it answers."""
     naming = naming_of(given)
-    write(given.OUT, inputs, collection([feature(record, naming, queries) for record, queries in records]))
+    features = [feature(record, naming, queries) for record, queries in records]
+    write(given.OUT, [*inputs, *(given.statement or [])], written_as(given, features, records, naming))
     outputs.tell(SCRIPT, extent((record for record, _ in records), naming.grid))
+    tell_system(given, [record for record, _ in records])
 
 
 def write(name: str, inputs: Sequence[str], lines: Iterable[str]) -> None:
@@ -606,7 +818,9 @@ def naming_of(given: argparse.Namespace) -> Naming:
         "".join(names).encode("utf-8")
     except UnicodeEncodeError:
         raise Unfit("what --number, --payload and --layer name is not UTF-8") from None
-    return Naming(given.unit, given.number, given.payload, given.digest, given.layer)
+    hexadecimal = "payload" if given.said and given.said.payload == "hexadecimal" else None
+    layers = given.said.layers if given.said else {}
+    return Naming(given.unit, given.number, given.payload, given.digest, given.layer, hexadecimal, layers)
 
 
 def unit_of(word: str) -> Grid:
@@ -655,15 +869,19 @@ class Parser(argparse.ArgumentParser):
 
 
 READS = "unit number key payload layer layers digest shapes-to places-to place delimiter form skip-empty"  # of files
+WRITES = "unit number payload layer digest format crs"  # of one that writes an answer
+STATED = "statement publishers"  # of one that takes what a statement says
+STATES = "map unit crs axes numbers key payload digest hexadecimal layers shapes address from until ended after"
 COMMANDS = {
     "text": (text_command, "FILE RECORDS", READS),
     "batch": (batch_command, "N OLD NEW BATCH", READS),
-    "query": (query_command, "WORDS", "unit"),
-    "answer": (answer_command, "ROOT QUERY PROOF OUT", "unit number key payload layer digest shapes form most"),
-    "answers": (answers_command, "ROOT SCRIPT BUNDLE OUT", "unit number payload layer digest most"),
-    "features": (features_command, "LINES OUT", "unit number payload layer digest"),
+    "query": (query_command, "WORDS", "unit " + STATED),
+    "answer": (answer_command, "ROOT QUERY PROOF OUT", WRITES + " key shapes form most " + STATED),
+    "answers": (answers_command, "ROOT SCRIPT BUNDLE OUT", WRITES + " most " + STATED),
+    "features": (features_command, "LINES OUT", WRITES),
     "find": (find_command, "ROOT MAP OUT KEYS", "unit number key payload layer digest shapes places by-number form most"),
     "info": (info_command, "FILE", "most"),
+    "statement": (statement_command, "MAP OUT", STATES + " publishers"),
 }
 WORDS = {  # what the words of commands are
     "FILE": "the file: GeoJSON, a feature on each line, CSV or a record text; of info any file, or an address",
@@ -683,7 +901,10 @@ WORDS = {  # what the words of commands are
     "OUT": "the file that is written",
     "KEYS": "keys, or with --by-number record numbers",
 }
+SIGNS = ("--digest", "--skip-empty", "--hexadecimal", "--by-number")  # options without a value
+SEVERAL = ("--statement", "--ended")  # options that may stand several times
 ENDS = tuple(sources.FORMS)
+FORMATS = ("geojson", "geojsonseq", "csv")
 TYPES: Dict[str, Any] = {"--unit": unit_of, "--place": place_of, "--delimiter": delimiter_of, "--most": most_of}
 
 
@@ -698,13 +919,14 @@ def parser() -> Parser:
         for name in names.split():
             one.add_argument(name, nargs="+" if name in ("WORDS", "KEYS") else None, help=WORDS[name])
         for option, told in (line.split(": ", 1) for line in HELP.split("\n")):
-            is_sign = option in ("--digest", "--skip-empty", "--by-number")
+            is_sign = option in SIGNS
             if option[2:] not in options.split():
                 one.set_defaults(**{option[2:].replace("-", "_"): False if is_sign else None})
             elif is_sign:
                 one.add_argument(option, action="store_true", help=told)
             else:
-                one.add_argument(option, type=TYPES.get(option), help=told)
+                action = "append" if option in SEVERAL else "store"
+                one.add_argument(option, type=TYPES.get(option), action=action, help=told)
     return whole
 
 
@@ -712,20 +934,28 @@ def arguments(words: List[str]) -> argparse.Namespace:
     """What the words of a command line mean. Raises Unfit."""
     negative = re.compile(r"-[0-9.]+[eE][+-]?[0-9]{1,2}")
     given = parser().parse_args(
-        [sources.spelled(sources.decimal_of(word)) if negative.fullmatch(word) else word for word in words]
+        [sources.spelled(sources.decimal_of(word)) if negative.fullmatch(word) else word for word in filled(words)]
     )
+    take_statement(given)
     if given.form not in (None, *sources.FORMS.values(), "text"):
         raise Unfit("--form is geojson, geojsonseq, csv or text, and not %s" % clipped(given.form))
     if given.command == "info":
         return given
     if given.command in ("text", "batch"):
         refuse_other_reads(given)
-    if given.payload and (given.digest or given.shapes):
+    is_statement = given.command == "statement"
+    if given.payload and (given.digest or given.shapes) and not is_statement:
         raise Unfit("the payload is either what --payload names or, with --digest or --shapes, a digest")
     files = [vars(given)[name] for name in ("FILE", "OLD", "NEW") if name in given]
     is_text = given.form == "text" or not (given.form or any(sources.plain_name(name).endswith(ENDS) for name in files))
-    if given.unit is None and not (files and is_text):
+    if given.unit is None and not (files and is_text) and not is_statement:
         raise Unfit("--unit has to be given: how large a map unit is in the file's unit")
+    if given.format not in (None, *FORMATS):
+        raise Unfit("--format is geojson, geojsonseq or csv, and not %s" % clipped(given.format))
+    if given.crs and not statement.is_right("crs", given.crs):
+        raise Unfit("--crs is %s, and not %s" % (statement.KEYS["crs"], clipped(given.crs)))
+    if given.shapes and given.format == "csv":
+        raise Unfit("--format csv has the boxes of records, and no shapes")
     return given
 
 
@@ -738,6 +968,53 @@ def refuse_other_reads(given: argparse.Namespace) -> None:
     for option, word in (("--shapes-to", given.shapes_to), ("--places-to", given.places_to)):
         if word and (word == "-" or outputs.is_special(word)):
             raise Unfit("%s names a file of its own" % option)
+
+
+def filled(words: List[str]) -> List[str]:
+    """The words of a command line, with an empty one in the place of each that a statement makes needless.
+
+    >>> filled(["answer", "--statement", "a.statement", "window:0,0,1,1", "out"])
+    ['answer', '', '--statement', 'a.statement', 'window:0,0,1,1', '', 'out']
+    """
+    least = {"answer": 2, "answers": 3}.get("".join(words[:1]), 9)
+    if not any(word.split("=")[0] == "--statement" for word in words):
+        return words
+    places, is_value = [], False
+    for at, word in enumerate(words):
+        is_option = word.startswith("--") and not is_value
+        if at and not is_option and not is_value:
+            places.append(at)
+        is_value = is_option and "=" not in word and word not in SIGNS
+    if not least <= len(places) <= 3:
+        return words
+    fewer = words[: places[-1]] + [""] * (len(places) == 2) + words[places[-1] :]
+    return [fewer[0], "", *fewer[1:]]
+
+
+def take_statement(given: argparse.Namespace) -> None:
+    """Takes from statements what the words of a command line leave out. Raises Unfit and Ended."""
+    given.said = None
+    if given.publishers and not (given.statement or given.after):
+        raise Unfit("--publishers is of a statement, and none is given")
+    if not given.statement:
+        return
+    for option in ("unit", "crs", "payload", "digest"):
+        if vars(given)[option]:
+            raise Unfit("--%s is for maps without a statement: it says that itself" % option)
+    said = given.said = statement.chosen(given.statement, given.publishers, lambda words: outputs.tell(SCRIPT, words))
+    given.unit, given.crs = Grid(said.unit), said.crs
+    if given.command == "query":
+        return
+    given.ROOT = statement.root_of(said, given.ROOT or None)
+    given.payload = {"text": said.payload_name, "key": said.keys}.get(said.payload)
+    given.digest = said.payload == "digest"
+    given.layer = given.layer or ("layer" if said.layers else None)
+    if given.command == "answer" and not given.PROOF:
+        if not said.address:
+            raise Unfit("%s: it has no address of the map, so PROOF has to be given" % said.name)
+        given.PROOF = said.where(said.address)
+    if given.command == "answer" and said.shapes and not given.shapes:
+        given.shapes = said.where(said.shapes)
 
 
 def run(words: List[str]) -> None:

@@ -7,20 +7,21 @@ docs/READING.md. Tested, and not proved.
 from __future__ import annotations
 
 import datetime
+import hashlib
 import os
 import re
 import subprocess
 import tempfile
 from contextlib import contextmanager
 from decimal import Decimal
-from typing import Callable, Dict, Iterator, List, NamedTuple, NoReturn, Optional, Sequence, Tuple
+from typing import Callable, Dict, Iterable, Iterator, List, NamedTuple, NoReturn, Optional, Sequence, Tuple
 from urllib.parse import urljoin
 
 if __package__:
-    from .mrtree_check import MOST_LAYER, MOST_RECORDS, Ended, Refused, read_decimal
+    from .mrtree_check import MOST_LAYER, MOST_RECORDS, Ended, Record, Refused, read_decimal
     from .ranges import Failed, Limits, Meter, OnServer, Place, Reply, is_address, told
 else:
-    from mrtree_check import MOST_LAYER, MOST_RECORDS, Ended, Refused, read_decimal
+    from mrtree_check import MOST_LAYER, MOST_RECORDS, Ended, Record, Refused, read_decimal
     from ranges import Failed, Limits, Meter, OnServer, Place, Reply, is_address, told
 
 MOST_BYTES = 65536  # of a statement, and of a signature
@@ -53,6 +54,7 @@ KEYS = {  # each key, in the order in which a statement is written, and what its
     "ended": "none, or root digests with a space between, each once",
 }
 MAY_MISS = ("atlas", "numbers", "keys", "layers", "shapes", "address")
+NO_KEY = "is not the key that its number stands for"
 AXES = ("longitude latitude", "east north", "x y")
 CONTROL = re.compile("[\0-\x1f\x7f-\x9f\u2028-\u202e\u2066-\u2069\ufeff]")
 LINE = re.compile("([a-z]+): ([^ ]|[^ ].*[^ ])", re.DOTALL)
@@ -344,9 +346,14 @@ def spelled(statement: Statement) -> str:
     >>> spelled(read_statement(EXAMPLE)).encode() == EXAMPLE
     True
     """
-    text = "".join("%s: %s\n" % line for line in values_of(statement).items())
+    text = text_of(values_of(statement))
     read_statement(text.encode("utf-8", "surrogatepass"))
     return text
+
+
+def text_of(values: Dict[str, str]) -> str:
+    """The text of lines, in the order of the table, whatever they say."""
+    return "".join("%s: %s\n" % (key, values[key]) for key in KEYS if key in values)
 
 
 # ---- a file or an address becomes a statement
@@ -532,8 +539,46 @@ def compare(statement: Statement, version: int, batch: int, count: int) -> None:
     for rule, (said, found) in pairs.items():
         if said != found:
             name = "count of records" if rule == "Count" else rule.lower()
-            words = "its %s is %d, and that of the map is %d" % (name, said, found)
+            words = "its %s is %d, and that of the proof is %d" % (name, said, found)
             raise StatementRefused("Other" + rule, statement.name, words)
+
+
+def compare_records(statement: Statement, records: Iterable[Record]) -> None:
+    """Raises StatementRefused where the payload of a record is not what a statement says, or its number of no key."""
+    for record in records:
+        words = misfit(statement, record)
+        if words:
+            rule = "OtherKey" if words == NO_KEY else "OtherPayload"
+            raise StatementRefused(rule, statement.name, "the payload of record %d %s" % (record.number, words))
+
+
+def misfit(statement: Statement, record: Record) -> str:
+    """What is wrong with a record's payload by a statement; empty where nothing is.
+
+    >>> one = read_statement(EXAMPLE)
+    >>> misfit(one, Record(7, (0, 0, 0, 0), b"a")), misfit(one, Record(7, (0, 0, 0, 0), b"\\xff"))
+    ('', 'is no text')
+    """
+    payload, kind = record.payload, statement.payload
+    if kind in ("text", "key"):
+        try:
+            payload.decode("utf-8")
+        except UnicodeDecodeError:
+            return "is no text"
+    if kind == "key" and number_of_key(payload) != record.number:
+        return NO_KEY
+    if kind == "digest" and len(payload) != 32:
+        return "is no digest"
+    return "is there, and there is to be none" if kind == "none" and payload else ""
+
+
+def number_of_key(key: bytes) -> int:
+    """The number that stands for a key, in UTF-8.
+
+    >>> number_of_key(b"DEBE01")
+    10356492398083197917
+    """
+    return int.from_bytes(hashlib.sha256(key).digest()[:8], "big")
 
 
 @contextmanager

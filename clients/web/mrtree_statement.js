@@ -275,7 +275,7 @@ function compareStatement(statement, { version, batch, count }) {
     ];
     for (const [rule, name, said, found] of pairs) {
         if (said !== found) {
-            const words = `its ${name} is ${said}, and that of the map is ${found}`;
+            const words = `its ${name} is ${said}, and that of the proof is ${found}`;
             throw new StatementRefused(`Other${rule}`, statement.name, words);
         }
     }
