@@ -2,13 +2,15 @@
 """Draws a proof as an SVG picture: what it shows of the map, what it leaves out, and the answer.
 
 usage: draw.py [--most BYTES] [--count] ROOT QUERY PROOF SVG
+       draw.py [--most BYTES] [--count] --statement FILE [--publishers FILE] QUERY [PROOF] SVG
 
 The proof is checked first, and only one that is accepted is drawn. Round the query and the answer stand the opened
 nodes, the pruned parts, the records that are shown and those of the answer. So does the window, or the circle through
 the last of the nearest records. With `--count` the proof is a count proof: the pruned parts that are inside the window
 are drawn as such, and of the records that are shown those that are inside. A small picture below shows where on the map
 that is. North is up. Of more than 4,000 shapes the first are drawn, those of the answer before others, and that is
-told. `-` is the standard input or output. Exit statuses are those of `records.py`. The script is tested, not proved.
+told. `-` is the standard input or output. With `--statement` the publisher's statement says the root, and where the map
+is, of whose pages the proof is made if none is given; `--publishers` names who may have signed it. Exit statuses are those of `records.py`. The script is tested, not proved.
 """
 from __future__ import annotations
 
@@ -24,16 +26,22 @@ if __name__ == "__main__":
 
 import html
 import math
-from typing import Callable, Iterator, List, NamedTuple, Optional, Tuple
+from typing import Callable, Dict, Iterator, List, NamedTuple, Optional, Tuple
 
 if __package__:
+    from . import mrtree_ask, outputs, statement
     from . import mrtree_check as client
-    from . import outputs
     from .mrtree_check import Query, Record, Rect
+    from .ranges import Limits
+    from .statement import Statement
 else:
+    import mrtree_ask
     import mrtree_check as client
     import outputs
+    import statement
     from mrtree_check import Query, Record, Rect
+    from ranges import Limits
+    from statement import Statement
 
 WIDTH = 640  # of what is drawn of the map, in pixels
 HEIGHT = 480  # at most
@@ -277,41 +285,90 @@ def picture(query: Query, items: List[Item], answer: Shown) -> Tuple[str, int]:
     return "\n".join([*lines, "</svg>"]) + "\n", left_out
 
 
-def drawn(root: str, word: str, proof: client.Pieces) -> Tuple[str, int]:
-    """The SVG of a proof, and how much is not drawn. Raises Refused, or ValueError where the words are none."""
+def drawn(root: str, word: str, proof: client.Pieces, said: Optional[Statement] = None) -> Tuple[str, int]:
+    """The SVG of a proof, and how much is not drawn.
+
+    Raises Refused, ValueError where the words are none, and StatementRefused where a statement says something else.
+    """
     items: List[Item] = []
     answer = client.check(root, word, proof, lambda *item: items.append(Item(*item)))
+    if said:
+        statement.compare(said, answer.version, answer.batch, answer.count)
     return picture(client.read_query(word), items, Shown(answer.records))
 
 
-def drawn_count(root: str, word: str, proof: client.Pieces) -> Tuple[str, int]:
+def drawn_count(root: str, word: str, proof: client.Pieces, said: Optional[Statement] = None) -> Tuple[str, int]:
     """The SVG of a count proof, and how much is not drawn. Raises as `drawn`."""
     items: List[Item] = []
     count = client.check_count(root, word, proof, lambda *item: items.append(Item(*item)))
+    if said:
+        statement.compare(said, 2, count.batch, count.count)
     query = client.read_window(word)
     way = client.inside(query)
     records = [one for item in items for one in item.records if way(one.rect, 1 << one.layer) == client.WHOLE]
     return picture(query, items, Shown(records, count.inside))
 
 
+USAGE = "usage: draw.py [--most BYTES] [--count] ROOT QUERY PROOF SVG, or: --statement FILE QUERY [PROOF] SVG"
+
+
+class Words(NamedTuple):
+    """What the words of a command line say: options, a root digest, a query, a proof's name and a picture's."""
+
+    options: Dict[str, List[str]]
+    root: Optional[str]
+    query: str
+    proof: str
+    out: str
+    most: Optional[int]
+
+
+def read_words(words: List[str]) -> Words:
+    """What the words of a command line mean. Raises ValueError, with what is wrong."""
+    options: Dict[str, List[str]] = {}
+    while words and words[0].startswith("--"):
+        size = 1 if words[0] == "--count" else 2
+        if words[0] not in ("--most", "--count", "--statement", "--publishers") or len(words) < size:
+            raise ValueError(USAGE)
+        options.setdefault(words[0], []).extend(words[1:size])
+        words = words[size:]
+    is_stated = "--statement" in options
+    if not (2 <= len(words) <= 4 if is_stated else len(words) == 4) or ("--publishers" in options and not is_stated):
+        raise ValueError(USAGE)
+    root = words[0] if len(words) == 4 else None
+    query, proof, out = words[-3:] if len(words) > 2 else (words[0], "", words[1])
+    most = client.read_most(options["--most"][-1]) if "--most" in options else None
+    return Words(options, root, query, proof, out, most)
+
+
+def proof_of(words: Words, root: str, said: Optional[Statement]) -> client.Pieces:
+    """The proof in a file, or the one that the pages of a statement's map give. Raises Ended, Refused, ValueError."""
+    if words.proof or said is None:
+        return client.read_pieces(words.proof, words.most)
+    limits = Limits() if words.most is None else Limits(bytes=words.most)
+    far = mrtree_ask.open_map(root, mrtree_ask.address_of(said), limits)
+    read = client.read_window if "--count" in words.options else client.read_query
+    asked = read(words.query)
+    return [far.count_proof(asked) if "--count" in words.options else far.proof(asked)]
+
+
 def run(words: List[str]) -> None:
     """Does what the words of a command line say. Raises what outputs.status_of tells."""
-    most = None
     if words[:1] and words[0] in ("-h", "--help", "--version"):
         outputs.print_help(words[0], "draw.py", __doc__)
         return
     try:
-        if words[:1] == ["--most"]:
-            most, words = client.read_most("".join(words[1:2])), words[2:]
-        is_count, words = words[:1] == ["--count"], words[words[:1] == ["--count"] :]
-        if len(words) != 4:
-            raise ValueError("usage: draw.py [--most BYTES] [--count] ROOT QUERY PROOF SVG")
-        root, word, proof, out = words
-        outputs.refuse_same(out, [proof])
-        whole, left_out = (drawn_count if is_count else drawn)(root, word, client.read_pieces(proof, most))
+        given = read_words(words)
+        names, publishers = given.options.get("--statement", []), given.options.get("--publishers", [None])[-1]
+        outputs.refuse_same(given.out, [*filter(None, [given.proof]), *names])
+        said = statement.chosen(names, publishers, lambda line: outputs.tell("draw.py", line)) if names else None
+        root = statement.root_of(said, given.root) if said else str(given.root)
+        draws = drawn_count if "--count" in given.options else drawn
+        with statement.judged(said):
+            whole, left_out = draws(root, given.query, proof_of(given, root, said), said)
     except ValueError as fault:
         raise outputs.Unfit(str(fault)) from None
-    with outputs.written(out, [proof]) as file:
+    with outputs.written(given.out, [*filter(None, [given.proof]), *names]) as file:
         file.write(whole.encode("utf-8"))
     if left_out:
         outputs.tell("draw.py", "%d shapes are not drawn, since %d are the most" % (left_out, MOST_SHAPES))

@@ -3,6 +3,8 @@
 
 usage: mrtree_ask.py [OPTIONS] [check | check-count] ROOT QUERY SOURCE
        mrtree_ask.py [OPTIONS] check-join ROOT ROOT2 SOURCE SOURCE2
+       mrtree_ask.py --statement FILE [OPTIONS] [check | check-count] QUERY [SOURCE]
+       mrtree_ask.py --statement FILE --statement2 FILE [OPTIONS] check-join [SOURCE SOURCE2]
 
 SOURCE is an address that begins with http:// or https://, or the name of a map file. Of it the pages are fetched that
 the query opens. The honest proof is made of them, and then it is checked by mrtree_check.py, whose lines are printed.
@@ -11,6 +13,10 @@ the query opens. The honest proof is made of them, and then it is checked by mrt
 --most BYTES        fetches at most so many bytes in all, else 1073741824
 --requests NUMBER   sends at most so many requests in all, else 10000
 --seconds NUMBER    takes at most so long for them, else 600
+--statement FILE    takes root and address from the publisher's statement, and compares what it says; of several the
+                    newest is taken. FILE may be an address
+--statement2 FILE   the same of the second map of a join
+--publishers FILE   takes statements alone that somebody signed who stands in this file (ssh-keygen's allowed signers)
 --help, -h          prints this, where it stands first; --version the version
 
 Exit statuses are those of mrtree_check.py, and 10 where a map of version 2 is needed. docs/HOSTING.md has all texts.
@@ -33,21 +39,24 @@ if __name__ == "__main__":
 
 import os
 import re
-from contextlib import suppress
-from typing import Dict, List, NamedTuple, Tuple, Union
+from contextlib import ExitStack, suppress
+from typing import Dict, List, NamedTuple, Optional, Tuple, Union
 
 if __package__:
     from . import mrtree_check as client
-    from . import outputs
+    from . import outputs, statement
     from .mrtree_check import Answer, Count, Ended, Join, Query, Refused
     from .pagewise import MEANINGS, FarMap, MapRefused, join_proof
     from .ranges import Failed, Limits, Meter, is_address, read_address, source_of, told
+    from .statement import Statement
 else:
     import mrtree_check as client
     import outputs
+    import statement
     from mrtree_check import Answer, Count, Ended, Join, Query, Refused
     from pagewise import MEANINGS, FarMap, MapRefused, join_proof
     from ranges import Failed, Limits, Meter, is_address, read_address, source_of, told
+    from statement import Statement
 
 __all__ = ["FarMap", "Failed", "Limits", "MapRefused", "Refused", "ask", "ask_count", "ask_join", "open_map"]
 
@@ -118,7 +127,8 @@ def is_map(name: str) -> bool:
 class Words(NamedTuple):
     """The words of a command line: the command, the root digest, what is asked, the sources, and what options say.
 
-    What is asked is a query, and of `check-join` the second root digest. Where no proof is kept, its name is empty.
+    What is asked is a query, and of `check-join` the second root digest. Where no proof is kept, its name is empty. So
+    are root digests and sources that are still to be taken from statements.
     """
 
     command: str
@@ -127,6 +137,9 @@ class Words(NamedTuple):
     sources: List[str]
     proof: str
     limits: Limits
+    statements: Tuple[List[str], List[str]] = ([], [])  # the files of each map's
+    publishers: Optional[str] = None
+    said: Tuple[Statement, ...] = ()  # of each map, once they are read
 
 
 Done = Tuple[bytes, List[str]]  # a proof, and the lines of its answer
@@ -135,19 +148,30 @@ Done = Tuple[bytes, List[str]]  # a proof, and the lines of its answer
 def check_done(words: Words, meter: Meter) -> Done:
     """What comes of `check`."""
     proof = FarMap(words.root, source_of(words.sources[0], meter)).proof(words.asked)
-    return proof, client.judge(words.root, words.asked, [proof]).lines()
+    answer = client.judge(words.root, words.asked, [proof])
+    for said in words.said:
+        statement.compare(said, answer.version, answer.batch, answer.count)
+        statement.compare_records(said, answer.records)
+    return proof, answer.lines()
 
 
 def count_done(words: Words, meter: Meter) -> Done:
     """What comes of `check-count`."""
     proof = FarMap(words.root, source_of(words.sources[0], meter)).count_proof(words.asked)
-    return proof, ["count %d" % client.judge_count(words.root, words.asked, [proof]).inside]
+    count = client.judge_count(words.root, words.asked, [proof])
+    for said in words.said:
+        statement.compare(said, 2, count.batch, count.count)
+    return proof, ["count %d" % count.inside]
 
 
 def join_done(words: Words, meter: Meter) -> Done:
     """What comes of `check-join`."""
     proof = proof_of_join(words.root, words.asked, words.sources, meter)
-    return proof, ["pair %d %d" % pair for pair in client.judge_join(words.root, words.asked, [proof]).pairs]
+    join = client.judge_join(words.root, words.asked, [proof])
+    for said, state in zip(words.said, (join.first, join.second)):
+        if state:
+            statement.compare(said, 2, state.batch, state.count)
+    return proof, ["pair %d %d" % pair for pair in join.pairs]
 
 
 COMMANDS = {  # how many sources each has, what reads its second word, and what does it
@@ -155,6 +179,7 @@ COMMANDS = {  # how many sources each has, what reads its second word, and what 
     "check-count": (1, client.read_window, count_done),
     "check-join": (2, client.read_root, join_done),
 }
+SEVERAL = ("--statement", "--statement2")  # options that may stand several times
 LIMITS = {"--most": "bytes", "--requests": "requests", "--seconds": "seconds"}  # the options that set one
 
 
@@ -168,21 +193,65 @@ def read_words(words: List[str]) -> Words:
     given, rest = read_options(words)
     command = rest.pop(0) if rest and rest[0] in COMMANDS else "check"
     count, read, _ = COMMANDS[command]
-    if len(rest) != 2 + count or "" in rest:
+    statements = given.pop("--statement", []), given.pop("--statement2", [])
+    publishers = given.pop("--publishers", [None])[0]
+    if publishers and not statements[0] or bool(statements[1]) != (command == "check-join" and bool(statements[0])):
+        raise ValueError("--publishers goes with --statement, and --statement2 too, of the second map of a join")
+    if statements[0]:
+        rest = filled(rest, command)
+    elif "" in rest:
         raise ValueError(USAGE)
-    root, asked, sources = client.read_root(rest[0]), read(rest[1]), rest[2:]
-    for source in filter(is_address, sources):
+    if len(rest) != 2 + count:
+        raise ValueError(USAGE)
+    root, asked = rest[0] and client.read_root(rest[0]), rest[1] and read(rest[1])
+    for source in filter(is_address, rest[2:]):
         read_address(source)
-    proof = given.pop("--proof", "")
+    proof = given.pop("--proof", [""])[0]
     if proof:
-        refuse_same(proof, sources)
-    limits = {LIMITS[option]: read_number(option, word) for option, word in given.items()}
-    return Words(command, root, asked, sources, proof, Limits(**limits))
+        refuse_same(proof, [*rest[2:], *statements[0], *statements[1]])
+    limits = {LIMITS[option]: read_number(option, word) for option, (word,) in given.items()}
+    return Words(command, root or b"", asked or b"", rest[2:], proof, Limits(**limits), statements, publishers)
 
 
-def read_options(words: List[str]) -> Tuple[Dict[str, str], List[str]]:
+def filled(words: List[str], command: str) -> List[str]:
+    """The words of a command, with an empty one for each that is left out since statements say it.
+
+    >>> filled(["window:0,0,1,1"], "check"), filled(["a.map", "b.map"], "check-join")
+    (['', 'window:0,0,1,1', ''], ['', '', 'a.map', 'b.map'])
+    """
+    if command == "check-join":
+        return [""] * 4 if not words else ["", "", *words] if len(words) == 2 else words
+    more = {1: ["", *words, ""], 2: ["", *words]}.get(len(words), words)
+    return more if more[1:2] != [""] else []
+
+
+def stated(words: Words) -> Words:
+    """The words with what is left out of them, from the statements that they name. Raises Ended."""
+    names = [one for one in words.statements if one]
+    said = tuple(statement.chosen(one, words.publishers, lambda line: outputs.tell(SCRIPT, line)) for one in names)
+    digests = [words.root, words.asked if len(said) == 2 else b""]
+    roots = [client.read_root(statement.root_of(*one)) for one in zip(said, [one.hex() or None for one in digests])]
+    sources = [source or address_of(one) for source, one in zip(words.sources, said)]
+    if words.proof and words.proof in sources:
+        raise Failed("NoFile", words.proof, "it is the map's own file")
+    asked = roots[1] if len(said) == 2 else words.asked
+    return words._replace(root=roots[0], asked=asked, sources=sources, said=said)
+
+
+def address_of(said: Statement) -> str:
+    """Where the map of a statement is. Raises Ended where it says no address, or one that is none."""
+    if not said.address:
+        raise Failed("NoFile", said.name, "the statement has no address of the map: name the SOURCE")
+    found = said.where(said.address)
+    try:
+        return read_address(found).word if is_address(found) else found
+    except ValueError as fault:
+        raise Failed("NoFile", found, str(fault)) from None
+
+
+def read_options(words: List[str]) -> Tuple[Dict[str, List[str]], List[str]]:
     """The options of a command line, and its other words. Raises ValueError."""
-    given: Dict[str, str] = {}
+    given: Dict[str, List[str]] = {}
     rest: List[str] = []
     left = iter(words)
     for word in left:
@@ -190,9 +259,10 @@ def read_options(words: List[str]) -> Tuple[Dict[str, str], List[str]]:
             rest.append(word)
             continue
         value = next(left, "")
-        if word not in ("--proof", *LIMITS) or word in given or not value:
+        is_new = word not in given or word in SEVERAL
+        if word not in ("--proof", "--publishers", *SEVERAL, *LIMITS) or not is_new or not value:
             raise ValueError("%s is no option, or stands there twice, or has no value" % word)
-        given[word] = value
+        given.setdefault(word, []).append(value)
     return given, rest
 
 
@@ -239,7 +309,11 @@ def run(words: List[str]) -> Tuple[int, str]:
     except ValueError:
         return 1, "bad words\n"
     try:
-        proof, lines = COMMANDS[asked.command][2](asked, Meter(asked.limits))
+        asked = stated(asked) if asked.statements[0] else asked
+        with ExitStack() as stack:
+            for said in asked.said:
+                stack.enter_context(statement.judged(said))
+            proof, lines = COMMANDS[asked.command][2](asked, Meter(asked.limits))
         if asked.proof:
             keep(asked.proof, proof)
         return 0, "".join(line + "\n" for line in lines)
