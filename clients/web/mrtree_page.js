@@ -190,6 +190,48 @@ function at(id) {
     return document.getElementById(id);
 }
 
+/** The statement in a file that was chosen, null where none was. Throws BadStatement. */
+async function statementIn(file) {
+    if (file === undefined) {
+        return null;
+    }
+    const bytes = await file.slice(0, MOST_STATEMENT + 1).arrayBuffer();
+    return readStatement(new Uint8Array(bytes), "", file.name);
+}
+
+/** Fills the fields that a statement says, and keeps them so as long as it is there. */
+function fillBy(said) {
+    ["root", "unit"].forEach((id) => (at(id).readOnly = said !== null));
+    at("measure").disabled = said !== null;
+    at("forget").hidden = at("statement").files.length === 0;
+    if (said !== null) {
+        const measure = isInDegrees(said) ? "degrees" : said.axes === "x y" ? "units" : "metres";
+        Object.assign(at("root"), { value: said.root });
+        Object.assign(at("unit"), { value: said.unit });
+        Object.assign(at("measure"), { value: measure });
+        const url = said.address === null ? null : whereOf(said, said.address);
+        at("url").value = url ?? at("url").value;
+    }
+}
+
+/** Tells of a statement, or why it is none; what is amiss with its time in words of its own. */
+function tellStatement(said, bent) {
+    const today = new Date().toISOString().slice(0, 10);
+    const lines = bent !== null ? [`${bent.line ?? bent.message} (${bent.means ?? ""})`]
+        : said === null ? [] : [
+            `${said.map}: ${counted(said.records, "record")} at batch ${said.batch}, ` +
+                `${said.crs ?? "no coordinate system"}, from ${said.begins} until ${said.until}. ` +
+                "Who signed it is not checked here: ssh-keygen does.",
+            ...toldOfTime(said, today),
+        ];
+    at("said").replaceChildren(...lines.map((line, place) => {
+        const made = document.createElement("p");
+        made.textContent = line;
+        made.className = bent !== null || place > 0 ? "amiss" : "note";
+        return made;
+    }));
+}
+
 /** Gives out texts or bytes, one behind another, as a file. */
 function giveOut(parts, type, name) {
     const link = document.createElement("a");

@@ -281,6 +281,57 @@ function compareStatement(statement, { version, batch, count }) {
     }
 }
 
+/** What is wrong with a payload by a statement, but for its key; empty where nothing is. */
+function misfitOf({ payload: kind }, payload) {
+    if (kind === "digest" && payload.length !== 32) {
+        return "is no digest";
+    }
+    if (kind === "text" || kind === "key") {
+        try {
+            new TextDecoder("utf-8", { fatal: true }).decode(payload);
+        } catch {
+            return "is no text";
+        }
+    }
+    return kind === "none" && payload.length > 0 ? "is there, and there is to be none" : "";
+}
+
+/**
+ * Throws StatementRefused where the payload of a record is not what a statement says, or its number
+ * of no key. `digestOf` promises the SHA-256 of bytes.
+ */
+async function compareRecords(statement, records, digestOf) {
+    for (const { number, payload } of records) {
+        const words = misfitOf(statement, payload);
+        if (words !== "") {
+            const told = `the payload of record ${number} ${words}`;
+            throw new StatementRefused("OtherPayload", statement.name, told);
+        }
+        if (statement.payload === "key") {
+            const digest = await digestOf(payload);
+            if (new DataView(digest.buffer, digest.byteOffset).getBigUint64(0) !== BigInt(number)) {
+                const told = `the payload of record ${number} is not the key that its number ` +
+                    "stands for";
+                throw new StatementRefused("OtherKey", statement.name, told);
+            }
+        }
+    }
+}
+
+/** The member of GeoJSON that says a coordinate system; empty of plain longitude and latitude. */
+function crsMember(crs) {
+    if (crs === null || crs === "" || IN_DEGREES.includes(crs)) {
+        return "";
+    }
+    const name = `urn:ogc:def:crs:${crs.replace(":", "::")}`;
+    return `"crs":${JSON.stringify({ type: "name", properties: { name } })},`;
+}
+
+/** Whether a word names a coordinate system, as a statement does. */
+function isCrs(word) {
+    return isValue("crs", word);
+}
+
 /** Throws StatementRefused where a root digest, 64 digits, is one that has ended. */
 function refuseEnded({ ended, name }, root) {
     if (ended.includes(root)) {
@@ -289,6 +340,8 @@ function refuseEnded({ ended, name }, root) {
 }
 
 if (typeof module === "object") {
-    const refusals = { BadStatement, StatementRefused, compareStatement, refuseEnded };
-    module.exports = { readStatement, whereOf, isInDegrees, toldOfTime, ...refusals };
+    const refusals = { BadStatement, StatementRefused, refuseEnded };
+    const comparing = { compareStatement, compareRecords, misfitOf };
+    const said = { whereOf, isInDegrees, toldOfTime, crsMember, isCrs, STATEMENT_KEYS };
+    module.exports = { readStatement, ...said, ...comparing, ...refusals };
 }
