@@ -216,6 +216,7 @@ function fillBy(said) {
 
 /** Tells of a statement, or why it is none; what is amiss with its time in words of its own. */
 function tellStatement(said, bent) {
+    at("said").dataset.file = at("statement").files[0]?.name ?? "";
     const today = new Date().toISOString().slice(0, 10);
     const lines = bent !== null ? [`${bent.line ?? bent.message} (${bent.means ?? ""})`]
         : said === null ? [] : [
