@@ -698,13 +698,13 @@ def statement_command(given: argparse.Namespace) -> None:
     before = statement.values_of(statement.open_named(given.after, given.publishers)) if given.after else {}
     lines = lines_said(given, before, root)
     lines.update(version=str(far.head.version), batch=str(far.head.batch), records=str(far.head.count))
-    text_ = statement.text_of(lines)
     try:
-        said = statement.read_statement(text_.encode("utf-8", "surrogatepass"))
+        text_ = statement.text_of(lines)
     except statement.BadStatement as bad:
         name, _, key = bad.rule.partition(" ")
         missing = "--%s has to be given: %s" % (key, statement.KEYS.get(key, ""))
         raise Unfit(missing if name == "Missing" else bad.meaning()) from None
+    said = statement.read_statement(text_.encode("utf-8"))
     statement.compare_records(said, client.judge(far.root, SOME, [far.proof(SOME)]).records)
     write(given.OUT, [given.MAP, *filter(None, [given.after])], [text_])
     words = "root %s, version %d, batch %d, %d records"

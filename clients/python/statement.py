@@ -346,14 +346,23 @@ def spelled(statement: Statement) -> str:
     >>> spelled(read_statement(EXAMPLE)).encode() == EXAMPLE
     True
     """
-    text = text_of(values_of(statement))
-    read_statement(text.encode("utf-8", "surrogatepass"))
-    return text
+    return text_of(values_of(statement))
 
 
 def text_of(values: Dict[str, str]) -> str:
-    """The text of lines, in the order of the table, whatever they say."""
-    return "".join("%s: %s\n" % (key, values[key]) for key in KEYS if key in values)
+    """The text of lines, in the order of the table. Raises BadStatement where they make no statement.
+
+    >>> text_of({"map": "a\\nended: none"})
+    Traceback (most recent call last):
+    statement.BadStatement: bad statement 1 Form
+    """
+    lines = ["%s: %s\n" % (key, values[key]) for key in KEYS if key in values]
+    for number, line in enumerate(lines, 1):
+        if CONTROL.search(line[:-1]):
+            raise BadStatement(number, "Form")  # a value with a line end would be two lines
+    text = "".join(lines)
+    read_statement(text.encode("utf-8", "surrogatepass"))
+    return text
 
 
 # ---- a file or an address becomes a statement

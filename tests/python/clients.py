@@ -19,6 +19,7 @@ import inputs
 import mrtree_check
 import pages
 import servers
+import statements
 import tables
 import trips
 import vectors
@@ -215,6 +216,7 @@ def main(how: str, program: str) -> int:
         ("from files of publishers and back", trips.trips_hold),
         ("answers, outputs and stops", ways.ways_hold),
         ("shapes, places, keys and kinds of files", beside.beside_holds),
+        ("statements of maps", statements.statements_hold),
         ("maps asked by their pages", ask.asks_hold),
         ("maps on servers", servers.all_hold),
         ("the examples on pages", pages.pages_hold),

@@ -1,0 +1,489 @@
+"""Statements of maps: the table of them, signatures, what they are compared with, and a week of a publisher's life.
+
+The table is examples/vectors/statements.tsv: each line has the bytes of a statement and what comes of it, between tabs.
+"""
+import contextlib
+import datetime
+import functools
+import http.server
+import io
+import json
+import os
+import shutil
+import subprocess
+import threading
+import time
+from typing import Dict, Iterator, List, Optional, Tuple
+
+from bench import EXAMPLES, Bench, read, write
+from inputs import unescaped
+import draw
+import mrtree_ask
+import records
+import statement
+from statement import BadStatement, read_statement
+
+LEAST = 350  # lines of the table
+PLACES = "b136e9ea66645cc4c87feaf0addfecbc0d52bd619bc06f05e004ff35cbfaff04"
+WINDOW = "window:133700000,525100000,133800000,525200000"
+PROOF = os.path.join(EXAMPLES, "places-window.proof")
+SAMPLE = {
+    **{"map": "places of Berlin", "root": PLACES, "version": "1", "batch": "0", "records": "4", "unit": "1e-7"},
+    **{"crs": "EPSG:4326", "axes": "longitude latitude", "numbers": "keys of our register", "payload": "text name"},
+    **{"from": "2026-12-01", "until": "2036-12-01", "ended": "none"},
+}
+OTHER = "11" * 32
+
+
+def text_of(**values: Optional[str]) -> bytes:
+    """The text of the sample's statement with other values, none of those that are None."""
+    lines = {**SAMPLE, **{key.strip("_"): value for key, value in values.items()}}
+    return "".join("%s: %s\n" % line for line in lines.items() if line[1] is not None).encode()
+
+
+def put(name: str, **values: Optional[str]) -> str:
+    """Puts a statement into the folder; answers its name."""
+    write(name, text_of(**values))
+    return name
+
+
+# ---- texts
+
+
+def told_of(text: bytes) -> str:
+    """What comes of a text: what it says, as JSON, or the line of the refusal."""
+    try:
+        one = read_statement(text)
+    except BadStatement as bad:
+        assert bad.meaning() and "KEYS" not in bad.meaning() and "FORM" not in bad.meaning()
+        return str(bad)
+    names = "map root atlas version batch records unit crs axes numbers keys payload name layers shapes address"
+    values = {**one._asdict(), "batch": str(one.batch), "unit": one.unit_word, "name": one.payload_name}
+    days = {"begins": one.begins.isoformat(), "until": one.until.isoformat(), "ended": one.ended}
+    return json.dumps({**{key: values[key] for key in names.split()}, **days}, ensure_ascii=False,
+        separators=(",", ":"))
+
+
+def table_holds(bench: Bench) -> None:
+    """Each line of the table; one that is right is written again as it was, in the order of the keys."""
+    with open(os.path.join(EXAMPLES, "vectors", "statements.tsv"), "rb") as file:
+        lines = file.read().split(b"\n")
+    rows = [(at, *line.split(b"\t")) for at, line in enumerate(lines, 1) if line and line[:1] != b"#"]
+    bench.holds(len(rows) >= LEAST, "statements.tsv has %d lines" % len(rows))
+    for at, spelled, told in rows:
+        text = unescaped(spelled)
+        found = told_of(text)
+        bench.holds(found == unescaped(told).decode(), "statements.tsv line %d: %s" % (at, found))
+        if found.startswith("{"):
+            again = statement.spelled(read_statement(text)).encode()
+            bench.holds(sorted(again.split(b"\n")) == sorted(text.split(b"\n")), "line %d is written otherwise" % at)
+
+
+def large_hold(bench: Bench) -> None:
+    """Texts that are too large for a table, or would take long: each is judged within two seconds."""
+    roots = ["%064x" % number for number in range(980)]
+    layered = {"version": "2", "root": OTHER}
+    for text, meant in (
+        (text_of() + bytes(65536), "Long"),
+        (b"\n" * 65537, "bad statement 65537 Long"),
+        (b"\n" * 65536, "bad statement 1 Form"),
+        (bytes(2**24), "bad statement 1 Long"),
+        (text_of(address=":/" * 32000), "{"),
+        (text_of(address="://" * 21000), "bad statement 14 Value address"),
+        (text_of(layers="0 " + "a " * 32000 + ",", **layered), "bad statement 14 Value layers"),
+        (text_of(layers="0 a, " * 13000 + "1 b", **layered), "bad statement 14 Value layers"),
+        (text_of(unit="1" * 64000), "bad statement 6 Value unit"),
+        (text_of(batch="1" * 64000), "bad statement 4 Value batch"),
+        (text_of(ended=" ".join(roots)), "{"),
+        (text_of(ended=" ".join(roots + roots[:1])), "bad statement 13 Value ended"),
+        (text_of(map="x" * 65000), "{"),
+    ):
+        began = time.monotonic()
+        found = told_of(text)
+        is_soon = time.monotonic() - began < 2
+        bench.holds(meant in found and is_soon, "a large statement: %s, not %s" % (found[:80], meant))
+
+
+# ---- what tools do with them
+
+
+@contextlib.contextmanager
+def captured() -> Iterator[io.StringIO]:
+    """What is said on standard error meanwhile."""
+    told = io.StringIO()
+    with contextlib.redirect_stderr(told):
+        yield told
+
+
+def asked(words: List[str]) -> Tuple[int, str, str]:
+    """Status and text of mrtree_ask.py, and what it says on standard error."""
+    with captured() as told:
+        status, text = mrtree_ask.run(words)
+    return status, text, told.getvalue()
+
+
+TOOLS = ("records.py answer", "records.py answers", "draw.py", "mrtree_ask.py", "mrtree_ask.py by a map")
+
+
+def tool_says(bench: Bench, tool: str, names: List[str], more: List[str] = []) -> Tuple[int, str]:
+    """Status and what is told by a tool that judges the sample by statements."""
+    options = [word for name in names for word in ("--statement", name)] + more
+    if tool == "records.py answer":
+        found = bench.call(records, ["answer", *options, WINDOW, PROOF, "out"])
+    elif tool == "records.py answers":
+        found = bench.call(records, ["answers", *options, "script", "bundle", "out"])
+    elif tool == "draw.py":
+        found = bench.call(draw, [*options, WINDOW, PROOF, "out"])
+    else:
+        status, text, told = asked([*options, WINDOW, *(["places.map"] if "map" in tool else [])])
+        return status, text * (status != 0) + told
+    return found[0], found[1].decode()
+
+
+def sample(bench: Bench) -> None:
+    """Puts the sample's map, a script and its bundle into the folder."""
+    bench.program(["build", "places.map", os.path.join(EXAMPLES, "places.txt")])
+    write("script", (WINDOW + "\n").encode())
+    bench.program(["serve", "places.map", "script", "bundle"])
+
+
+REFUSED = (  # the values of a statement, and what each tool says of it
+    ({}, 0, ""),
+    ({"batch": "1"}, 2, "refused OtherBatch s: its batch is 1, and that of the proof is 0"),
+    ({"version": "2"}, 2, "refused OtherVersion s: its version is 2, and that of the proof is 1"),
+    ({"records": "5"}, 2, "refused OtherCount s: its count of records is 5, and that of the proof is 4"),
+    ({"root": OTHER}, 2, "refused (map page 0 )?WrongRoot|query 1 refused WrongRoot"),
+    ({"root": OTHER, "ended": PLACES}, 2, "refused EndedRoot s: it says that the root %s has ended" % PLACES),
+    ({"batch": "x"}, 2, "bad statement 4 Value batch s: batch has to be: a whole number from 0"),
+    ({"map": None}, 2, "bad statement 14 Missing map s: the line map is missing"),
+    ({"from_": "2001-01-01", "until": "2001-02-01"}, 0, "s: the next statement was to come until 2001-02-01: ask"),
+    ({"from_": "2035-01-01"}, 0, "s: it is for the time from 2035-01-01 on"),
+)
+OF_RECORDS = (  # the same where a tool sees the records
+    ({"payload": "none"}, 2, "refused OtherPayload s: the payload of record 101 is there, and there is to be none"),
+    ({"payload": "digest"}, 2, "refused OtherPayload s: the payload of record 101 is no digest"),
+    ({"payload": "key", "numbers": None, "keys": "id"}, 2,
+    "refused OtherKey s: the payload of record 101 is not the key"),
+    ({"payload": "hexadecimal"}, 0, ""),
+)
+
+
+def tools_hold(bench: Bench) -> None:
+    """The same statement in all tools comes to one end; what is refused leaves no output."""
+    sample(bench)
+    for tool in TOOLS:
+        rows = [*REFUSED, *(OF_RECORDS if tool != "draw.py" else ())]
+        for values, status, says in rows:
+            put("s", **{"address": "places.map", **values})
+            if os.path.exists("out"):
+                os.remove("out")
+            found = tool_says(bench, tool, ["s"])
+            is_said = says == "" or any(part in found[1] or rule(part, found[1]) for part in says.split("|"))
+            bench.holds(found[0] == status and is_said, "%s with %s: %s" % (tool, values, found))
+            bench.holds(status == 0 or not os.path.exists("out"), "%s with %s leaves an output" % (tool, values))
+        found = tool_says(bench, tool, ["none"])
+        is_missing = found[0] == 7 and "failed NoFile none: missing" in found[1]
+        bench.holds(is_missing, "%s without the statement: %s" % (tool, found))
+
+
+def rule(part: str, told: str) -> bool:
+    """Whether something that is told has the words of a rule, with what may stand between in brackets."""
+    return part.replace("(map page 0 )?", "map page 0 ") in told or part.replace("(map page 0 )?", "") in told
+
+
+def several_hold(bench: Bench) -> None:
+    """Of several statements the newest is taken; what others say has ended stays so."""
+    sample(bench)
+    old = put("old", root=OTHER, from_="2026-11-01", until="2026-12-01")
+    new = put("new")
+    for tool in TOOLS:
+        for names in ([old, new], [new, old], [new]):
+            put("new", address="places.map")
+            found = tool_says(bench, tool, names)
+            bench.holds(found[0] == 0 and found[1].count("was to come") == 0, "%s with %s: %s" % (tool, names, found))
+    put("old", root=OTHER, from_="2026-11-01", until="2026-12-01", ended=PLACES)
+    found = tool_says(bench, TOOLS[0], [old, new])
+    bench.holds(found[0] == 2 and "refused EndedRoot old: " in found[1], "a root that came again: %s" % (found,))
+    put("old", root=OTHER)
+    found = tool_says(bench, TOOLS[0], [old, new])
+    bench.holds(found[0] == 2 and "refused TwoRoots" in found[1], "two roots of one day: %s" % (found,))
+    answers = [["answer", PLACES, "--statement", "new", WINDOW, PROOF, "out"],
+        ["answer", OTHER, "--statement", "new", WINDOW, PROOF, "out"]]
+    put("new", ended="22" * 32)
+    answers.append(["answer", "22" * 32, "--statement", "new", WINDOW, PROOF, "out"])
+    for words, status, says in zip(answers, (0, 2, 2), ("", "refused OtherRoot new: ", "refused EndedRoot new: ")):
+        found = bench.call(records, words)
+        bench.holds(found[0] == status and says in found[1].decode(), "a root beside a statement: %s" % (found,))
+    for root, status, says in ((PLACES, 0, ""), (OTHER, 2, "refused OtherRoot"), ("22" * 32, 2, "refused EndedRoot")):
+        found = asked(["--statement", "new", root, WINDOW, "places.map"])
+        bench.holds(found[0] == status and says in found[1], "mrtree_ask.py, a root beside a statement: %s" % (found,))
+
+
+def words_hold(bench: Bench) -> None:
+    """Words that do not go with statements, and what an answer by one looks like."""
+    sample(bench)
+    put("s")
+    put("with", address="places.map")
+    for words, says in (
+        (["answer", "--statement", "s", WINDOW, "out"], "s: it has no address of the map, so PROOF has to be given"),
+        (["answer", "--statement", "s", WINDOW, PROOF, "out", "--unit", "1"], "--unit is for maps without a statement"),
+        (["answer", "--statement", "s", WINDOW, PROOF, "out", "--crs", "EPSG:1"], "--crs is for maps without"),
+        (["answer", "--statement", "s", WINDOW, PROOF, "out", "--payload", "a"], "--payload is for maps without"),
+        (["answer", "--statement", "s", WINDOW, PROOF, "out", "--digest"], "--digest is for maps without"),
+        (["answer", PLACES, WINDOW, PROOF, "out", "--unit", "1", "--publishers", "p"],
+        "--publishers is of a statement"),
+        (["answer", "--statement", "s", WINDOW, PROOF, "s"], "s is to be written, and it is read too"),
+        (["answer", PLACES, WINDOW, PROOF, "out", "--unit", "1", "--format", "kml"],
+        "--format is geojson, geojsonseq or csv"),
+        (["answer", PLACES, WINDOW, PROOF, "out", "--unit", "1", "--crs", "25833"], "--crs is an authority and a code"),
+        (["answer", "--statement", "s", "out"], "the following arguments are required"),
+        (["query", "--statement", "s", "--unit", "1", "window", "0", "0", "1", "1"], "--unit is for maps without"),
+    ):
+        found = bench.call(records, words)
+        bench.holds(found[0] == 1 and says in found[1].decode(), "%s: %s" % (words, found))
+    for words in (
+        ["--statement", "s"], ["--publishers", "p", PLACES, WINDOW, "places.map"], ["--statement2", "s", WINDOW, "m"],
+        ["--statement", "s", "check-join", "a", "b"], ["--statement", "s", "--statement2", "s", "check-join", "a"],
+        ["--statement", "s", WINDOW, "m", "m", "m"], ["--statement", "s", ""], ["--statement"],
+        ["--statement", "s", WINDOW, "places.map", "--proof", "s"],
+    ):
+        found = asked(words)
+        bench.holds(found[:2] == (1, "bad words\n"), "mrtree_ask.py %s: %s" % (words, found))
+    found = asked(["--statement", "s", WINDOW])
+    bench.holds(found[0] == 7 and "has no address of the map" in found[1],
+        "mrtree_ask.py without an address: %s" % (found,))
+    formats_hold(bench)
+
+
+def formats_hold(bench: Bench) -> None:
+    """An answer in each format, by a statement."""
+    lines = {
+        "geojson": '{"type":"FeatureCollection","crs":{"type":"name","properties":{"name":"urn:ogc:def:crs:EPSG::25833"}},'
+        '"features":[\n%s,\n%s\n]}\n',
+        "geojsonseq": "%s\n%s\n",
+        "csv": "WKT,number,name\nPOINT (13.3777 52.5163),101,Brandenburger Tor\nPOINT (13.3761 52.5186),102,Reichstag\n",
+    }
+    features = tuple(
+        '{"type":"Feature","id":%d,"properties":{"name":"%s"},"geometry":{"type":"Point","coordinates":[%s]}}' % one
+        for one in ((101, "Brandenburger Tor", "13.3777,52.5163"), (102, "Reichstag", "13.3761,52.5186"))
+    )
+    put("grid", crs="EPSG:25833", axes="east north", address="places.map")
+    for form, text in lines.items():
+        found = bench.call(records, ["answer", "--statement", "grid", WINDOW, "out", "--format", form])
+        wrote = text % features if "%s" in text else text
+        bench.holds(found[0] == 0 and read("out").decode() == wrote, "%s: %s" % (form, read("out")))
+        is_told = b"says no coordinate system; it is EPSG:25833" in found[1]
+        bench.holds(is_told == (form != "geojson"), "%s: %s" % (form, found))
+    put("none", crs="none", axes="x y", address="places.map")
+    found = bench.call(records, ["answer", "--statement", "none", WINDOW, "out"])
+    bench.holds(b"GeoJSON is taken for degrees" in found[1] and b'"crs"' not in read("out"), "without a system: %s" % (found,))
+    for unit, crs, is_told in (("1e-6", [], True), ("1e-7", [], False), ("0.01", [], False), ("1e-6", ["EPSG:3857"], False),
+                               ("1", ["EPSG:4326"], True)):
+        more = ["--crs", *crs] if crs else []
+        found = bench.call(records, ["answer", PLACES, WINDOW, PROOF, "out", "--unit", unit, *more])
+        bench.holds((b"no latitude is above 90" in found[1]) == is_told, "latitudes with %s %s: %s" % (unit, crs, found))
+
+
+# ---- signatures
+
+
+def key(name: str) -> str:
+    """A key of its own; answers its public half."""
+    run(["ssh-keygen", "-q", "-t", "ed25519", "-N", "", "-C", name, "-f", name])
+    return read(name + ".pub").decode().strip()
+
+
+def sign(name: str, by: str, namespace: str = "map") -> None:
+    """Signs a file."""
+    if os.path.exists(name + ".sig"):
+        os.remove(name + ".sig")
+    run(["ssh-keygen", "-q", "-Y", "sign", "-f", by, "-n", namespace, name])
+
+
+def run(words: List[str], **how) -> None:
+    """Runs what has to go well."""
+    subprocess.run(words, check=True, stdout=subprocess.DEVNULL, stderr=subprocess.DEVNULL, **how)
+
+
+class Quiet(http.server.SimpleHTTPRequestHandler):
+    """A server of files that gives no ranges."""
+
+    def log_message(self, *words) -> None:
+        """Says nothing."""
+
+
+@contextlib.contextmanager
+def served() -> Iterator[str]:
+    """The address of this folder on a server."""
+    handler = functools.partial(Quiet, directory=os.getcwd())
+    server = http.server.ThreadingHTTPServer(("127.0.0.1", 0), handler)
+    threading.Thread(target=server.serve_forever, daemon=True).start()
+    try:
+        yield "http://127.0.0.1:%d/" % server.server_port
+    finally:
+        server.shutdown()
+        server.server_close()
+
+
+def signatures_hold(bench: Bench) -> None:
+    """With publishers, the signature beside a statement is checked first."""
+    if not shutil.which("ssh-keygen"):
+        bench.skip("signatures of statements: there is no ssh-keygen")
+        return
+    sample(bench)
+    ours, others = key("maps@example.org"), key("other")
+    write("publishers", ("maps@example.org %s\n" % ours).encode())
+    write("pattern", ("# ours\n*@example.org,!x@example.org namespaces=\"map\" %s\nother@example.com %s\n" % (ours, ours)).encode())
+    write("expired", ("maps@example.org valid-before=\"20200101\" %s\n" % ours).encode())
+    write("file-only", ("maps@example.org namespaces=\"file\" %s\n" % ours).encode())
+    write("empty", b"")
+    write("garbage", b"\0\xff" * 100)
+    put("s", address="places.map")
+    sign("s", "maps@example.org")
+    right = read("s.sig")
+    put("foreign", address="places.map")
+    sign("foreign", "other")
+    put("unsigned", address="places.map")
+    put("otherspace", address="places.map")
+    sign("otherspace", "maps@example.org", "file")
+    for name, signature in (("changed", right), ("cut", right[:100]), ("nothing", b""), ("zeros", bytes(300)), ("long", right + b"x" * 70000)):
+        put(name, address="places.map", **({"map": "another"} if name == "changed" else {}))
+        write(name + ".sig", signature)
+    put("bent", batch="x")
+    sign("bent", "maps@example.org")
+    rows = [
+        ("s", "publishers", 0, ""), ("s", "pattern", 0, ""),
+        ("s", "expired", 2, "refused OtherPublisher s: it is signed by a key of nobody in expired"),
+        ("s", "file-only", 2, "refused BadSignature s"), ("s", "empty", 2, "refused OtherPublisher s"),
+        ("s", "garbage", 2, "refused OtherPublisher s"), ("s", "nopublishers", 7, "failed NoFile nopublishers: missing"),
+        ("foreign", "publishers", 2, "refused OtherPublisher foreign"),
+        ("unsigned", "publishers", 2, "refused NoSignature unsigned: there is no unsigned.sig"),
+        ("otherspace", "publishers", 2, "refused BadSignature otherspace"),
+        *((name, "publishers", 2, "refused BadSignature " + name) for name in ("changed", "cut", "zeros")),
+        ("nothing", "publishers", 2, "refused NoSignature nothing"), ("long", "publishers", 0, ""),
+        ("bent", "publishers", 2, "bad statement 4 Value batch bent"),
+        ("-", "publishers", 2, "refused NoSignature -"),
+    ]
+    for name, publishers, status, says in rows:
+        if name == "-":
+            with open("s", "rb") as file:
+                ended = bench.told("records.py", ["answer", "--statement", "-", "--publishers", publishers, WINDOW, PROOF, "out"], stdin=file)
+            found = ended[0], ended[1].decode()
+        else:
+            found = tool_says(bench, TOOLS[0], [name], ["--publishers", publishers])
+        bench.holds(found[0] == status and says in found[1], "%s by %s: %s" % (name, publishers, found))
+    for tool in TOOLS[1:]:
+        for name, status, says in (("s", 0, ""), ("changed", 2, "refused BadSignature changed"), ("unsigned", 2, "refused NoSignature")):
+            found = tool_says(bench, tool, [name], ["--publishers", "publishers"])
+            bench.holds(found[0] == status and says in found[1], "%s with %s: %s" % (tool, name, found))
+    addresses_hold(bench)
+
+
+def addresses_hold(bench: Bench) -> None:
+    """The same of statements at addresses, on a server that gives whole files alone."""
+    with served() as url:
+        for name, status, says in (
+            ("s", 0, ""), ("changed", 2, "refused BadSignature"), ("unsigned", 2, "refused NoSignature"),
+            ("nosuch", 7, "failed Status"), ("bent", 2, "bad statement 4 Value batch"),
+        ):
+            found = tool_says(bench, TOOLS[0], [url + name], ["--publishers", "publishers"])
+            bench.holds(found[0] == status and says in found[1], "%s at an address: %s" % (name, found))
+        put("relative", address="places.map")
+        said = statement.open_statement(url + "relative")
+        bench.holds(said.where(said.address or "") == url + "places.map", "where the map of a statement is")
+        write("huge", b"map: " + b"a" * 10**6)
+        found = tool_says(bench, TOOLS[0], [url + "huge"])
+        bench.holds(found[0] == 2 and "bad statement 1 Long" in found[1], "a long one at an address: %s" % (found,))
+    for name in ("http://", "ftp://a/b", "http://u:p@a/b", "http://a\u00e4/"):
+        found = tool_says(bench, TOOLS[0], [name])
+        bench.holds(found[0] == 7 and "failed NoFile" in found[1], "%s: %s" % (name, found))
+
+
+# ---- what a publisher writes
+
+
+def written_hold(bench: Bench) -> None:
+    """What `records.py statement` writes, and what it refuses."""
+    sample(bench)
+    right = {"--map": "places", "--unit": "1e-7", "--crs": "EPSG:4326", "--axes": "longitude latitude", "--numbers": "keys",
+             "--payload": "name", "--until": "2036-12-01", "--from": "2026-12-01"}
+    for change, status, says in (
+        ({}, 0, "records.py: root %s, version 1, batch 0, 4 records\n" % PLACES),
+        ({"--map": None}, 1, "--map has to be given: words that say what the map is"),
+        ({"--unit": None}, 1, "--unit has to be given"), ({"--crs": None}, 1, "--crs has to be given"),
+        ({"--axes": None}, 1, "--axes has to be given"), ({"--numbers": None}, 1, "--numbers has to be given"),
+        ({"--until": None}, 1, "--until has to be given: a day, as 2026-12-31"), ({"--from": None}, 0, ""),
+        ({"--until": "tomorrow"}, 1, "until has to be: a day"), ({"--until": "2026-11-30"}, 1, "from and until do not go"),
+        ({"--crs": "WGS84"}, 1, "--crs is an authority and a code"), ({"--axes": "lat lon"}, 1, "axes has to be: longitude"),
+        ({"--crs": "EPSG:4326", "--axes": "x y"}, 1, "the lines crs and axes do not go together"),
+        ({"--map": "a\nb: c"}, 1, "a line is a key"), ({"--map": "a\natlas: yes"}, 1, "a line is a key"), ({"--map": " a"}, 1, "a line is a key"), ({"--map": "\udcff"}, 1, "not UTF-8"),
+        ({"--layers": "0 a"}, 1, "the lines version and layers do not go together"),
+        ({"--ended": OTHER}, 0, ""), ({"--ended": "x"}, 1, "ended has to be: none, or root digests"),
+        ({"--payload": None}, 2, "refused OtherPayload statement: the payload of record 10"),
+        ({"--payload": None, "--hexadecimal": ""}, 0, ""), ({"--hexadecimal": ""}, 1, "say different things of the payloads"),
+        ({"--payload": None, "--digest": ""}, 2, "refused OtherPayload"),
+        ({"--payload": None, "--numbers": None, "--key": "id"}, 2, "refused OtherKey"),
+        ({"--shapes": "a.geojson"}, 1, "the lines payload and shapes do not go together"),
+        ({"--address": "ftp://a/b"}, 1, "address has to be: the name of a file"), ({"--address": "a b.map"}, 0, ""),
+    ):
+        options = {option: value for option, value in {**right, **change}.items() if value is not None}
+        words = [word for option, value in options.items() for word in ([option, value] if value else [option])]
+        write("out", b"old")
+        found = bench.call(records, ["statement", "places.map", "out", *words])
+        bench.holds(found[0] == status and says in found[1].decode(), "%s: %s" % (change, found))
+        is_written = read("out") != b"old"
+        bench.holds(is_written == (status == 0), "%s: an output is %s" % (change, "there" if is_written else "missing"))
+        if status == 0:
+            one = read_statement(read("out"))
+            bench.holds((one.root, one.version, one.batch, one.records) == (PLACES, 1, 0, 4), "what is read from the map")
+    for name, status, says in (("none", 7, "failed NoFile none: missing"), (PROOF, 2, "refused map page 0 Size"), ("script", 2, "Size")):
+        found = bench.call(records, ["statement", name, "out", *words])
+        bench.holds(found[0] == status and says in found[1].decode(), "the statement of %s: %s" % (name, found))
+
+
+def week_holds(bench: Bench) -> None:
+    """A week: a map with layers is published, signed and changed; an old statement, an ended root, a lost statement."""
+    write("monday.txt", b"1 10 10 10 10 0 61\n2 20 20 20 20 1 62\n")
+    first = bench.program(["build2", "monday.map", "monday.txt"])[1].decode().strip()
+    today = datetime.datetime.now(datetime.timezone.utc).date()
+    days = [(today + datetime.timedelta(days)).isoformat() for days in (-7, 0, 7)]
+    words = {"--map": "a week", "--unit": "0.01", "--crs": "EPSG:25833", "--axes": "east north", "--numbers": "keys of ours",
+             "--payload": "name", "--layers": "0 houses, 1 roads", "--address": "monday.map", "--from": days[0], "--until": days[1]}
+    options = [word for one in words.items() for word in one]
+    bench.call(records, ["statement", "monday.map", "monday.statement", *options])
+    write("batch", b"batch 1\n- 2\n+ 3 30 30 30 30 1 63\n")
+    second = bench.program(["apply", "monday.map", "batch", "sunday.map"])[1].decode().strip()
+    more = ["--after", "monday.statement", "--from", days[1], "--until", days[2], "--address", "sunday.map"]
+    bench.call(records, ["statement", "sunday.map", "sunday.statement", *more])
+    old, new = read_statement(read("monday.statement")), read_statement(read("sunday.statement"))
+    bench.holds((old.root, old.batch, new.root, new.batch) == (first, 0, second, 1), "the roots of a week")
+    bench.holds(new.ended == (first,) and new.layers == {0: "houses", 1: "roads"}, "what has ended: %s" % (new,))
+    everything = "window:0,0,100,100"
+    for names, status, text in (
+        (["sunday.statement"], 0, '"layer":"roads","name":"c"'), (["monday.statement"], 0, '"layer":"roads","name":"b"'),
+        (["monday.statement", "sunday.statement"], 0, '"layer":"roads","name":"c"'),
+    ):
+        options = [word for name in names for word in ("--statement", name)]
+        found = bench.call(records, ["answer", *options, everything, "out"])
+        bench.holds(found[0] == status and text in read("out").decode(), "an answer by %s: %s" % (names, found))
+    found = bench.call(records, ["answer", "--statement", "sunday.statement", everything, "monday.map", "out"])
+    bench.holds(found[0] == 2 and b"refused EndedRoot sunday.statement" in found[1], "a server with the old map: %s" % (found,))
+    found = bench.call(records, ["answer", "--statement", "monday.statement", everything, "sunday.map", "out"])
+    bench.holds(found[0] == 2 and b"refused map page 0 WrongRoot" in found[1], "an old statement, a new map: %s" % (found,))
+    os.remove("sunday.statement")
+    found = bench.call(records, ["answer", "--statement", "sunday.statement", everything, "out"])
+    bench.holds(found[0] == 7 and b"failed NoFile sunday.statement: missing" in found[1], "a lost statement: %s" % (found,))
+    bench.call(records, ["statement", "sunday.map", "again.statement", *more])
+    again = read_statement(read("again.statement"), name="statement")
+    bench.holds(again == new, "a statement that was lost is written again")
+    found = bench.call(records, ["statement", "sunday.map", "longer.statement", "--after", "again.statement", "--until", days[2]])
+    longer = read_statement(read("longer.statement"))
+    bench.holds(found[0] == 0 and longer.ended == (first,) and longer.root == second, "the same root for longer: %s" % (found,))
+
+
+def statements_hold(bench: Bench) -> None:
+    """All of it, each in an empty folder."""
+    for part in (table_holds, large_hold, tools_hold, several_hold, words_hold, signatures_hold, written_hold, week_holds):
+        for name in os.listdir("."):
+            (shutil.rmtree if os.path.isdir(name) else os.remove)(name)
+        part(bench)
