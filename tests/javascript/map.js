@@ -652,7 +652,8 @@ async function main([name, nginx, folder]) {
     const room = fs.mkdtempSync(path.join(os.tmpdir(), "web-map-"));
     const [maps, pages] = [await new Server().start(), await new Server().start()];
     maps.headers = { "access-control-allow-origin": "*" };
-    for (const file of ["map.html", "mrtree_check.js", "mrtree_ask.js", "mrtree_page.js"]) {
+    const scripts = ["check", "ask", "statement", "page"].map((part) => `mrtree_${part}.js`);
+    for (const file of ["map.html", ...scripts]) {
         pages.put(file, fs.readFileSync(path.join(WEB, file)));
     }
     pages.headers = { "content-type": "text/html; charset=utf-8" };

@@ -15,6 +15,7 @@ import beside
 import chances
 import foretold
 import formats
+import gis
 import inputs
 import mrtree_check
 import pages
@@ -217,6 +218,7 @@ def main(how: str, program: str) -> int:
         ("answers, outputs and stops", ways.ways_hold),
         ("shapes, places, keys and kinds of files", beside.beside_holds),
         ("statements of maps", statements.statements_hold),
+        ("round trips with GDAL", gis.gis_hold),
         ("maps asked by their pages", ask.asks_hold),
         ("maps on servers", servers.all_hold),
         ("the examples on pages", pages.pages_hold),

@@ -257,11 +257,12 @@ def words_hold(bench: Bench) -> None:
 
 def formats_hold(bench: Bench) -> None:
     """An answer in each format, by a statement."""
+    crs = '"crs":{"type":"name","properties":{"name":"urn:ogc:def:crs:EPSG::25833"}}'
+    points = "POINT (13.3777 52.5163),101,Brandenburger Tor\nPOINT (13.3761 52.5186),102,Reichstag\n"
     lines = {
-        "geojson": '{"type":"FeatureCollection","crs":{"type":"name","properties":{"name":"urn:ogc:def:crs:EPSG::25833"}},'
-        '"features":[\n%s,\n%s\n]}\n',
+        "geojson": '{"type":"FeatureCollection",' + crs + ',"features":[\n%s,\n%s\n]}\n',
         "geojsonseq": "%s\n%s\n",
-        "csv": "WKT,number,name\nPOINT (13.3777 52.5163),101,Brandenburger Tor\nPOINT (13.3761 52.5186),102,Reichstag\n",
+        "csv": "WKT,number,name\n" + points,
     }
     features = tuple(
         '{"type":"Feature","id":%d,"properties":{"name":"%s"},"geometry":{"type":"Point","coordinates":[%s]}}' % one
@@ -276,12 +277,15 @@ def formats_hold(bench: Bench) -> None:
         bench.holds(is_told == (form != "geojson"), "%s: %s" % (form, found))
     put("none", crs="none", axes="x y", address="places.map")
     found = bench.call(records, ["answer", "--statement", "none", WINDOW, "out"])
-    bench.holds(b"GeoJSON is taken for degrees" in found[1] and b'"crs"' not in read("out"), "without a system: %s" % (found,))
-    for unit, crs, is_told in (("1e-6", [], True), ("1e-7", [], False), ("0.01", [], False), ("1e-6", ["EPSG:3857"], False),
+    bench.holds(b"GeoJSON is taken for degrees" in found[1] and b'"crs"' not in read("out"),
+        "without a system: %s" % (found,))
+    for unit, crs, is_told in (("1e-6", [], True), ("1e-7", [], False), ("0.01", [], False),
+        ("1e-6", ["EPSG:3857"], False),
                                ("1", ["EPSG:4326"], True)):
         more = ["--crs", *crs] if crs else []
         found = bench.call(records, ["answer", PLACES, WINDOW, PROOF, "out", "--unit", unit, *more])
-        bench.holds((b"no latitude is above 90" in found[1]) == is_told, "latitudes with %s %s: %s" % (unit, crs, found))
+        bench.holds((b"no latitude is above 90" in found[1]) == is_told,
+            "latitudes with %s %s: %s" % (unit, crs, found))
 
 
 # ---- signatures
@@ -333,7 +337,8 @@ def signatures_hold(bench: Bench) -> None:
     sample(bench)
     ours, others = key("maps@example.org"), key("other")
     write("publishers", ("maps@example.org %s\n" % ours).encode())
-    write("pattern", ("# ours\n*@example.org,!x@example.org namespaces=\"map\" %s\nother@example.com %s\n" % (ours, ours)).encode())
+    pattern = "# ours\n*@example.org,!x@example.org namespaces=\"map\" %s\nother@example.com %s\n"
+    write("pattern", (pattern % (ours, ours)).encode())
     write("expired", ("maps@example.org valid-before=\"20200101\" %s\n" % ours).encode())
     write("file-only", ("maps@example.org namespaces=\"file\" %s\n" % ours).encode())
     write("empty", b"")
@@ -346,7 +351,8 @@ def signatures_hold(bench: Bench) -> None:
     put("unsigned", address="places.map")
     put("otherspace", address="places.map")
     sign("otherspace", "maps@example.org", "file")
-    for name, signature in (("changed", right), ("cut", right[:100]), ("nothing", b""), ("zeros", bytes(300)), ("long", right + b"x" * 70000)):
+    for name, signature in (("changed", right), ("cut", right[:100]), ("nothing", b""), ("zeros", bytes(300)),
+        ("long", right + b"x" * 70000)):
         put(name, address="places.map", **({"map": "another"} if name == "changed" else {}))
         write(name + ".sig", signature)
     put("bent", batch="x")
@@ -355,7 +361,8 @@ def signatures_hold(bench: Bench) -> None:
         ("s", "publishers", 0, ""), ("s", "pattern", 0, ""),
         ("s", "expired", 2, "refused OtherPublisher s: it is signed by a key of nobody in expired"),
         ("s", "file-only", 2, "refused BadSignature s"), ("s", "empty", 2, "refused OtherPublisher s"),
-        ("s", "garbage", 2, "refused OtherPublisher s"), ("s", "nopublishers", 7, "failed NoFile nopublishers: missing"),
+        ("s", "garbage", 2, "refused OtherPublisher s"),
+        ("s", "nopublishers", 7, "failed NoFile nopublishers: missing"),
         ("foreign", "publishers", 2, "refused OtherPublisher foreign"),
         ("unsigned", "publishers", 2, "refused NoSignature unsigned: there is no unsigned.sig"),
         ("otherspace", "publishers", 2, "refused BadSignature otherspace"),
@@ -367,13 +374,15 @@ def signatures_hold(bench: Bench) -> None:
     for name, publishers, status, says in rows:
         if name == "-":
             with open("s", "rb") as file:
-                ended = bench.told("records.py", ["answer", "--statement", "-", "--publishers", publishers, WINDOW, PROOF, "out"], stdin=file)
+                ended = bench.told("records.py", ["answer", "--statement", "-", "--publishers", publishers, WINDOW,
+                    PROOF, "out"], stdin=file)
             found = ended[0], ended[1].decode()
         else:
             found = tool_says(bench, TOOLS[0], [name], ["--publishers", publishers])
         bench.holds(found[0] == status and says in found[1], "%s by %s: %s" % (name, publishers, found))
     for tool in TOOLS[1:]:
-        for name, status, says in (("s", 0, ""), ("changed", 2, "refused BadSignature changed"), ("unsigned", 2, "refused NoSignature")):
+        for name, status, says in (("s", 0, ""), ("changed", 2, "refused BadSignature changed"),
+            ("unsigned", 2, "refused NoSignature")):
             found = tool_says(bench, tool, [name], ["--publishers", "publishers"])
             bench.holds(found[0] == status and says in found[1], "%s with %s: %s" % (tool, name, found))
     addresses_hold(bench)
@@ -405,7 +414,8 @@ def addresses_hold(bench: Bench) -> None:
 def written_hold(bench: Bench) -> None:
     """What `records.py statement` writes, and what it refuses."""
     sample(bench)
-    right = {"--map": "places", "--unit": "1e-7", "--crs": "EPSG:4326", "--axes": "longitude latitude", "--numbers": "keys",
+    right = {"--map": "places", "--unit": "1e-7", "--crs": "EPSG:4326", "--axes": "longitude latitude",
+        "--numbers": "keys",
              "--payload": "name", "--until": "2036-12-01", "--from": "2026-12-01"}
     for change, status, says in (
         ({}, 0, "records.py: root %s, version 1, batch 0, 4 records\n" % PLACES),
@@ -413,14 +423,18 @@ def written_hold(bench: Bench) -> None:
         ({"--unit": None}, 1, "--unit has to be given"), ({"--crs": None}, 1, "--crs has to be given"),
         ({"--axes": None}, 1, "--axes has to be given"), ({"--numbers": None}, 1, "--numbers has to be given"),
         ({"--until": None}, 1, "--until has to be given: a day, as 2026-12-31"), ({"--from": None}, 0, ""),
-        ({"--until": "tomorrow"}, 1, "until has to be: a day"), ({"--until": "2026-11-30"}, 1, "from and until do not go"),
-        ({"--crs": "WGS84"}, 1, "--crs is an authority and a code"), ({"--axes": "lat lon"}, 1, "axes has to be: longitude"),
+        ({"--until": "tomorrow"}, 1, "until has to be: a day"),
+        ({"--until": "2026-11-30"}, 1, "from and until do not go"),
+        ({"--crs": "WGS84"}, 1, "--crs is an authority and a code"),
+        ({"--axes": "lat lon"}, 1, "axes has to be: longitude"),
         ({"--crs": "EPSG:4326", "--axes": "x y"}, 1, "the lines crs and axes do not go together"),
-        ({"--map": "a\nb: c"}, 1, "a line is a key"), ({"--map": "a\natlas: yes"}, 1, "a line is a key"), ({"--map": " a"}, 1, "a line is a key"), ({"--map": "\udcff"}, 1, "not UTF-8"),
+        ({"--map": "a\nb: c"}, 1, "a line is a key"), ({"--map": "a\natlas: yes"}, 1, "a line is a key"),
+        ({"--map": " a"}, 1, "a line is a key"), ({"--map": "\udcff"}, 1, "not UTF-8"),
         ({"--layers": "0 a"}, 1, "the lines version and layers do not go together"),
         ({"--ended": OTHER}, 0, ""), ({"--ended": "x"}, 1, "ended has to be: none, or root digests"),
         ({"--payload": None}, 2, "refused OtherPayload statement: the payload of record 10"),
-        ({"--payload": None, "--hexadecimal": ""}, 0, ""), ({"--hexadecimal": ""}, 1, "say different things of the payloads"),
+        ({"--payload": None, "--hexadecimal": ""}, 0, ""),
+        ({"--hexadecimal": ""}, 1, "say different things of the payloads"),
         ({"--payload": None, "--digest": ""}, 2, "refused OtherPayload"),
         ({"--payload": None, "--numbers": None, "--key": "id"}, 2, "refused OtherKey"),
         ({"--shapes": "a.geojson"}, 1, "the lines payload and shapes do not go together"),
@@ -435,8 +449,10 @@ def written_hold(bench: Bench) -> None:
         bench.holds(is_written == (status == 0), "%s: an output is %s" % (change, "there" if is_written else "missing"))
         if status == 0:
             one = read_statement(read("out"))
-            bench.holds((one.root, one.version, one.batch, one.records) == (PLACES, 1, 0, 4), "what is read from the map")
-    for name, status, says in (("none", 7, "failed NoFile none: missing"), (PROOF, 2, "refused map page 0 Size"), ("script", 2, "Size")):
+            bench.holds((one.root, one.version, one.batch, one.records) == (PLACES, 1, 0, 4),
+                "what is read from the map")
+    for name, status, says in (("none", 7, "failed NoFile none: missing"), (PROOF, 2, "refused map page 0 Size"),
+        ("script", 2, "Size")):
         found = bench.call(records, ["statement", name, "out", *words])
         bench.holds(found[0] == status and says in found[1].decode(), "the statement of %s: %s" % (name, found))
 
@@ -447,8 +463,10 @@ def week_holds(bench: Bench) -> None:
     first = bench.program(["build2", "monday.map", "monday.txt"])[1].decode().strip()
     today = datetime.datetime.now(datetime.timezone.utc).date()
     days = [(today + datetime.timedelta(days)).isoformat() for days in (-7, 0, 7)]
-    words = {"--map": "a week", "--unit": "0.01", "--crs": "EPSG:25833", "--axes": "east north", "--numbers": "keys of ours",
-             "--payload": "name", "--layers": "0 houses, 1 roads", "--address": "monday.map", "--from": days[0], "--until": days[1]}
+    words = {"--map": "a week", "--unit": "0.01", "--crs": "EPSG:25833", "--axes": "east north",
+        "--numbers": "keys of ours",
+             "--payload": "name", "--layers": "0 houses, 1 roads", "--address": "monday.map", "--from": days[0],
+                 "--until": days[1]}
     options = [word for one in words.items() for word in one]
     bench.call(records, ["statement", "monday.map", "monday.statement", *options])
     write("batch", b"batch 1\n- 2\n+ 3 30 30 30 30 1 63\n")
@@ -460,30 +478,37 @@ def week_holds(bench: Bench) -> None:
     bench.holds(new.ended == (first,) and new.layers == {0: "houses", 1: "roads"}, "what has ended: %s" % (new,))
     everything = "window:0,0,100,100"
     for names, status, text in (
-        (["sunday.statement"], 0, '"layer":"roads","name":"c"'), (["monday.statement"], 0, '"layer":"roads","name":"b"'),
+        (["sunday.statement"], 0, '"layer":"roads","name":"c"'),
+        (["monday.statement"], 0, '"layer":"roads","name":"b"'),
         (["monday.statement", "sunday.statement"], 0, '"layer":"roads","name":"c"'),
     ):
         options = [word for name in names for word in ("--statement", name)]
         found = bench.call(records, ["answer", *options, everything, "out"])
         bench.holds(found[0] == status and text in read("out").decode(), "an answer by %s: %s" % (names, found))
     found = bench.call(records, ["answer", "--statement", "sunday.statement", everything, "monday.map", "out"])
-    bench.holds(found[0] == 2 and b"refused EndedRoot sunday.statement" in found[1], "a server with the old map: %s" % (found,))
+    bench.holds(found[0] == 2 and b"refused EndedRoot sunday.statement" in found[1],
+        "a server with the old map: %s" % (found,))
     found = bench.call(records, ["answer", "--statement", "monday.statement", everything, "sunday.map", "out"])
-    bench.holds(found[0] == 2 and b"refused map page 0 WrongRoot" in found[1], "an old statement, a new map: %s" % (found,))
+    bench.holds(found[0] == 2 and b"refused map page 0 WrongRoot" in found[1],
+        "an old statement, a new map: %s" % (found,))
     os.remove("sunday.statement")
     found = bench.call(records, ["answer", "--statement", "sunday.statement", everything, "out"])
-    bench.holds(found[0] == 7 and b"failed NoFile sunday.statement: missing" in found[1], "a lost statement: %s" % (found,))
+    bench.holds(found[0] == 7 and b"failed NoFile sunday.statement: missing" in found[1],
+        "a lost statement: %s" % (found,))
     bench.call(records, ["statement", "sunday.map", "again.statement", *more])
     again = read_statement(read("again.statement"), name="statement")
     bench.holds(again == new, "a statement that was lost is written again")
-    found = bench.call(records, ["statement", "sunday.map", "longer.statement", "--after", "again.statement", "--until", days[2]])
+    found = bench.call(records, ["statement", "sunday.map", "longer.statement", "--after", "again.statement",
+        "--until", days[2]])
     longer = read_statement(read("longer.statement"))
-    bench.holds(found[0] == 0 and longer.ended == (first,) and longer.root == second, "the same root for longer: %s" % (found,))
+    bench.holds(found[0] == 0 and longer.ended == (first,) and longer.root == second,
+        "the same root for longer: %s" % (found,))
 
 
 def statements_hold(bench: Bench) -> None:
     """All of it, each in an empty folder."""
-    for part in (table_holds, large_hold, tools_hold, several_hold, words_hold, signatures_hold, written_hold, week_holds):
+    for part in (table_holds, large_hold, tools_hold, several_hold, words_hold, signatures_hold, written_hold,
+        week_holds):
         for name in os.listdir("."):
             (shutil.rmtree if os.path.isdir(name) else os.remove)(name)
         part(bench)
