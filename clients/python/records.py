@@ -86,7 +86,7 @@ HELP = """--unit: a map unit in the file's unit, as 1e-7 of a degree, or 1 metre
 --key: the property or column of the key, a text from whose SHA-256 the number is made
 --payload: the property or column of the payload, which else is the key, or none
 --layer: the layer of all records, from 0 to 63, or the property or column that has it; of an answer the one that gets it
---layers: a file of the numbers that names of layers have: on each line a number, a space and a name
+--layers: a file with a number and a name on each line, the layers of names; of a statement also: 0 buildings, 1 roads
 --digest: the payload is the SHA-256 of the feature's canonical bytes, by RFC 8785
 --shapes: of a map made with --digest, the file that has the features, or its address if an index stands beside it
 --shapes-to: a file that is to have the features, with --digest; beside it stands an index, FILE.index
@@ -99,7 +99,7 @@ HELP = """--unit: a map unit in the file's unit, as 1e-7 of a degree, or 1 metre
 --skip-empty: leaves out features without geometry, and counts them
 --most: the most bytes of a proof, a bundle or a map that are read
 --format: how the answer is written: geojson, or geojsonseq (a feature on each line), or csv (with well-known text)
---crs: the coordinate system of the map, as EPSG:25833
+--crs: the coordinate system of the map, as EPSG:25833; one that a GeoJSON file says is compared
 --statement: the publisher's statement of the map, a file or an address; of several the newest is taken
 --publishers: a file of publishers (ssh-keygen's allowed signers), one of whom has to have signed the statement
 --map: words that say what the map is
@@ -415,19 +415,29 @@ def merged(answers: Iterable[Tuple[int, List[Record]]]) -> Iterator[Tuple[Record
 # ---- what is told of it
 
 
-def extent(records: Iterable[Record], grid: Grid) -> str:
-    """How many records there are, and where they lie in the file's unit.
+Bounds = Tuple[int, Optional[client.Rect]]  # how many records there are, and the rectangle round them
 
-    >>> extent([Record(7, (15, 20, 15, 20), b""), Record(8, (0, -5, 9, 9), b"")], Grid(Decimal("0.1")))
-    '2 records from 0 -0.5 to 1.5 2'
-    """
+
+def bounds(records: Iterable[Record]) -> Bounds:
+    """How many records there are, and the rectangle round them."""
     rects, count = [], 0
     for record in records:
         count += 1
         rects.append(record.rect)
         if len(rects) == 1024:
             rects = [around(rects)]
-    ends = "" if not rects else " from %s %s to %s %s" % tuple(map(grid.in_file, around(rects)))
+    return count, around(rects) if rects else None
+
+
+def extent(found: Bounds, grid: Grid) -> str:
+    """How many records there are, and where they lie in the file's unit.
+
+    >>> some = [Record(7, (15, 20, 15, 20), b""), Record(8, (0, -5, 9, 9), b"")]
+    >>> extent(bounds(some), Grid(Decimal("0.1")))
+    '2 records from 0 -0.5 to 1.5 2'
+    """
+    count, rect = found
+    ends = " from %s %s to %s %s" % tuple(map(grid.in_file, rect)) if rect else ""
     return "%d record%s%s" % (count, "" if count == 1 else "s", ends)
 
 
@@ -437,10 +447,9 @@ def around(rects: List[client.Rect]) -> client.Rect:
     return min(x0s), min(y0s), max(x1s), max(y1s)
 
 
-def tell_latitudes(records: Iterable[Record], grid: Grid, is_degrees: bool) -> None:
+def tell_latitudes(rect: Optional[client.Rect], grid: Grid, is_degrees: bool) -> None:
     """Says on standard error where records of a map in degrees lie beyond the poles, as by a wrong unit."""
-    sides = [side for record in records for side in record.rect[1::2]] if is_degrees else []
-    worst = max(map(grid.in_file, (min(sides), max(sides))), key=lambda side: abs(Decimal(side))) if sides else "0"
+    worst = grid.in_file(max(rect[1::2], key=abs)) if rect and is_degrees else "0"
     if abs(Decimal(worst)) > 90:
         words = "no latitude is above 90 or below -90, and there is %s: is a map unit %s degrees, and y the latitude?"
         outputs.tell(SCRIPT, words % (worst, str(grid.unit).lower()))
@@ -451,10 +460,21 @@ def looks_like_degrees(grid: Grid, crs: Optional[str]) -> bool:
     return crs in statement.DEGREES if crs else grid.unit <= MOST_OF_DEGREES
 
 
-def tell_state(state: State) -> None:
+def refuse_other_system(given: argparse.Namespace, reading: sources.Reading) -> None:
+    """Raises Unfit where a GeoJSON text says another coordinate system than --crs; tells where it goes with no unit."""
+    said, meant = reading.crs, given.crs
+    if said and meant and said != meant and not {said, meant} <= set(statement.DEGREES):
+        raise Unfit("%s: it says that it is in %s, and --crs is %s" % (reading.name, clipped(said), meant))
+    if said and not meant and said not in statement.DEGREES and reading.options.grid.unit <= MOST_OF_DEGREES:
+        words = "%s says that it is in %s: is a map unit %s of that? (--crs %s says that it is so)"
+        outputs.tell(SCRIPT, words % (reading.name, said, str(reading.options.grid.unit).lower(), said))
+
+
+def tell_state(state: State, crs: Optional[str]) -> None:
     """Says on standard error what a file gave: how many records, how many without payload, and what was left out."""
     reading = state.reading
-    told = extent(state.records(), reading.options.grid) + ", %d without payload" % reading.bare
+    grid, found = reading.options.grid, bounds(state.records())
+    told = extent(found, grid) + ", %d without payload" % reading.bare
     if reading.skipped:
         told += "; left out, since without geometry: %d" % reading.skipped
     outputs.tell(SCRIPT, told)
@@ -462,8 +482,7 @@ def tell_state(state: State) -> None:
         places = ", ".join(reading.cut[:MOST_TOLD]) + (" .." if reading.cut[MOST_TOLD:] else "")
         words = "cut at the antimeridian, so that the box goes round the earth (make two features of each): %d, %s"
         outputs.tell(SCRIPT, words % (len(reading.cut), places))
-    grid = reading.options.grid
-    tell_latitudes(sources.unpacked(state.packed), grid, looks_like_degrees(grid, None))
+    tell_latitudes(found[1], grid, looks_like_degrees(grid, crs or reading.crs))
 
 
 # ---- the commands
@@ -474,8 +493,9 @@ def text_command(given: argparse.Namespace) -> None:
     with shelf_of(given) as shelf:
         options = options_of(given)._replace(keep=shelf and shelf.keep)
         state = sources.read_state(given.FILE, given.form, options)
+        refuse_other_system(given, state.reading)
         write_state(given, given.RECORDS, text(state.packed, state.version), state, shelf)
-    tell_state(state)
+    tell_state(state, given.crs)
 
 
 def batch_command(given: argparse.Namespace) -> None:
@@ -487,12 +507,14 @@ def batch_command(given: argparse.Namespace) -> None:
     old = sources.read_state(given.OLD, given.form, options._replace(layer=None) if is_text else options)
     with shelf_of(given) as shelf:
         new = sources.read_state(given.NEW, given.form, options._replace(keep=shelf and shelf.keep))
+        for state in (old, new):
+            refuse_other_system(given, state.reading)
         old, new = alike(old, new)
         lines = batch(number, old.packed, new.packed, new.version)
         write_state(given, given.BATCH, lines, new, shelf)
     gone = sum(line[0] == "-" for line in lines)
     outputs.tell(SCRIPT, "records that go: %d, that come: %d, and then:" % (gone, len(lines) - 1 - gone))
-    tell_state(new)
+    tell_state(new, given.crs)
 
 
 @contextmanager
@@ -552,9 +574,10 @@ def answer_command(given: argparse.Namespace) -> None:
         features = [feature(record, naming) for record in answer.records]
     rows = [(record, []) for record in answer.records]
     write(given.OUT, inputs, written_as(given, features, rows, naming))
-    told = extent(answer.records, naming.grid) + ", of a map of %d at batch %d" % (answer.count, answer.batch)
+    found = bounds(answer.records)
+    told = extent(found, naming.grid) + ", of a map of %d at batch %d" % (answer.count, answer.batch)
     outputs.tell(SCRIPT, told)
-    tell_system(given, answer.records)
+    tell_system(given, found[1])
 
 
 def compare(given: argparse.Namespace, answers: Iterable[client.Answer]) -> None:
@@ -576,7 +599,7 @@ def written_as(given: argparse.Namespace, features: List[str], rows: Rows, namin
     return collection(features, given.crs)
 
 
-def tell_system(given: argparse.Namespace, records: Sequence[Record]) -> None:
+def tell_system(given: argparse.Namespace, rect: Optional[client.Rect]) -> None:
     """Says on standard error what an answer does not say of its coordinate system, and where that cannot be right."""
     said, is_plain = given.said, given.format in (None, "geojson")
     is_degrees = said.is_in_degrees() if said else looks_like_degrees(given.unit, given.crs)
@@ -584,7 +607,7 @@ def tell_system(given: argparse.Namespace, records: Sequence[Record]) -> None:
         outputs.tell(SCRIPT, "%s says no coordinate system; it is %s" % (given.format, given.crs))
     if said and not said.crs and not is_degrees and is_plain:
         outputs.tell(SCRIPT, "the map has no coordinate system that is known, and GeoJSON is taken for degrees")
-    tell_latitudes(records, given.unit, is_degrees)
+    tell_latitudes(rect, given.unit, is_degrees)
 
 
 def proof_of(given: argparse.Namespace, query: Query) -> client.Pieces:
@@ -736,11 +759,27 @@ def lines_said(given: argparse.Namespace, before: Dict[str, str], root: str) -> 
         words.update({"keys": given.key} if given.key else {})
     if given.unit:
         words["unit"] = str(given.unit.unit).lower()
+    if given.layers and not statement.is_right("layers", given.layers):
+        words["layers"] = layers_said(given.layers)
     ended = [*before.get("ended", "none").split(" "), before.get("root", "none"), *(given.ended or [])]
     others = [one for one in dict.fromkeys(ended) if one not in ("none", root)]
     today = datetime.datetime.now(datetime.timezone.utc).date().isoformat()
     payload = {} if before and not payload_said(given) else {"payload": payload_said(given) or "none"}
     return {"from": today, **lines, **words, **payload, "root": root, "ended": " ".join(others) or "none"}
+
+
+def layers_said(name: str) -> str:
+    """What a statement says of layers, by a file of their numbers and names. Raises Unfit and OSError."""
+    names: Dict[int, List[str]] = {}
+    try:
+        with sources.opened(name) as file:
+            for one, layer in sources.read_layers(file.read(MOST_OF_LAYERS)).items():
+                names.setdefault(layer, []).append(one)
+    except FileNotFoundError:
+        raise Unfit("--layers is a file of layers, or: %s" % statement.KEYS["layers"]) from None
+    except Unfit as unfit:
+        raise Unfit("%s: %s" % (name, unfit)) from None
+    return ", ".join("%d %s" % (layer, " or ".join(names[layer])) for layer in sorted(names))
 
 
 def payload_said(given: argparse.Namespace) -> str:
@@ -757,8 +796,9 @@ def write_several(given: argparse.Namespace, records: List[Tuple[Record, List[in
     naming = naming_of(given)
     features = [feature(record, naming, queries) for record, queries in records]
     write(given.OUT, [*inputs, *(given.statement or [])], written_as(given, features, records, naming))
-    outputs.tell(SCRIPT, extent((record for record, _ in records), naming.grid))
-    tell_system(given, [record for record, _ in records])
+    found = bounds(record for record, _ in records)
+    outputs.tell(SCRIPT, extent(found, naming.grid))
+    tell_system(given, found[1])
 
 
 def write(name: str, inputs: Sequence[str], lines: Iterable[str]) -> None:
@@ -868,7 +908,7 @@ class Parser(argparse.ArgumentParser):
         write("-", [], [self.format_help()])
 
 
-READS = "unit number key payload layer layers digest shapes-to places-to place delimiter form skip-empty"  # of files
+READS = "unit crs number key payload layer layers digest shapes-to places-to place delimiter form skip-empty"  # of files
 WRITES = "unit number payload layer digest format crs"  # of one that writes an answer
 STATED = "statement publishers"  # of one that takes what a statement says
 STATES = "map unit crs axes numbers key payload digest hexadecimal layers shapes address from until ended after"

@@ -29,6 +29,7 @@ MOST = 2**20  # records of a map, and changes of a batch
 PIECE = 2**18  # bytes of GeoJSON that are read at once
 DEEP = "there are too many brackets in one another"
 CLIPPED = 80  # characters of a value that are told
+SYSTEM = r"(?:urn:ogc:def:crs:)?([a-z][a-z0-9_]{0,19}):(?:[0-9.]{0,20}:)?([a-z0-9_.]{1,40})"  # in GeoJSON of 2008
 DEPTHS = {"Point": 0, "MultiPoint": 1, "LineString": 1, "MultiLineString": 2, "Polygon": 2, "MultiPolygon": 3}
 NUMBER = r"[+-]?(?:[0-9]+(?:\.[0-9]*)?|\.[0-9]+)(?:[eE][+-]?[0-9]{1,6})?"
 FORMS = {
@@ -144,6 +145,7 @@ class Reading:
         self.key, self.mark = "", 0  # the last key, and the next bits of its SHA-256 behind the number
         self.raw: Callable[[], str] = str  # gives the JSON text of the last feature, an empty one where it is not held
         self.cut: List[str] = []  # the features that are cut at the antimeridian, each by its line or number
+        self.crs: Optional[str] = None  # the coordinate system that a GeoJSON text says, as EPSG:25833
 
     def where(self) -> str:
         """Where reading is, to be put before what is wrong."""
@@ -459,10 +461,24 @@ def features_of(file: IO[bytes], reading: "Reading") -> Iterator[Any]:
         sign = text.take(",}")
     if text.sign():
         text.fail("something stands behind it (--form geojsonseq, if each line is a feature)", text.at)
+    reading.crs = system_of(members.get("crs"))
     if members.get("type") == "Feature" and members.get("features", [0]) != []:
         yield members
     elif members.get("type") != "FeatureCollection" or members.get("features") != []:
         raise Unfit("it has neither a feature nor a collection of features")
+
+
+def system_of(member: Any) -> Optional[str]:
+    """The coordinate system that the member `crs` of a GeoJSON text names, as EPSG:25833; none of another form.
+
+    >>> name = "urn:ogc:def:crs:OGC:1.3:CRS84"
+    >>> system_of({"type": "name", "properties": {"name": name}}), system_of(None)
+    ('OGC:CRS84', None)
+    """
+    properties = member.get("properties") if type(member) is dict else None
+    name = properties.get("name") if type(properties) is dict else None
+    found = re.fullmatch(SYSTEM, name, re.IGNORECASE) if type(name) is str else None
+    return "%s:%s" % (found[1].upper(), found[2]) if found else None
 
 
 def sequence(reading: Reading, file: IO[bytes]) -> Iterator[bytes]:

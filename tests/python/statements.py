@@ -315,6 +315,11 @@ class Quiet(http.server.SimpleHTTPRequestHandler):
     def log_message(self, *words) -> None:
         """Says nothing."""
 
+    def handle(self) -> None:
+        """Says nothing of readers who went away."""
+        with contextlib.suppress(ConnectionError):
+            super().handle()
+
 
 @contextlib.contextmanager
 def served() -> Iterator[str]:
@@ -431,6 +436,7 @@ def written_hold(bench: Bench) -> None:
         ({"--map": "a\nb: c"}, 1, "a line is a key"), ({"--map": "a\natlas: yes"}, 1, "a line is a key"),
         ({"--map": " a"}, 1, "a line is a key"), ({"--map": "\udcff"}, 1, "not UTF-8"),
         ({"--layers": "0 a"}, 1, "the lines version and layers do not go together"),
+        ({"--layers": "nofile"}, 1, "--layers is a file of layers, or: numbers from 0 to 63"),
         ({"--ended": OTHER}, 0, ""), ({"--ended": "x"}, 1, "ended has to be: none, or root digests"),
         ({"--payload": None}, 2, "refused OtherPayload statement: the payload of record 10"),
         ({"--payload": None, "--hexadecimal": ""}, 0, ""),
@@ -460,12 +466,13 @@ def written_hold(bench: Bench) -> None:
 def week_holds(bench: Bench) -> None:
     """A week: a map with layers is published, signed and changed; an old statement, an ended root, a lost statement."""
     write("monday.txt", b"1 10 10 10 10 0 61\n2 20 20 20 20 1 62\n")
+    write("layers", b"0 houses\n1 roads\n")
     first = bench.program(["build2", "monday.map", "monday.txt"])[1].decode().strip()
     today = datetime.datetime.now(datetime.timezone.utc).date()
     days = [(today + datetime.timedelta(days)).isoformat() for days in (-7, 0, 7)]
     words = {"--map": "a week", "--unit": "0.01", "--crs": "EPSG:25833", "--axes": "east north",
         "--numbers": "keys of ours",
-             "--payload": "name", "--layers": "0 houses, 1 roads", "--address": "monday.map", "--from": days[0],
+             "--payload": "name", "--layers": "layers", "--address": "monday.map", "--from": days[0],
                  "--until": days[1]}
     options = [word for one in words.items() for word in one]
     bench.call(records, ["statement", "monday.map", "monday.statement", *options])
