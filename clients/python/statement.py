@@ -119,6 +119,13 @@ class StatementRefused(Ended):
         return self.line
 
 
+class Bent(Ended):
+    """A file is no statement: the line of its first fault, its name, and what that means. Status 2."""
+
+    def __init__(self, name: str, fault: BadStatement) -> None:
+        super().__init__(2, "%s %s: %s" % (fault, name, fault.meaning()))
+
+
 class Statement(NamedTuple):
     """What a publisher says of a map. `place` is the folder or address that relative names go from; `name` its own."""
 
@@ -502,11 +509,11 @@ def chosen(names: Sequence[str], publishers: Optional[str], tell: Callable[[str]
 
 
 def open_named(name: str, publishers: Optional[str]) -> Statement:
-    """A statement, as open_statement has it; one that is bent raises Ended, with its name and what that means."""
+    """A statement, as open_statement has it; one that is bent raises Bent, with its name and what that means."""
     try:
         return open_statement(name, publishers)
     except BadStatement as fault:
-        raise Ended(2, "%s %s: %s" % (fault, name, fault.meaning())) from None
+        raise Bent(name, fault) from None
 
 
 def told_of_time(statement: Statement, today: datetime.date) -> Iterator[str]:

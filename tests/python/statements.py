@@ -181,6 +181,7 @@ def tools_hold(bench: Bench) -> None:
             is_said = says == "" or any(part in found[1] or rule(part, found[1]) for part in says.split("|"))
             bench.holds(found[0] == status and is_said, "%s with %s: %s" % (tool, values, found))
             bench.holds(status == 0 or not os.path.exists("out"), "%s with %s leaves an output" % (tool, values))
+            bench.holds(": \n" not in found[1], "%s with %s says nothing: %s" % (tool, values, found))
         found = tool_says(bench, tool, ["none"])
         is_missing = found[0] == 7 and "failed NoFile none: missing" in found[1]
         bench.holds(is_missing, "%s without the statement: %s" % (tool, found))
