@@ -49,9 +49,10 @@ def ways_hold(bench: Bench) -> None:
 
 
 def says(bench: Bench, words: List[str], status: int, said: str) -> None:
-    """The script ends with this status, and tells these lines."""
+    """The script ends with this status, and tells these lines; and of a refusal what it mostly means."""
     ended = bench.call(records, words)
-    meant = "".join("records.py: %s\n" % line for line in said.split("\n") if line)
+    lines = [said, mrtree_check.meaning_of(said)] if status == 2 else said.split("\n")
+    meant = "".join("records.py: %s\n" % line for line in lines if line)
     bench.holds(ended == (status, meant.encode()), "records.py %s: %s, and %s was meant" % (words, ended, meant))
 
 
@@ -73,7 +74,7 @@ QUERIES: List[Tuple[str, int, str]] = [
     ("nearest 1 2", 1, "a query is: window X0 Y0 X1 Y1, or: nearest X Y K"),
     ("window 2 1 1 2", 1, "the sides 2 1 1 2 are out of order"),
     ("window 0 0 1 x", 1, '"x" is no number'),
-    ("window 0 0 1 215", 1, "the coordinate 215 is out of range: with --unit 1e-7 from -214.7483648 to 214.7483647"),
+    ("window 0 0 1 215", 1, "the coordinate 215 is out of range: with --unit 1e-7 from -214.7483648 to 214.7483647; a larger unit, as 1e-6, would do"),
     ("circle 0 0 1", 1, "a query is: window X0 Y0 X1 Y1, or: nearest X Y K"),
     ("nearest 1 2 3 --payload a", 1, "unrecognized arguments: --payload a (records.py --help)"),
 ]
@@ -186,8 +187,8 @@ def layers_hold(bench: Bench) -> None:
     told = "--number, --payload and --layer name different properties, and none of them queries"
     for words in (["--payload", "level"], ["--number", "level"], ["--payload", "queries"]):
         says(bench, ["answer", root, query, "p", "o", *named, *words], 1, told)
-    said_no = "r: line 1: it is no record line"
-    says(bench, ["text", "r", "t"], 1, said_no)
+    says(bench, ["text", "r", "t"], 0, "3 records from 1 1 to 3 3, 3 without payload")
+    bench.holds(read("t") == read("r"), "a record text of version 2 that is read back")
 
 
 def left_out(lines: List[bytes]) -> List[List[bytes]]:
@@ -208,7 +209,8 @@ def shapes_hold(bench: Bench) -> None:
     meant = json.loads(read(source))["features"]
     bench.holds(features("o") == meant and kinds[3] == "Polygon", "the shapes of an answer are others")
     write("s.geojson", read(source).replace(b"52.512]", b"52.513]"))
-    said = "s.geojson: it has no feature of the number 104 with the digest of the answer"
+    said = "s.geojson: it has no feature of the number 104 with the digest of the answer; it has one with another: "
+    said += "it is of another state, or a program rounded its numbers (COORDINATE_PRECISION)"
     says(bench, [*call[:-1], "s.geojson"], 1, said)
     lines = "\n".join(json.dumps(one, indent=None, ensure_ascii=True) for one in reversed(meant))
     write("s.geojsonl", lines.encode())
@@ -398,7 +400,9 @@ def counts_hold(bench: Bench) -> None:
 def says_drawn(bench: Bench, words: List[str], status: int, said: bytes) -> None:
     """The picture is not drawn, and it is said why."""
     ended = bench.call(draw, words)
-    bench.holds(ended == (status, said) and not os.path.exists(words[-1]), "draw.py %s: %s" % (words, ended))
+    meaning = mrtree_check.meaning_of(said.decode()[9:]).encode()
+    meant = said + b"draw.py: %s\n" % meaning if status == 2 else said
+    bench.holds(ended == (status, meant) and not os.path.exists(words[-1]), "draw.py %s: %s" % (words, ended))
 
 
 # ---- joins
