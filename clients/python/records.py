@@ -1053,7 +1053,7 @@ def take_statement(given: argparse.Namespace) -> None:
         if not said.address:
             raise Unfit("%s: it has no address of the map, so PROOF has to be given" % said.name)
         given.PROOF = said.where(said.address)
-    if given.command == "answer" and said.shapes and not given.shapes:
+    if given.command == "answer" and said.shapes and not given.shapes and given.format != "csv":
         given.shapes = said.where(said.shapes)
 
 
