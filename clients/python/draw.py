@@ -293,7 +293,7 @@ def drawn(root: str, word: str, proof: client.Pieces, said: Optional[Statement] 
     items: List[Item] = []
     answer = client.check(root, word, proof, lambda *item: items.append(Item(*item)))
     if said:
-        statement.compare(said, answer.version, answer.batch, answer.count)
+        statement.compare_verdict(said, answer)
     return picture(client.read_query(word), items, Shown(answer.records))
 
 
@@ -302,7 +302,7 @@ def drawn_count(root: str, word: str, proof: client.Pieces, said: Optional[State
     items: List[Item] = []
     count = client.check_count(root, word, proof, lambda *item: items.append(Item(*item)))
     if said:
-        statement.compare(said, 2, count.batch, count.count)
+        statement.compare_verdict(said, count)
     query = client.read_window(word)
     way = client.inside(query)
     records = [one for item in items for one in item.records if way(one.rect, 1 << one.layer) == client.WHOLE]

@@ -150,7 +150,7 @@ def check_done(words: Words, meter: Meter) -> Done:
     proof = FarMap(words.root, source_of(words.sources[0], meter)).proof(words.asked)
     answer = client.judge(words.root, words.asked, [proof])
     for said in words.said:
-        statement.compare(said, answer.version, answer.batch, answer.count)
+        statement.compare_verdict(said, answer)
         statement.compare_records(said, answer.records)
     return proof, answer.lines()
 
@@ -160,7 +160,7 @@ def count_done(words: Words, meter: Meter) -> Done:
     proof = FarMap(words.root, source_of(words.sources[0], meter)).count_proof(words.asked)
     count = client.judge_count(words.root, words.asked, [proof])
     for said in words.said:
-        statement.compare(said, 2, count.batch, count.count)
+        statement.compare_verdict(said, count)
     return proof, ["count %d" % count.inside]
 
 
@@ -170,7 +170,7 @@ def join_done(words: Words, meter: Meter) -> Done:
     join = client.judge_join(words.root, words.asked, [proof])
     for said, state in zip(words.said, (join.first, join.second)):
         if state:
-            statement.compare(said, 2, state.batch, state.count)
+            statement.compare_verdict(said, state)
     return proof, ["pair %d %d" % pair for pair in join.pairs]
 
 

@@ -583,7 +583,7 @@ def answer_command(given: argparse.Namespace) -> None:
 def compare(given: argparse.Namespace, answers: Iterable[client.Answer]) -> None:
     """Raises StatementRefused where a statement says something else than accepted proofs."""
     for answer in answers if given.said else ():
-        statement.compare(given.said, answer.version, answer.batch, answer.count)
+        statement.compare_verdict(given.said, answer)
         statement.compare_records(given.said, answer.records)
 
 

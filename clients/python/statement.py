@@ -14,7 +14,7 @@ import subprocess
 import tempfile
 from contextlib import contextmanager
 from decimal import Decimal
-from typing import Callable, Dict, Iterable, Iterator, List, NamedTuple, NoReturn, Optional, Sequence, Tuple
+from typing import Any, Callable, Dict, Iterable, Iterator, List, NamedTuple, NoReturn, Optional, Sequence, Tuple
 from urllib.parse import urljoin
 
 if __package__:
@@ -557,6 +557,26 @@ def compare(statement: Statement, version: int, batch: int, count: int) -> None:
             name = "count of records" if rule == "Count" else rule.lower()
             words = "its %s is %d, and that of the proof is %d" % (name, said, found)
             raise StatementRefused("Other" + rule, statement.name, words)
+
+
+def compare_verdict(statement: Statement, found: Any) -> None:
+    """Raises StatementRefused where a statement says something else than what an accepted proof shows of a map.
+
+    That is an answer or a count, also of an atlas, which shows some sheets; of a join it is the state of a map.
+    """
+    sheets = getattr(found, "sheets", None)
+    if statement.atlas != (sheets is not None):
+        kinds = ("an atlas", "a map") if statement.atlas else ("a map", "an atlas")
+        raise StatementRefused("OtherKind", statement.name, "it is of %s, and the proof of %s" % kinds)
+    if sheets is None:
+        compare(statement, getattr(found, "version", 2), found.batch, found.count)
+        return
+    for sheet in sheets:
+        compare(statement, sheet.version, found.batch, statement.records)
+    count = sum(sheet.count for sheet in sheets)
+    if count > statement.records:
+        compare(statement, statement.version, found.batch, count)
+    compare(statement, statement.version, found.batch, statement.records)
 
 
 def compare_records(statement: Statement, records: Iterable[Record]) -> None:

@@ -268,6 +268,10 @@ function toldOfTime({ name, begins, until }, today) {
 
 /** Throws StatementRefused where a map is of another version, batch or count of records. */
 function compareStatement(statement, { version, batch, count }) {
+    if (statement.atlas) {
+        const words = "it is of an atlas, and the proof of a map";
+        throw new StatementRefused("OtherKind", statement.name, words);
+    }
     const pairs = [
         ["Version", "version", statement.version, version],
         ["Batch", "batch", statement.batch, BigInt(batch)],

@@ -2,6 +2,7 @@
 
 The table is examples/vectors/statements.tsv: each line has the bytes of a statement and what comes of it, between tabs.
 """
+import collections
 import contextlib
 import datetime
 import functools
@@ -19,6 +20,7 @@ from bench import EXAMPLES, Bench, read, write
 from inputs import unescaped
 import draw
 import mrtree_ask
+import mrtree_check
 import records
 import statement
 from statement import BadStatement, read_statement
@@ -151,6 +153,7 @@ REFUSED = (  # the values of a statement, and what each tool says of it
     ({}, 0, ""),
     ({"batch": "1"}, 2, "refused OtherBatch s: its batch is 1, and that of the proof is 0"),
     ({"version": "2"}, 2, "refused OtherVersion s: its version is 2, and that of the proof is 1"),
+    ({"atlas": "yes"}, 2, "refused OtherKind s: it is of an atlas, and the proof of a map"),
     ({"records": "5"}, 2, "refused OtherCount s: its count of records is 5, and that of the proof is 4"),
     ({"root": OTHER}, 2, "refused (map page 0 )?WrongRoot|query 1 refused WrongRoot"),
     ({"root": OTHER, "ended": PLACES}, 2, "refused EndedRoot s: it says that the root %s has ended" % PLACES),
@@ -287,6 +290,24 @@ def formats_hold(bench: Bench) -> None:
         found = bench.call(records, ["answer", PLACES, WINDOW, PROOF, "out", "--unit", unit, *more])
         bench.holds((b"no latitude is above 90" in found[1]) == is_told,
             "latitudes with %s %s: %s" % (unit, crs, found))
+
+
+def atlases_hold(bench: Bench) -> None:
+    """What a statement of an atlas is compared with: the batch of its index, the versions and counts of sheets."""
+    sheet = collections.namedtuple("sheet", "version count")
+    shown = collections.namedtuple("shown", "batch sheets")
+    said = read_statement(text_of(atlas="yes", records="3000000", version="2", batch="7"))
+    for found, rule in (
+        (shown(7, []), ""), (shown(7, [sheet(2, 10)]), ""), (shown(7, [sheet(2, 1500000), sheet(2, 1500000)]), ""),
+        (shown(6, []), "OtherBatch"), (shown(7, [sheet(2, 1), sheet(1, 1)]), "OtherVersion"),
+        (shown(7, [sheet(2, 1500000), sheet(2, 1500001)]), "OtherCount"), (mrtree_check.State(7, 1), "OtherKind"),
+    ):
+        try:
+            statement.compare_verdict(said, found)
+            told = ""
+        except statement.StatementRefused as refused:
+            told = refused.rule
+        bench.holds(told == rule, "an atlas that shows %s: %r" % (found, told))
 
 
 # ---- signatures
@@ -515,7 +536,7 @@ def week_holds(bench: Bench) -> None:
 
 def statements_hold(bench: Bench) -> None:
     """All of it, each in an empty folder."""
-    for part in (table_holds, large_hold, tools_hold, several_hold, words_hold, signatures_hold, written_hold,
+    for part in (table_holds, large_hold, tools_hold, atlases_hold, several_hold, words_hold, signatures_hold, written_hold,
         week_holds):
         for name in os.listdir("."):
             (shutil.rmtree if os.path.isdir(name) else os.remove)(name)
