@@ -363,6 +363,7 @@ BAD_WORDS = [
     [ROOT, WINDOW, "http://example.org/\u00e4"],
     [ROOT, WINDOW, "http://[::1/m"],
 ]
+OTHER_MAP = b"records.py: the file is of another map than the one with this root digest, or of another state of it\n"
 LIMITED = [
     (["--requests", "0"], "failed MostRequests m: more than 0 requests"),
     (["--most", "16383"], "failed MostBytes m: more than 16383 bytes"),
@@ -436,7 +437,7 @@ def module_holds(bench: Bench) -> None:
     told = [bench.call(records, ["answer", ROOT, WINDOW, source, out, *named]) for source, out in both]
     bench.holds(told[0] == told[1] and told[0][0] == 0 and read("a") == read("b"), "records.py answer: %s" % told)
     for words, meant_ in (
-        (["0" * 64, WINDOW, "m"], (2, b"records.py: refused map page 0 WrongRoot found %s\n" % ROOT.encode())),
+        (["0" * 64, WINDOW, "m"], (2, b"records.py: refused map page 0 WrongRoot found %s\n" % ROOT.encode() + OTHER_MAP)),
         ([ROOT, WINDOW + "/%016x" % 1, "m"], (10, b"records.py: needs version 2\n")),
         ([ROOT, WINDOW, "ftp://example.org/m"], (1, b"records.py: an address begins with http:// or https://\n")),
         ([ROOT, WINDOW, "m", "--most", "100"], (7, b"records.py: failed MostBytes m: more than 100 bytes\n")),

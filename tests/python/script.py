@@ -255,15 +255,16 @@ TOLD = [  # words, status, what the line has in it
     (["audit", "other.map", WINDOW, "places-window.proof"], 2, "of another map, or of another state"),
     (["check", PLACES, "window:0,0,1,1", "places-window.proof"], 2, "for another query"),
     (["check", PLACES, WINDOW, "cut.proof"], 2, "'cut.proof' was cut off"),
-    (["check", PLACES, WINDOW, "places.txt"], 2, "'places.txt' is no proof"),
+    (["check", PLACES, WINDOW, "places.txt"], 2, "'places.txt' is a record text: "),
     (["check-all", "0" * 64, "places.script", "places.bundle"], 2, "what the server gave was not taken"),
     (["root2", "windows.txt"], 3, r"line 1 of 'windows.txt' is: 7 0 0 0 0 -\$"),
     (["build2", "new.map", "layers.txt"], 3, r"line 2 of 'layers.txt' is: 8 0 0 0 0 64 -\$"),
-    (["upgrade", "places.txt", "new.map"], 4, "'places.txt' is not a whole map"),
+    (["upgrade", "places.txt", "new.map"], 4, "'places.txt' is a record text: "),
     (["upgrade", "none.map", "new.map"], 7, "there is no file 'none.map'"),
     (["upgrade", "places.map", "folder"], 7, "'folder' is a folder"),
     (["build2", "none/new.map", "layer.txt"], 7, "there is no folder 'none'"),
-    (["list", "places.proof"], 4, "'places.proof' is not a whole map"),
+    (["list", "places.proof"], 4, "'places.proof' is a proof: "),
+    (["list", "other.batch"], 4, "'other.batch' is not a whole map"),
     (["prove", "places.map", WINDOW + "/" + "f" * 16, "new.proof"], 10, "'places.map' is of version 1, and layers"),
     (["serve", "places.map", "layer.script", "new.bundle"], 10, "'places.map' is of version 1, and layers"),
     (["count", "places.map", WINDOW, "new.proof"], 10, "'places.map' is of version 1, and a count is asked for"),
@@ -277,7 +278,7 @@ TOLD = [  # words, status, what the line has in it
     (["audit-count", "second.map", WINDOW, "none.proof"], 7, "there is no file 'none.proof'"),
     (["join", "places.map", "second.map", "new.proof"], 10, "'places.map' or 'second.map' is of version 1"),
     (["join", "second.map", "none.map", "new.proof"], 7, "there is no file 'none.map'"),
-    (["join", "second.map", "places.txt", "new.proof"], 4, "'second.map' or 'places.txt' is not a whole map"),
+    (["join", "second.map", "places.txt", "new.proof"], 4, "'places.txt' is a record text: "),
     (["join", "second.map", "places.map"], 1, r"the words are: join MAP MAP2 PROOF;"),
     (["check-join", PLACES, PLACES, "second.proof"], 2, "'second.proof' is no proof of a join"),
     (["check-join", PLACES, PLACES, "none.proof"], 7, "there is no file 'none.proof'"),
@@ -285,7 +286,7 @@ TOLD = [  # words, status, what the line has in it
     (["apply-here", "second.map", "places.batch"], 3, r"line 2 of 'places.batch' is: \+ 105"),
     (["apply-here", "none.map", "places.batch"], 7, "there is no file 'none.map'"),
     (["apply-here", "places.map", "none.batch"], 7, "there is no file 'none.batch'"),
-    (["apply-here", "places.txt", "places.batch"], 4, "'places.txt' is not a whole map"),
+    (["apply-here", "places.txt", "places.batch"], 4, "'places.txt' is a record text: "),
     (["apply-here", "places.map"], 1, r"the words are: apply-here MAP BATCH;"),
     (["recover", "none.map"], 7, "there is no file 'none.map'"),
     (["recover"], 1, r"the words are: recover MAP;"),
@@ -295,8 +296,15 @@ TOLD = [  # words, status, what the line has in it
     (["apply", "places.map", "places.txt", "new.map"], 3, "line 1 of 'places.txt' is: 101"),
     (["serve", "places.map", "places.txt", "new.bundle"], 3, "line 1 of 'places.txt' is: 101"),
     (["check-all", PLACES, "places.txt", "none"], 3, "line 1 of 'places.txt' is: 101"),
-    (["list", "places.txt"], 4, "'places.txt' is not a whole map"),
     (["apply", "places.map", "late.batch", "new.map"], 5, "'late.batch' is not the next batch of 'places.map'"),
+    (["root", "places.map"], 3, "'places.map' is a map file: './mrtree list places.map' prints its records"),
+    (["build", "new.map", "places.geojson"], 3, "'places.geojson' is GeoJSON: 'clients/python/records.py text "),
+    (["root", "places-window.proof"], 3, "'places-window.proof' is a proof: "),
+    (["list", "places.txt"], 4, "'places.txt' is a record text: './mrtree build MAP places.txt' makes a map of it"),
+    (["apply", "places.map", "places.map", "new.map"], 3, "'places.map' is a map file: "),
+    (["prove", "late.batch", WINDOW, "new.proof"], 4, "'late.batch' is a batch text: './mrtree apply OLD late.batch NEW'"),
+    (["check", PLACES, WINDOW, "places.map"], 2, "'places.map' is a map file: "),
+    (["check", PLACES, WINDOW, "places.geojson"], 2, "'places.geojson' is GeoJSON: "),
     (["root", "none.txt"], 7, "there is no file 'none.txt' in /"),
     (["list", "folder"], 7, "'folder' is a folder"),
     (["root", "pipe"], 7, "'pipe' is a pipe or a device"),
@@ -319,6 +327,7 @@ def in_a_terminal(world: World) -> None:
     shutil.copy("places.txt", "own.txt")
     os.link("own.txt", "link.txt")
     files = {"windows.txt": b"7 0 0 0 0 -\n8 0 0 0 0 -\r\n", "tabs.txt": b"7\t0 0 0 0 -\n", "late.batch": b"batch 2\n"}
+    files["other.batch"] = b"none of all\n"
     files["other.txt"], files["layer.txt"] = b"7 0 0 0 0 -\n", b"7 0 0 0 0 5 -\n"
     files["layers.txt"], files["places.proof"] = b"7 0 0 0 0 5 -\n8 0 0 0 0 64 -\n", b"MRVO\2"
     files["layer.script"] = b"window:0,0,1,1\nwindow:0,0,1,1/0000000000000001\n"
