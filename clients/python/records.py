@@ -663,27 +663,34 @@ def find_command(given: argparse.Namespace) -> None:
     """Writes the records of keys, as a map has them where they are to be. Raises as `answer_command`."""
     numbers = {word: number_of(word) if given.by_number else sources.hashed(word)[0] for word in given.KEYS}
     places, naming = places_for(given, numbers), naming_of(given)
-    found: List[Record] = []
-    missing: List[str] = []
-    root, _ = root_and_query(given.ROOT, "window:0,0,0,0")
-    if not mrtree_ask.is_map(given.MAP):
-        raise Unfit("%s is no map file: find asks a map file, or the address of one" % given.MAP)
-    try:
-        far = mrtree_ask.open_map(given.ROOT, given.MAP, limits_of(given))
-        for word, number in numbers.items():
-            query = Query(places[number], 0)
-            records = client.judge(root, query, [far.proof(query)]).records
-            own = [record for record in records if record.number == number]
-            found += own
-            missing += [] if own else [word]
-    except ValueError as fault:
-        raise Unfit(str(fault)) from None
-    told = shapes_for(given, found) if given.shapes else [feature(record, naming) for record in found]
-    write(given.OUT, [given.MAP, given.places, *filter(None, [given.shapes])], collection(told))
+    found = found_at(given, places)
+    records = [found[number] for number in numbers.values() if number in found]
+    told = shapes_for(given, records) if given.shapes else [feature(record, naming) for record in records]
+    write(given.OUT, [given.MAP, given.places, *filter(None, [given.shapes])], collection(told, given.crs))
+    missing = [word for word, number in numbers.items() if number not in found]
     for word in missing[:MOST_TOLD]:
         rect = " ".join(map(naming.grid.in_file, places[numbers[word]]))
         outputs.tell(SCRIPT, "the map has no record of %s at %s, checked" % (clipped(word), rect))
-    outputs.tell(SCRIPT, "found: %d, not there: %d" % (len(found), len(missing)))
+    outputs.tell(SCRIPT, "found: %d, not there: %d" % (len(records), len(missing)))
+
+
+def found_at(given: argparse.Namespace, places: Dict[int, client.Rect]) -> Dict[int, Record]:
+    """The records of some numbers that a map has where they are to be, checked. Raises as `answer_command`."""
+    root, _ = root_and_query(given.ROOT, "window:0,0,0,0")
+    if not mrtree_ask.is_map(given.MAP):
+        raise Unfit("%s is no map file: find asks a map file, or the address of one" % given.MAP)
+    found: Dict[int, Record] = {}
+    try:
+        with statement.judged(given.said):
+            far = mrtree_ask.open_map(given.ROOT, given.MAP, limits_of(given))
+            for number, rect in places.items():
+                query = Query(rect, 0)
+                answer = client.judge(root, query, [far.proof(query)])
+                compare(given, [answer])
+                found.update((number, record) for record in answer.records if record.number == number)
+    except ValueError as fault:
+        raise Unfit(str(fault)) from None
+    return found
 
 
 def places_for(given: argparse.Namespace, numbers: Dict[str, int]) -> Dict[int, client.Rect]:
@@ -919,7 +926,7 @@ COMMANDS = {
     "answer": (answer_command, "ROOT QUERY PROOF OUT", WRITES + " key shapes form most " + STATED),
     "answers": (answers_command, "ROOT SCRIPT BUNDLE OUT", WRITES + " most " + STATED),
     "features": (features_command, "LINES OUT", WRITES),
-    "find": (find_command, "ROOT MAP OUT KEYS", "unit number key payload layer digest shapes places by-number form most"),
+    "find": (find_command, "ROOT MAP OUT KEYS", "unit number key payload layer digest shapes places by-number form most " + STATED),
     "info": (info_command, "FILE", "most"),
     "statement": (statement_command, "MAP OUT", STATES + " publishers"),
 }
@@ -1019,6 +1026,8 @@ def filled(words: List[str]) -> List[str]:
     least = {"answer": 2, "answers": 3}.get("".join(words[:1]), 9)
     if not any(word.split("=")[0] == "--statement" for word in words):
         return words
+    if words[0] == "find":
+        return [words[0], "", "", *words[1:]]
     places, is_value = [], False
     for at, word in enumerate(words):
         is_option = word.startswith("--") and not is_value
@@ -1053,7 +1062,12 @@ def take_statement(given: argparse.Namespace) -> None:
         if not said.address:
             raise Unfit("%s: it has no address of the map, so PROOF has to be given" % said.name)
         given.PROOF = said.where(said.address)
-    if given.command == "answer" and said.shapes and not given.shapes and given.format != "csv":
+    if given.command == "find":
+        if not said.address or not (said.keys or given.by_number):
+            words = "it has no address of the map" if said.keys else "it names no keys: --by-number finds numbers"
+            raise Unfit("%s: %s" % (said.name, words))
+        given.MAP = said.where(said.address)
+    if given.command in ("answer", "find") and said.shapes and not given.shapes and given.format != "csv":
         given.shapes = said.where(said.shapes)
 
 

@@ -34,6 +34,7 @@ def beside_holds(bench: Bench) -> None:
     shapes_hold(bench, root, size)
     bent_shapes_hold(bench, root)
     finds_hold(bench, root)
+    finds_by_statement_hold(bench, root)
     info_holds(bench)
     helps_hold(bench)
 
@@ -341,6 +342,28 @@ def finds_hold(bench: Bench, root: str) -> None:
     words = ["find", root, "s.map", "o", keys[0], *UNIT, "--places", "moved.txt"]
     says(bench, words, 0, said % json.dumps(keys[0]))
     bench.holds(features("o") == [] and read("o") != b"old", "what is not there")
+
+
+def finds_by_statement_hold(bench: Bench, root: str) -> None:
+    """With a statement root, map, unit and shapes are not given by hand; and what does not go with it is refused."""
+    key = json.loads(read("s.geojsonl").splitlines()[9])["properties"]["key"]
+    words = ["statement", "s.map", "s.statement", "--map", "parcels", *UNIT, "--crs", "EPSG:4326", "--address", "s.map"]
+    words += ["--axes", "longitude latitude", "--key", "key", "--digest", "--layers", "layers", "--shapes", "s.geojsonl"]
+    ended = bench.call(records, [*words, "--from", "2026-12-01", "--until", "2999-12-01"])
+    bench.holds(ended[0] == 0, "the statement of parcels: %s" % (ended,))
+    finds = ["find", "--statement", "s.statement", "o", key, "--places", "s.places"]
+    says(bench, finds, 0, "found: 1, not there: 0")
+    bench.holds([one["properties"]["key"] for one in features("o")] == [key], "what is found by a statement")
+    said = bench.script("records.py", ["info", "s.statement"])
+    lines = b"file: statement\nmap: parcels\nroot: %s\nversion: 2\nbatch: 0\n" % root.encode()
+    bench.holds(said[0] == 0 and said[1].startswith(lines), "info of a statement: %s" % (said,))
+    whole = read("s.statement")
+    write("n.statement", whole.replace(b"keys: key\n", b"numbers: none of yours\n"))
+    no_keys = "n.statement: it names no keys: --by-number finds numbers"
+    says(bench, [*finds[:2], "n.statement", *finds[3:]], 1, no_keys)
+    write("c.statement", whole.replace(b"batch: 0\n", b"batch: 1\n"))
+    status, told = bench.call(records, [*finds[:2], "c.statement", *finds[3:]])
+    bench.holds(status == 2 and b"refused OtherBatch" in told, "a statement with another batch: %s" % told)
 
 
 NO_PLACE = '%s tells no place of "no such key", so that it cannot be asked for'

@@ -301,7 +301,7 @@ TOLD = [  # words, status, what the line has in it
     (["build", "new.map", "places.geojson"], 3, "'places.geojson' is GeoJSON: 'clients/python/records.py text "),
     (["root", "places-window.proof"], 3, "'places-window.proof' is a proof: "),
     (["list", "places.txt"], 4, "'places.txt' is a record text: './mrtree build MAP places.txt' makes a map of it"),
-    (["apply", "places.map", "places.map", "new.map"], 3, "'places.map' is a map file: "),
+    (["apply", "places.map", "other.map", "new.map"], 3, "'other.map' is a map file: "),
     (["prove", "late.batch", WINDOW, "new.proof"], 4, "'late.batch' is a batch text: './mrtree apply OLD late.batch NEW'"),
     (["check", PLACES, WINDOW, "places.map"], 2, "'places.map' is a map file: "),
     (["check", PLACES, WINDOW, "places.geojson"], 2, "'places.geojson' is GeoJSON: "),
