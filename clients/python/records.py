@@ -77,6 +77,7 @@ MOST_EXACT = 2**53 - 1  # the greatest whole number that every reader of JSON ke
 MOST_OF_DEGREES = Decimal("1e-4")  # a map unit up to this is taken for one of degrees, where nothing says so
 QUERIES = "queries"  # the property that tells which queries of a script a feature answers
 SOME = client.read_query("nearest:0,0,16")  # some records, of which payloads are looked at
+ALL = client.read_query("window:-2147483648,-2147483648,2147483647,2147483647")
 SAID = ("map", "crs", "axes", "numbers", "layers", "shapes", "address", "from", "until")  # options that are lines
 MOST_TOLD = 5  # features that are told by their number
 MOST_OF_LAYERS = 2**20  # bytes of a file of layers
@@ -103,6 +104,7 @@ HELP = """--unit: a map unit in the file's unit, as 1e-7 of a degree, or 1 metre
 --statement: the publisher's statement of the map, a file or an address; of several the newest is taken
 --publishers: a file of publishers (ssh-keygen's allowed signers), one of whom has to have signed the statement
 --map: words that say what the map is
+--atlas: MAP is the index of an atlas, and the statement is of the atlas
 --axes: what x and y are: longitude latitude, or east north, or x y
 --numbers: words that say what the numbers are
 --hexadecimal: the payloads are neither texts nor digests
@@ -464,7 +466,7 @@ def refuse_other_system(given: argparse.Namespace, reading: sources.Reading) -> 
     """Raises Unfit where a GeoJSON text says another coordinate system than --crs; tells where it goes with no unit."""
     said, meant = reading.crs, given.crs
     if said and meant and said != meant and not {said, meant} <= set(statement.DEGREES):
-        raise Unfit("%s: it says that it is in %s, and --crs is %s" % (reading.name, clipped(said), meant))
+        raise Unfit("%s: it says that it is in %s, and --crs is %s" % (reading.name, said, meant))
     if said and not meant and said not in statement.DEGREES and reading.options.grid.unit <= MOST_OF_DEGREES:
         words = "%s says that it is in %s: is a map unit %s of that? (--crs %s says that it is so)"
         outputs.tell(SCRIPT, words % (reading.name, said, str(reading.options.grid.unit).lower(), said))
@@ -727,7 +729,9 @@ def statement_command(given: argparse.Namespace) -> None:
     root, far = opened(given.MAP)
     before = statement.values_of(statement.open_named(given.after, given.publishers)) if given.after else {}
     lines = lines_said(given, before, root)
-    lines.update(version=str(far.head.version), batch=str(far.head.batch), records=str(far.head.count))
+    version, count = sheets_said(given.MAP, far) if given.atlas else (far.head.version, far.head.count)
+    lines.update(version=str(version), batch=str(far.head.batch), records=str(count))
+    lines.update({"atlas": "yes"} if given.atlas else {})
     try:
         text_ = statement.text_of(lines)
     except statement.BadStatement as bad:
@@ -735,7 +739,8 @@ def statement_command(given: argparse.Namespace) -> None:
         missing = "--%s has to be given: %s" % (key, statement.KEYS.get(key, ""))
         raise Unfit(missing if name == "Missing" else bad.meaning()) from None
     said = statement.read_statement(text_.encode("utf-8"))
-    statement.compare_records(said, client.judge(far.root, SOME, [far.proof(SOME)]).records)
+    if not said.atlas:
+        statement.compare_records(said, client.judge(far.root, SOME, [far.proof(SOME)]).records)
     write(given.OUT, [given.MAP, *filter(None, [given.after])], [text_])
     words = "root %s, version %d, batch %d, %d records"
     outputs.tell(SCRIPT, words % (root, said.version, said.batch, said.records))
@@ -752,6 +757,18 @@ def opened(name: str) -> Tuple[str, mrtree_ask.FarMap]:
         return fault.found.hex(), mrtree_ask.open_map(fault.found.hex(), name)
     except ValueError as fault:
         raise Unfit(str(fault)) from None
+
+
+def sheets_said(name: str, far: mrtree_ask.FarMap) -> Tuple[int, int]:
+    """The version and the count of records of the sheets that the index of an atlas tells. Raises Unfit, Refused."""
+    sheets = [record.payload for record in client.judge(far.root, ALL, [far.proof(ALL)]).records]
+    least = {1: 67, 2: 75}  # bytes of the preimage of a sheet's root
+    if not all(sheet[:1] == b"R" and len(sheet) >= least.get(sheet[1], 999) for sheet in sheets):
+        raise Unfit("%s: it is no index of an atlas: a record of it tells no sheet" % name)
+    versions = {sheet[1] for sheet in sheets} or {far.head.version}
+    if len(versions) > 1:
+        raise Unfit("%s: its sheets are of two versions, and a statement says one" % name)
+    return versions.pop(), sum(int.from_bytes(sheet[10:18], "big") for sheet in sheets)
 
 
 def lines_said(given: argparse.Namespace, before: Dict[str, str], root: str) -> Dict[str, str]:
@@ -918,7 +935,7 @@ class Parser(argparse.ArgumentParser):
 READS = "unit crs number key payload layer layers digest shapes-to places-to place delimiter form skip-empty"  # of files
 WRITES = "unit number payload layer digest format crs"  # of one that writes an answer
 STATED = "statement publishers"  # of one that takes what a statement says
-STATES = "map unit crs axes numbers key payload digest hexadecimal layers shapes address from until ended after"
+STATES = "map atlas unit crs axes numbers key payload digest hexadecimal layers shapes address from until ended after"
 COMMANDS = {
     "text": (text_command, "FILE RECORDS", READS),
     "batch": (batch_command, "N OLD NEW BATCH", READS),
@@ -948,7 +965,7 @@ WORDS = {  # what the words of commands are
     "OUT": "the file that is written",
     "KEYS": "keys, or with --by-number record numbers",
 }
-SIGNS = ("--digest", "--skip-empty", "--hexadecimal", "--by-number")  # options without a value
+SIGNS = ("--digest", "--skip-empty", "--hexadecimal", "--by-number", "--atlas")  # options without a value
 SEVERAL = ("--statement", "--ended")  # options that may stand several times
 ENDS = tuple(sources.FORMS)
 FORMATS = ("geojson", "geojsonseq", "csv")

@@ -485,6 +485,39 @@ def written_hold(bench: Bench) -> None:
         bench.holds(found[0] == status and says in found[1].decode(), "the statement of %s: %s" % (name, found))
 
 
+def preimage_of(name: str) -> bytes:
+    """The preimage of the root of the map in a file, which has records."""
+    page = read(name)
+    size = 16 + (8 if page[4] == 2 else 0) + 32
+    return b"R" + page[4:5] + page[6:22] + page[5:6] + page[30 : 30 + size]
+
+
+def index_holds(bench: Bench) -> None:
+    """The statement of an atlas: version and count are those of its sheets."""
+    lines = []
+    for number, (command, text) in enumerate((("build2", "1 5 5 6 6 0 61\n"),
+        ("build2", "2 7 7 8 8 0 -\n3 8 8 8 8 0 -\n"), ("build", "4 9 9 9 9 -\n"))):
+        write("s.txt", text.encode())
+        bench.program([command, "sheet", "s.txt"])
+        preimage = preimage_of("sheet")
+        at = 19  # the byte of the rectangle
+        sides = [int.from_bytes(preimage[at + 4 * side : at + 4 * side + 4], "big", signed=True) for side in range(4)]
+        lines.append("%d %d %d %d %d %s\n" % (number, *sides, (preimage + b"x").hex()))
+    words = ["--map", "a", "--unit", "1", "--crs", "none", "--axes", "x y", "--numbers", "n", "--payload", "p",
+        "--until", "2036-12-01"]
+    for some, status, says in ((lines[:2], 0, "version 2, batch 0, 3 records"),
+        (lines[2:], 0, "version 1, batch 0, 1 records"),
+                               (lines, 1, "its sheets are of two versions"),
+                               (["9 9 9 9 9 61\n"], 1, "it is no index of an atlas")):
+        write("index.txt", "".join(some).encode())
+        root = bench.program(["build", "index.map", "index.txt"])[1].decode().strip()
+        found = bench.call(records, ["statement", "index.map", "out", "--atlas", *words])
+        bench.holds(found[0] == status and says in found[1].decode(), "the statement of an atlas: %s" % (found,))
+        if status == 0:
+            one = read_statement(read("out"))
+            bench.holds(one.atlas and one.root == root, "an atlas in a statement: %s" % (one,))
+
+
 def week_holds(bench: Bench) -> None:
     """A week: a map with layers is published, signed and changed; an old statement, an ended root, a lost statement."""
     write("monday.txt", b"1 10 10 10 10 0 61\n2 20 20 20 20 1 62\n")
@@ -536,8 +569,9 @@ def week_holds(bench: Bench) -> None:
 
 def statements_hold(bench: Bench) -> None:
     """All of it, each in an empty folder."""
-    for part in (table_holds, large_hold, tools_hold, atlases_hold, several_hold, words_hold, signatures_hold, written_hold,
-        week_holds):
+    for part in (table_holds, large_hold, tools_hold, atlases_hold, several_hold, words_hold, signatures_hold,
+        written_hold,
+        index_holds, week_holds):
         for name in os.listdir("."):
             (shutil.rmtree if os.path.isdir(name) else os.remove)(name)
         part(bench)
