@@ -1,6 +1,6 @@
 """Makes a wheel of these files for pip, with the standard library alone: the build backend of pyproject.toml (PEP 517).
 
-The package mrtree_check has the scripts as modules, and there are five commands, one for each.
+The package mrtree_check has the scripts as modules, and there are commands for those that are called.
 """
 from __future__ import annotations
 
@@ -15,6 +15,7 @@ import mrtree_check
 HERE = os.path.dirname(os.path.abspath(__file__))
 FILES = ["__init__.py", "mrtree_check.py", "mrtree_ask.py", "ranges.py", "pagewise.py", "layout.py"]
 FILES += ["outputs.py", "sources.py", "statement.py", "shapes.py", "kinds.py", "records.py", "draw.py", "py.typed"]
+FILES += ["mrtree_host.py", "listening.py", "mapped.py"]
 NAME = "mrtree_check-%s" % mrtree_check.__version__
 METADATA = """Metadata-Version: 2.1
 Name: mrtree-check
@@ -28,6 +29,7 @@ mrtree-ask = mrtree_check.mrtree_ask:main
 mrtree-layout = mrtree_check.layout:main
 mrtree-records = mrtree_check.records:main
 mrtree-draw = mrtree_check.draw:main
+mrtree-host = mrtree_check.mrtree_host:main
 """
 WHEEL = "Wheel-Version: 1.0\nGenerator: packing\nRoot-Is-Purelib: true\nTag: py3-none-any\n"
 

@@ -82,6 +82,14 @@ class Head(NamedTuple):
 
 def read_page_0(front: bytes, root: bytes) -> Head:
     """What page 0 says, where it is that of the map with this root digest. Raises MapRefused."""
+    head, found = page_0_of(front)
+    if found != root:
+        raise MapRefused("WrongRoot", 0, found)
+    return head
+
+
+def page_0_of(front: bytes) -> Tuple[Head, bytes]:
+    """What page 0 says, and the root digest of the map that it is of. Raises MapRefused."""
     version = 2 if front[4:5] == b"\2" else 1
     page = front[: PAGE[version]]
     if len(page) < PAGE[version]:
@@ -98,9 +106,7 @@ def read_page_0(front: bytes, root: bytes) -> Head:
     mask = masks[0] if masks else client.ALL_LAYERS
     part = Part((x0, y0, x1, y1), mask, count if masks else 0, digest) if count else None
     found = client.root_digest(client.Head(version, batch, count, None, level), part)
-    if found != root:
-        raise MapRefused("WrongRoot", 0, found)
-    return Head(version, batch, count, pages, part and Child(at, level, part, part.entry(version)))
+    return Head(version, batch, count, pages, part and Child(at, level, part, part.entry(version))), found
 
 
 def read_node(child: Child, page: bytes, version: int) -> Node:
