@@ -13,10 +13,11 @@ import re
 import signal
 import socket
 import time
+from collections import deque
 from concurrent.futures import ThreadPoolExecutor
 from email.utils import formatdate
 from http import HTTPStatus
-from typing import Any, Callable, Dict, Iterator, List, NamedTuple, Optional, Tuple, TypeVar, Union
+from typing import Any, Callable, Deque, Dict, Iterator, List, NamedTuple, Optional, Tuple, TypeVar, Union
 
 if __package__:
     from . import outputs
@@ -35,6 +36,7 @@ PIECE = 2**18  # bytes that are sent at once
 LAST_SECONDS = 5  # for answers that are under way when the server is to end
 BACKLOG = 1024  # connections that nobody has taken in yet
 AT_ONCE = 2  # threads for work that cannot be cut
+WITHOUT_BODY = (204, 304)
 TICK = 0.5  # seconds from one look at all connections to the next
 REASONS = {status.value: status.phrase for status in HTTPStatus}
 
@@ -181,25 +183,29 @@ class Connection(asyncio.Protocol):
         self.transport, self.peer = transport, (transport.get_extra_info("peername") or ("-",))[0]
         transport.set_write_buffer_limits(high=0)
         transport.get_extra_info("socket").setsockopt(socket.IPPROTO_TCP, socket.TCP_NODELAY, 1)
-        self.server.admit(self)
         self.wait(HEAD_SECONDS)
+        self.server.admit(self)
 
     def data_received(self, data: bytes) -> None:
         """Bytes have come."""
-        if self.is_ending:
+        if self.is_ending and not self.is_busy:
             return
-        if not self.held and not self.is_busy:
+        if self.is_busy:
+            self.held += data
+            if len(self.held) > MOST_HEAD:
+                self.transport.pause_reading()
+            return
+        if not self.held:
             self.wait(HEAD_SECONDS)
-        self.held += data
-        if self.is_busy and len(self.held) > MOST_HEAD:
-            self.transport.pause_reading()
-        elif not self.is_busy:
-            self.next_request()
+        self.held = (self.held + data).lstrip(b"\r\n")  # empty lines may stand in front of a request
+        self.next_request()
 
     def eof_received(self) -> bool:
-        """No more will come; an answer that is under way is sent still."""
-        self.is_ending = self.is_half = True
-        return self.is_busy
+        """No more will come; what was asked for is answered still."""
+        self.is_half = True
+        if not self.is_busy and not self.is_ending:
+            self.server.loop.call_soon(self.go_on)
+        return self.is_busy or not self.is_ending
 
     def connection_lost(self, fault: Optional[Exception]) -> None:
         """Nobody is there any more."""
@@ -228,6 +234,8 @@ class Connection(asyncio.Protocol):
         head, end, rest = self.held.partition(b"\r\n\r\n")
         if not end and len(self.held) <= MOST_HEAD:
             if b"\n" in self.held or len(self.held) <= MOST_LINE:
+                if self.is_half:
+                    self.transport.close()
                 return
         self.is_busy, self.began = True, time.perf_counter()
         self.request_line = head.partition(b"\r\n")[0][: 2 * MOST_LINE].decode("latin-1")
@@ -251,13 +259,13 @@ class Connection(asyncio.Protocol):
         if self.transport.is_closing():
             return
         size = answer.size()
-        fields = [("Date", self.server.date), *answer.fields]
-        if answer.status != 304:
-            fields.append(("Content-Length", str(size)))
+        lines = "".join(["%s: %s\r\n" % field for field in answer.fields])
+        if answer.status not in WITHOUT_BODY:
+            lines += "Content-Length: %d\r\n" % size
         if self.is_ending:
-            fields.append(("Connection", "close"))
-        lines = "".join("%s: %s\r\n" % field for field in fields)
-        head = ("HTTP/1.1 %d %s\r\n%s\r\n" % (answer.status, REASONS[answer.status], lines)).encode("latin-1")
+            lines += "Connection: close\r\n"
+        front = "HTTP/1.1 %d %s\r\nDate: %s\r\n" % (answer.status, REASONS[answer.status], self.server.date)
+        head = (front + self.server.always + lines + "\r\n").encode("latin-1")
         self.status, self.size = answer.status, size if with_body else 0
         self.kept = self.size if isinstance(answer.body, bytes) else PIECE
         self.server.held += self.kept
@@ -280,7 +288,7 @@ class Connection(asyncio.Protocol):
         self.server.log(self.peer, self.request_line, self.status, self.size, seconds)
         self.server.held, self.kept = self.server.held - self.kept, 0
         self.is_busy, self.pieces = False, iter(())
-        if self.is_ending:
+        if self.is_ending or self.is_half and not self.held:
             self.end()
         else:
             self.wait(HEAD_SECONDS if self.held else IDLE_SECONDS)
@@ -290,7 +298,7 @@ class Connection(asyncio.Protocol):
 
     def go_on(self) -> None:
         """Answers a request that came behind another one."""
-        if not self.is_busy and not self.transport.is_closing():
+        if not self.is_busy and not self.is_ending and not self.transport.is_closing():
             self.next_request()
 
     def end(self) -> None:
@@ -329,10 +337,12 @@ class Limits(NamedTuple):
 class Server:
     """Connections and the work for them. `each_tick` is called twice a second."""
 
-    def __init__(self, answers: Answers, log: Log, each_tick: Callable[[], None], limits: Limits = Limits()) -> None:
+    def __init__(self, answers: Answers, log: Log, each_tick: Callable[[], None], always: Fields, limits: Limits) -> None:
         self.answers, self.log, self.each_tick, self.limits = answers, log, each_tick, limits
+        self.always = "".join("%s: %s\r\n" % field for field in always)
         self.connections: Dict[Connection, None] = {}
         self.works: Dict[Connection, Work] = {}
+        self.row: Deque[Tuple[Connection, Work, bool]] = deque()  # works that are gone on with, one slice at a time
         self.held, self.date = 0, formatdate(usegmt=True)
         self.threads = ThreadPoolExecutor(AT_ONCE)
 
@@ -342,8 +352,9 @@ class Server:
         """Takes a connection in; where they are too many, the one that has been silent longest is closed."""
         self.connections[connection] = None
         if len(self.connections) > self.limits.connections:
-            silent = [one for one in self.connections if not one.is_busy]
-            min(silent, key=lambda one: one.since).transport.abort()
+            silent = min((one for one in self.connections if not one.is_busy), key=lambda one: one.since)
+            self.leave(silent)
+            silent.transport.abort()
 
     def leave(self, connection: Connection) -> None:
         """Lets a connection go, and what was under way for it."""
@@ -374,25 +385,40 @@ class Server:
             self.works[connection] = found
             if found.is_whole:
                 self.loop.create_task(self.go_apart(connection, found, with_body))
-            else:
-                self.go_on(connection, found, with_body)
+            elif self.goes_on(connection, found, with_body):
+                self.row.append((connection, found, with_body))
+                if len(self.row) == 1:
+                    self.loop.call_soon(self.next_slice)
 
-    def go_on(self, connection: Connection, work: Work, with_body: bool) -> None:
-        """Does a slice of some work, and the next one behind what others have to do."""
+    def next_slice(self) -> None:
+        """Goes on with the work whose turn it is."""
+        one = self.row.popleft()
+        if self.goes_on(*one):
+            self.row.append(one)
+        if self.row:
+            self.loop.call_soon(self.next_slice)
+
+    def goes_on(self, connection: Connection, work: Work, with_body: bool) -> bool:
+        """Does a slice of some work; answers whether there is more to do."""
         if connection not in self.works:
-            return
+            return False
         answer = guarded(lambda: work.go_on(time.perf_counter() + SLICE))
         if answer is None and self.held + sum(one.held() for one in self.works.values()) > self.limits.held:
             answer = busy()
         if answer is None:
-            self.loop.call_soon(self.go_on, connection, work, with_body)
-        else:
-            self.works.pop(connection)
-            connection.answer(answer, with_body)
+            return True
+        self.works.pop(connection)
+        connection.answer(answer, with_body)
+        return False
 
     async def go_apart(self, connection: Connection, work: Work, with_body: bool) -> None:
-        """Does work in a thread."""
-        answer = await self.loop.run_in_executor(self.threads, guarded, lambda: work.go_on(float("inf")))
+        """Does work in a thread, unless nobody waits for it any more once it is its turn."""
+
+        def done() -> Optional[Answer]:
+            """The answer."""
+            return guarded(lambda: work.go_on(float("inf")) if connection in self.works else None)
+
+        answer = await self.loop.run_in_executor(self.threads, done)
         if self.works.pop(connection, None):
             connection.answer(answer or busy(), with_body)
 

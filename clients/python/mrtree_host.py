@@ -76,7 +76,7 @@ PREFLIGHT = [
     ("Access-Control-Allow-Headers", "Range, If-Range, If-None-Match"),
     ("Access-Control-Max-Age", "86400"),
 ]
-SHARED = [
+SHARED = [  # so that pages of any site may read what is answered
     ("Access-Control-Allow-Origin", "*"),
     ("Access-Control-Expose-Headers", "ETag, Content-Range, Accept-Ranges"),
     ("X-Content-Type-Options", "nosniff"),
@@ -89,12 +89,13 @@ KEPT = 1  # maps that had a name before the one that has it now, and are still a
 
 
 class Slot:
-    """A name and the maps that it stood for, the present one first: those of files that were renamed to it."""
+    """A name and the map that it stands for, if it does; and those that it stood for before, the last one first."""
 
     def __init__(self, name: str, tell: Callable[[str], None]) -> None:
         self.name, self.tell, self.lock = name, tell, threading.Lock()
         self.mark: Tuple[int, ...] = ()
-        self.maps: List[MappedMap] = []
+        self.now: Optional[MappedMap] = None
+        self.before: List[MappedMap] = []
         self.open_now(mark_of(os.stat(name)))
 
     def refresh(self) -> None:
@@ -108,7 +109,7 @@ class Slot:
                 self.open_now(mark)
             except (MapRefused, OSError, ValueError) as fault:
                 if mark[:2] == self.mark[:2]:
-                    self.maps = self.maps[1:]  # the file was changed in place: what is mapped is no map any more
+                    self.now = None  # the file was changed in place: what is mapped is no map any more
                 self.tell("%s: %s" % (self.name, fault))
                 self.mark = mark
             finally:
@@ -120,8 +121,9 @@ class Slot:
             if not stat.S_ISREG(os.fstat(file.fileno()).st_mode):
                 raise OSError(0, "it is no file with bytes of its own", self.name)
             there = MappedMap(file)
-        is_other = mark[:2] != self.mark[:2]
-        self.maps, self.mark = [there, *(self.maps[:KEPT] if is_other else self.maps[1:])], mark
+        if self.now and mark[:2] != self.mark[:2]:
+            self.before = [self.now, *self.before][:KEPT]
+        self.now, self.mark = there, mark
         words = (there.root, there.version, there.head.batch, there.head.count, self.name)
         self.tell("map %s version %d batch %d records %d %s" % words)
 
@@ -155,11 +157,12 @@ class Host:
             if len(self.slots) > 1:
                 raise Unfit(404, "NoRoot", "there are several maps here, so a root digest stands in front: /ROOT/..")
             self.refresh()
-            if not self.slots[0].maps:
+            now = self.slots[0].now
+            if now is None:
                 raise Unfit(503, "Changed", "the file of the map was changed in place, and is none just now")
-            return self.slots[0].maps[0]
+            return now
         for slot in self.slots:
-            if any(there.root == root for there in slot.maps):
+            if slot.now and slot.now.root == root:
                 slot.refresh()
         found = self.kept(root)
         if found is None:
@@ -171,20 +174,20 @@ class Host:
 
     def kept(self, root: str) -> Optional[MappedMap]:
         """The map with this root digest among those that are open."""
-        return next((there for slot in self.slots for there in slot.maps if there.root == root), None)
+        there = [slot.now for slot in self.slots if slot.now] + [one for slot in self.slots for one in slot.before]
+        return next((one for one in there if one.root == root), None)
 
     # -- answers
 
     def answer(self, request: Request) -> Union[Answer, Work]:
-        """The answer to a request, or the work of which it comes. Pages of any site may read it."""
+        """The answer to a request, or the work of which it comes."""
         try:
-            found = self.answer_to(request)
+            return self.answer_to(request)
         except Unfit as unfit:
             more = [("Allow", METHODS)] if unfit.status == 405 else []
-            found = refusal(unfit.status, unfit.name, unfit.words, *more)
+            return refusal(unfit.status, unfit.name, unfit.words, *more)
         except Ended as ended:
-            found = refusal(422, "NeedsVersion2", ended.line)
-        return found if isinstance(found, Work) else shared(found)
+            return refusal(422, "NeedsVersion2", ended.line)
 
     def answer_to(self, request: Request) -> Union[Answer, Work]:
         """The answer to a request. Raises Unfit and Ended where it is refused."""
@@ -200,7 +203,7 @@ class Host:
             return file_of(self.map_of(file), request)
         if not what:
             refuse_words(request)
-            return as_json({"maps": [listed(slot.maps[0]) for slot in self.slots if slot.maps]}, "no-cache")
+            return as_json({"maps": [listed(slot.now) for slot in self.slots if slot.now]}, "no-cache")
         there = self.map_of(root)
         cached = FOR_EVER if root else "no-cache"
         if what == "head":
@@ -225,11 +228,6 @@ class Host:
         other.refuse_version_1()
         both = "%s-%s" % (there.root, other.root)
         return unchanged(request, both, cached) or Joining(there, other, self.bounds.most, both, cached)
-
-
-def shared(answer: Answer) -> Answer:
-    """An answer that pages of any site may read."""
-    return answer._replace(fields=answer.fields + SHARED)
 
 
 def tagged(tag: str, cached: str) -> Fields:
@@ -270,7 +268,7 @@ def read(reader: Callable[[str], T], word: str) -> T:
 def as_json(told: Any, cached: str, tag: str = "") -> Answer:
     """An answer in JSON."""
     fields = [("Content-Type", "application/json"), *(tagged(tag, cached) if tag else [("Cache-Control", cached)])]
-    return Answer(200, fields, (json.dumps(told, indent=1) + "\n").encode())
+    return Answer(200, fields, (json.dumps(told) + "\n").encode())
 
 
 def listed(there: MappedMap) -> Dict[str, Any]:
@@ -339,14 +337,14 @@ class Joining(Work):
 
 def proved(proof: bytes, tag: str, cached: str) -> Answer:
     """The answer that is a proof."""
-    return shared(Answer(200, [("Content-Type", "application/octet-stream"), *tagged(tag, cached)], proof))
+    return Answer(200, [("Content-Type", "application/octet-stream"), *tagged(tag, cached)], proof)
 
 
 def refused(fault: Exception, most: int) -> Answer:
     """The answer where no proof can be made."""
     if isinstance(fault, TooLong):
-        return shared(refusal(422, "TooLong", "the proof has more than %d bytes" % most))
-    return shared(refusal(500, "BadMap", "the file of the map has a fault: %s" % fault))
+        return refusal(422, "TooLong", "the proof has more than %d bytes" % most)
+    return refusal(500, "BadMap", "the file of the map has a fault: %s" % fault)
 
 
 # ---- the file
@@ -408,11 +406,11 @@ def make_application(names: List[str], bounds: Bounds = Bounds()) -> Application
     def answers(environ: Environ, start: Start) -> Iterable[bytes]:
         """The body of the answer to a request."""
         request = request_of(environ)
-        found = shared(request) if isinstance(request, Answer) else host.answer(request)
+        found = request if isinstance(request, Answer) else host.answer(request)
         answer = found.go_on(float("inf")) if isinstance(found, Work) else found
         assert answer is not None
-        fields = list(answer.fields)
-        if answer.status not in (204, 304):
+        fields = [*answer.fields, *SHARED]
+        if answer.status not in listening.WITHOUT_BODY:
             fields.append(("Content-Length", str(answer.size())))
         start("%d %s" % (answer.status, listening.REASONS[answer.status]), fields)
         if environ["REQUEST_METHOD"] == "HEAD":
@@ -585,7 +583,7 @@ def serve(words: Words) -> None:
 
         sys.setswitchinterval(0.001)  # so that a thread that makes a join does not keep others waiting
         limits = listening.Limits()._replace(connections=room(words.connections))
-        asyncio.run(listening.Server(host.answer, log.write, tick, limits).run(listener))
+        asyncio.run(listening.Server(host.answer, log.write, tick, SHARED, limits).run(listener))
 
     if len(sockets) == 1:
         run(sockets[0])
