@@ -143,7 +143,7 @@ class Bounds(NamedTuple):
 class Host:
     """The maps of some names, and the answers to requests. Raises MapRefused and OSError where a file is no map."""
 
-    def __init__(self, names: List[str], bounds: Bounds = Bounds(), tell: Callable[[str], None] = lambda line: None):
+    def __init__(self, names: List[str], bounds: Bounds, tell: Callable[[str], None]) -> None:
         self.slots, self.bounds = [Slot(name, tell) for name in names], bounds
 
     def refresh(self) -> None:

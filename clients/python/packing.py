@@ -15,7 +15,7 @@ import mrtree_check
 HERE = os.path.dirname(os.path.abspath(__file__))
 FILES = ["__init__.py", "mrtree_check.py", "mrtree_ask.py", "ranges.py", "pagewise.py", "layout.py"]
 FILES += ["outputs.py", "sources.py", "statement.py", "shapes.py", "kinds.py", "records.py", "draw.py", "py.typed"]
-FILES += ["mrtree_host.py", "listening.py", "mapped.py"]
+FILES += ["mrtree_host.py", "listening.py", "mapped.py", "tiles.py"]
 NAME = "mrtree_check-%s" % mrtree_check.__version__
 METADATA = """Metadata-Version: 2.1
 Name: mrtree-check
@@ -30,6 +30,7 @@ mrtree-layout = mrtree_check.layout:main
 mrtree-records = mrtree_check.records:main
 mrtree-draw = mrtree_check.draw:main
 mrtree-host = mrtree_check.mrtree_host:main
+mrtree-tiles = mrtree_check.tiles:main
 """
 WHEEL = "Wheel-Version: 1.0\nGenerator: packing\nRoot-Is-Purelib: true\nTag: py3-none-any\n"
 

@@ -16,6 +16,7 @@ import chances
 import foretold
 import formats
 import gis
+import hosts
 import inputs
 import mrtree_check
 import pages
@@ -28,7 +29,8 @@ import ways
 
 LONGEST = 40  # lines of a function
 MODULES = ["mrtree_check", "mrtree_ask", "ranges", "pagewise", "layout"]
-MODULES += ["outputs", "sources", "statement", "shapes", "kinds", "records", "draw", "packing"]
+MODULES += ["outputs", "sources", "statement", "shapes", "kinds", "records", "draw", "packing", "mrtree_host"]
+MODULES += ["listening", "mapped", "tiles"]
 MOST_IN_SHORT = 2**17  # bytes of a proof that the short run takes from a story
 # The rules by which texts, batches, map files and proofs are refused.
 RULES = """TooMany NoEnd Head Form Number Coordinate Order Payload Repeat Query Layer OutOfOrder Present Full Absent
@@ -221,6 +223,7 @@ def main(how: str, program: str) -> int:
         ("round trips with GDAL", gis.gis_hold),
         ("maps asked by their pages", ask.asks_hold),
         ("maps on servers", servers.all_hold),
+        ("a host", hosts.all_hold),
         ("the examples on pages", pages.pages_hold),
     ]
     if bench.is_long:

@@ -27,6 +27,7 @@ import mrtree_host
 import outputs
 import proofs
 import servers
+import tiles
 
 SLACK = 20  # seconds that anything may take on a busy machine
 NOT = "0" * 64  # a root digest of no map
@@ -132,9 +133,11 @@ def in_process(names: List[str], path: str, method: str, fields: Dict[str, str])
     environ.update({"wsgi.url_scheme": "http", "wsgi.input": io.BytesIO(), "wsgi.errors": io.StringIO()})
     environ.update({"wsgi.multithread": True, "wsgi.multiprocess": False, "wsgi.run_once": False})
     environ.update({"HTTP_" + name.replace("-", "_").upper(): value for name, value in fields.items()})
+    key = (os.getcwd(), *names)
     with contextlib.redirect_stderr(io.StringIO()):
-        made = wsgiref.validate.validator(mrtree_host.make_application(names))
-    body = made(environ, lambda status, fields: began.extend((status, fields)))
+        if key not in MADE:
+            MADE[key] = wsgiref.validate.validator(mrtree_host.make_application(names))
+        body = MADE[key](environ, lambda status, fields: began.extend((status, fields)))
     whole = b"".join(body)
     body.close()
     return Reply(int(began[0][:3]), {name.lower(): value for name, value in began[1]}, whole)
@@ -646,8 +649,7 @@ sys.exit(mrtree_host.main(["--port", "0", "m"]))
         links = [socket.create_connection(("127.0.0.1", port), SLACK) for _ in range(4)]
         links[1].sendall(b"GET / HT")
         links[2].sendall(b"GET / HTTP/1.1\r\nHost: a\r\n\r\n")
-        links[3].setsockopt(socket.SOL_SOCKET, socket.SO_RCVBUF, 4096)
-        links[3].sendall(b"GET /%s.map HTTP/1.1\r\nHost: a\r\n\r\n" % root * 50)
+        links[3].sendall(b"GET /%s.map HTTP/1.1\r\nHost: a\r\n\r\n" % root * 200)
         bench.holds(within(lambda: is_closed(links[0]) and is_closed(links[1])), "half a request, or none")
         got = links[2].recv(65536)
         bench.holds(got.startswith(b"HTTP/1.1 200") and within(lambda: is_closed(links[2])), "no next request")
@@ -660,7 +662,7 @@ sys.exit(mrtree_host.main(["--port", "0", "m"]))
                 total += len(piece)
                 if not piece:
                     break
-        bench.holds(total < 50 * os.path.getsize("m"), "an answer that is not taken: %d bytes" % total)
+        bench.holds(total < 200 * os.path.getsize("m"), "an answer that is not taken: %d bytes" % total)
         child.terminate()
         bench.holds(child.wait(SLACK) == 0, "the host's status")
         for link in links:
@@ -825,10 +827,61 @@ def proxy_holds(bench: Bench) -> None:
             child.wait(SLACK)
 
 
+def tiles_hold(bench: Bench) -> None:
+    """A map in tiles: each file is the proof of its window, all records are there, and what does not fit leaves nothing."""
+    for version in (1, 2):
+        one = chances.Map(bench, random.Random(91), 700, False, version, chances.Kind(500, (0, 3, 100)))
+        said = bench.call(tiles, ["grid", "200", "-500,-500,600,600", "grid"])
+        bench.holds(said == (0, b"tiles.py: 49 tiles\n"), "a grid: %s" % (said,))
+        bench.program(["serve", "m", "grid", "u"])
+        folder = "tiles%d" % version
+        said = bench.call(tiles, ["split", "grid", "u", folder])
+        bench.holds(said == (0, b"tiles.py: 49 tiles\n"), "tiles: %s" % (said,))
+        found = {}
+        for at in range(-3, 4):
+            for row in range(-3, 4):
+                word = "window:%d,%d,%d,%d" % (200 * at, 200 * row, 200 * at + 199, 200 * row + 199)
+                bench.program(["prove", "m", word, "p"])
+                proof = read("%s/200/%d/%d.proof" % (folder, at, row))
+                bench.holds(proof == read("p") != b"", "the tile %d %d" % (at, row))
+                for record in mrtree_check.check(one.root, word, proof).records:
+                    found[record.number] = record.rect
+        meant = {record.number: record.rect for record in one.records}
+        bench.holds(found == meant, "the records of all tiles: %d of %d" % (len(found), len(meant)))
+    bundle = read("u")
+    write("cut", bundle[:-1])
+    write("more", bundle + b"\0")
+    write("twice", b"window:0,0,1,1\n" * 2)
+    write("other", b"window:0,0,1,2\n")
+    write("layers", b"window:0,0,1,1/0000000000000001\n")
+    before = sorted(os.listdir("."))
+    for words, status, meant in (
+        (["grid", "0", "0,0,1,1", "g"], 1, "SIDE is a number of map units"),
+        (["grid", "5", "0,0,1", "g"], 1, "SIDE is a number of map units"),
+        (["grid", "1", "0,0,9999,9999", "g"], 1, "these are 100000000 tiles, and a script has at most 65536"),
+        (["grid", "3000000000", "0,0,9,9", "g"], 1, "a tile reaches over the coordinates that there are"),
+        (["split", "grid", "cut", "new"], 1, "cut: it has less than the queries of the script"),
+        (["split", "grid", "more", "new"], 1, "more: it has more than the queries of the script"),
+        (["split", "twice", "u", "new"], 1, "twice: a tile is there twice"),
+        (["split", "other", "u", "new"], 1, "a query of the script is for no tile"),
+        (["split", "layers", "u", "new"], 1, "a query of the script is for no tile"),
+        (["split", "u", "u", "new"], 3, "bad text line 1 Query"),
+        (["split", "grid", "u", folder], 1, "%s is there already" % folder),
+        (["split", "grid", "none", "new"], 7, "none: No such file or directory"),
+        (["join"], 1, "usage: tiles.py grid"),
+    ):
+        said = bench.call(tiles, words)
+        is_so = said[0] == status and said[1].startswith(("tiles.py: " + meant).encode())
+        bench.holds(is_so and sorted(os.listdir(".")) == before, "tiles.py %s: %s" % (words, said))
+
+
+MADE: Dict[Tuple[str, ...], Any] = {}  # applications, by the folder and the names of the maps
+
+
 def all_hold(bench: Bench) -> None:
     """All of it."""
     parts = (proofs_hold, exchanged_hold, changed_hold, table_holds, hostile_hold, bent_hold, slow_hold)
-    for part in (*parts, processes_hold, words_hold, applications_hold, proxy_holds):
+    for part in (*parts, processes_hold, words_hold, applications_hold, proxy_holds, tiles_hold):
         began = time.monotonic()
         with tempfile.TemporaryDirectory(dir=".") as folder:
             os.chdir(folder)
