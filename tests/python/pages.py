@@ -33,17 +33,17 @@ NO_EXAMPLES = {"DESIGN.md", "FORMATS.md"}
 COMMANDS = set(
     """awk cat cd chmod cmp cp curl cut diff echo export for git grep gunzip gzip head if jq ln ls make mkdir mv nice
     node npm ogr2ogr ogrinfo od openssl pip printf python3 rm rt sed sh sha256sum sort split ssh-keygen strace tail tar
-    tee test touch tr truncate ulimit unzip wc while xxd zip""".split()
+    tee test timeout touch tr truncate ulimit unzip wc while xxd zip""".split()
 )
 # What is not everywhere: a block that needs it is passed over where it is not there, and told.
-OPTIONAL = ("git", "jq", "node", "ogr2ogr", "ogrinfo", "openssl", "ssh-keygen", "strace", "xxd")
+OPTIONAL = ("curl", "git", "jq", "node", "ogr2ogr", "ogrinfo", "openssl", "ssh-keygen", "strace", "xxd")
 # A line that gives a value to a name, which the blocks behind it have too.
 GIVES = r"""\w+=(\S*|\$\(.*\)|"[^"]*"|'[^']*')$"""
 CODE = r"`[^`]*`"
 LONGEST_RUN = 600  # seconds
 MOST_WORDS = 35  # of a sentence
 # The pages whose sentences are counted.
-PLAIN = """README.md CHANGELOG.md docs/PUBLISHING.md docs/SERVING.md docs/HOSTING.md docs/READING.md docs/DEVELOPING.md docs/SPEED.md
+PLAIN = """README.md CHANGELOG.md docs/PUBLISHING.md docs/SERVING.md docs/HOSTING.md docs/HOST.md docs/READING.md docs/DEVELOPING.md docs/SPEED.md
     docs/COUNTS.md docs/JOINS.md docs/HEADLINE.md docs/PROVED.md docs/HOSTILE.md docs/GLOSSARY.md docs/DECISIONS.md docs/COMMANDS.md docs/FORMATS.md
     docs/DESIGN.md docs/PROVING.md docs/DEFINITIONS.md""".split()
 # The words that the script itself answers, before any build; and those that build, where the program is there.
