@@ -96,7 +96,7 @@ class Slot:
         self.mark: Tuple[int, ...] = ()
         self.now: Optional[MappedMap] = None
         self.before: List[MappedMap] = []
-        self.open_now(mark_of(os.stat(name)))
+        self.open_now()
 
     def refresh(self) -> None:
         """Opens the file anew that has the name now, where it is another one."""
@@ -106,7 +106,7 @@ class Slot:
             return  # whoever renames a file may take the old one away first
         if mark != self.mark and self.lock.acquire(blocking=False):
             try:
-                self.open_now(mark)
+                self.open_now()
             except (MapRefused, OSError, ValueError) as fault:
                 if mark[:2] == self.mark[:2]:
                     self.now = None  # the file was changed in place: what is mapped is no map any more
@@ -115,17 +115,23 @@ class Slot:
             finally:
                 self.lock.release()
 
-    def open_now(self, mark: Tuple[int, ...]) -> None:
+    def open_now(self) -> None:
         """Opens the file that has the name now. Raises MapRefused, OSError."""
-        with open(self.name, "rb") as file:
-            if not stat.S_ISREG(os.fstat(file.fileno()).st_mode):
+        with open(self.name, "rb", opener=without_waiting) as file:
+            status = os.fstat(file.fileno())
+            if not stat.S_ISREG(status.st_mode):
                 raise OSError(0, "it is no file with bytes of its own", self.name)
-            there = MappedMap(file)
+            there, mark = MappedMap(file), mark_of(status)
         if self.now and mark[:2] != self.mark[:2]:
             self.before = [self.now, *self.before][:KEPT]
         self.now, self.mark = there, mark
         words = (there.root, there.version, there.head.batch, there.head.count, self.name)
         self.tell("map %s version %d batch %d records %d %s" % words)
+
+
+def without_waiting(name: str, flags: int) -> int:
+    """Opens a file, and does not wait for anybody where it is a pipe."""
+    return os.open(name, flags | os.O_NONBLOCK)
 
 
 def mark_of(status: os.stat_result) -> Tuple[int, ...]:
@@ -587,6 +593,7 @@ def serve(words: Words) -> None:
 
     if len(sockets) == 1:
         run(sockets[0])
+        os._exit(0)  # no thread is waited for that makes a join for nobody
     else:
         keep_running(sockets, run)
 

@@ -527,7 +527,7 @@ def modules_hold(bench: Bench) -> None:
 
 
 def installs(bench: Bench) -> None:
-    """pip makes a package of the folder without a network: the modules with their types, and five commands."""
+    """pip makes a package of the folder without a network: the modules with their types, and commands."""
     if importlib.util.find_spec("pip") is None:
         bench.skip("pip installs the package: there is no pip")
         return
@@ -551,6 +551,10 @@ def installs(bench: Bench) -> None:
         bench.holds(ran.returncode == 0 and read("laid") == read("m"), "mrtree-layout: %s" % (ran,))
         ran = run([os.path.join(into, "bin", "mrtree-ask"), ROOT, WINDOW, "laid"])
         bench.holds((ran.returncode, ran.stdout) == bench.client(["check", ROOT, WINDOW, PROOF]), "mrtree-ask")
+        ran = run([os.path.join(into, "bin", "mrtree-host"), "--help"])
+        bench.holds(ran.returncode == 0 and b"usage: mrtree_host.py" in ran.stdout, "mrtree-host: %s" % (ran,))
+        ran = run([os.path.join(into, "bin", "mrtree-tiles"), "grid", "5", "0,0,5,5", "grid"])
+        bench.holds(ran.returncode == 0 and read("grid").count(b"\n") == 4, "mrtree-tiles: %s" % (ran,))
         asks = "import mrtree_check; print(mrtree_check.__version__, mrtree_check.check.__module__)"
         ran = run([sys.executable, "-c", asks])
         meant = "%s mrtree_check.mrtree_check\n" % mrtree_check.__version__
