@@ -790,6 +790,7 @@ http {
             proxy_set_header Connection "";
             proxy_cache proofs;
             proxy_cache_lock on;
+            proxy_cache_revalidate on;
             add_header X-Cache $upstream_cache_status;
         }
     }
