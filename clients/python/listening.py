@@ -327,7 +327,7 @@ def behind(head: bytes, pieces: Iterator[bytes]) -> Iterator[bytes]:
 
 
 class Limits(NamedTuple):
-    """The most connections at once, pieces of work under way, and bytes of answers that are made or sent; of a process."""
+    """What a process has at most: connections, work under way, and bytes of answers that are made or sent."""
 
     connections: int = 1000
     works: int = 64
@@ -335,9 +335,11 @@ class Limits(NamedTuple):
 
 
 class Server:
-    """Connections and the work for them. `each_tick` is called twice a second."""
+    """Connections and the work for them. `each_tick` is called twice a second; each answer has the fields `always`."""
 
-    def __init__(self, answers: Answers, log: Log, each_tick: Callable[[], None], always: Fields, limits: Limits) -> None:
+    def __init__(
+        self, answers: Answers, log: Log, each_tick: Callable[[], None], always: Fields, limits: Limits
+    ) -> None:
         self.answers, self.log, self.each_tick, self.limits = answers, log, each_tick, limits
         self.always = "".join("%s: %s\r\n" % field for field in always)
         self.connections: Dict[Connection, None] = {}

@@ -84,7 +84,7 @@ class MappedMap:
     # -- proofs
 
     def proof(self, query: Query) -> Pieces:
-        """The honest proof of the answer to a query. Raises Ended where it names a mask, and the map is of version 1."""
+        """The honest proof of the answer to a query. Raises Ended where it names a mask and the map is of version 1."""
         if query.mask is not None:
             self.refuse_version_1()
         return self.judged(self.proof_of_answer(query))
@@ -115,9 +115,10 @@ class MappedMap:
         yield from self.proof_of(b"K" if query.k else b"W", flag, client.reach(query, radius))
 
     def radius(self, query: Query) -> Generator[bytes, None, Optional[int]]:
-        """The squared distance of the last one of the nearest records; None where there are fewer. The pieces are empty.
+        """The squared distance of the last one of the nearest records; None where there are fewer.
 
-        The nearest node is opened, again and again, as long as it may hold a nearer record.
+        The pieces that come before it are empty. The nearest node is opened, again and again, as long as it may hold a
+        nearer record.
         """
         point, asked, root = query.rect, client.layers(query), self.head.root
         best: List[int] = []  # the least squared distances, at most k of them; negated, as a heap
@@ -206,7 +207,10 @@ def whole(pieces: Iterable[bytes], most: int) -> bytes:
 
 
 def join_proof(first: MappedMap, second: MappedMap, most: int) -> bytes:
-    """The honest proof of which records of two maps meet. Raises Ended where a map is of version 1; TooLong; MapRefused."""
+    """The honest proof of which records of two maps meet.
+
+    Raises Ended where a map is of version 1, TooLong where the proof has more bytes than this, and MapRefused.
+    """
     for one in (first, second):
         one.refuse_version_1()
     root, top = second.head.root, first.head.root

