@@ -1,0 +1,482 @@
+"""A published map as GIS programs want it: boxes in the unit of its coordinate system, and features that were proved.
+
+The gateway and GDAL's driver stand on it. Each answer is made of pages of the map's file, or comes from a host, and is
+checked against the root digest by mrtree_check; nothing else is handed out. A large window is cut into cells of some
+thousand records, each a query of its own: so the first features of a large map cost no more than one cell. How the
+cells lie is guessed by the map's inner nodes, and no answer hangs on it. Tested, and not proved.
+"""
+from __future__ import annotations
+
+import json
+import threading
+from collections import OrderedDict
+from decimal import ROUND_CEILING, ROUND_FLOOR, Decimal
+from typing import Any, Callable, Dict, List, NamedTuple, Optional, Sequence, Tuple, Union
+from urllib.parse import quote, urlsplit
+
+if __package__:
+    from . import mrtree_check as client
+    from . import records
+    from .mrtree_check import Answer, Ended, Record, Rect
+    from .outputs import Unfit
+    from .pagewise import Child, FarMap
+    from .ranges import Limits, Meter, is_address, read_address, source_of
+    from .sources import Grid
+    from .statement import Statement, compare, judged, read_file
+else:
+    import mrtree_check as client
+    import records
+    from mrtree_check import Answer, Ended, Record, Rect
+    from outputs import Unfit
+    from pagewise import Child, FarMap
+    from ranges import Limits, Meter, is_address, read_address, source_of
+    from sources import Grid
+    from statement import Statement, compare, judged, read_file
+
+ALL: Rect = (-(2**31), -(2**31), 2**31 - 1, 2**31 - 1)  # the window in which every record lies
+CORNER: Rect = (-(2**31), -(2**31), -(2**31), -(2**31))  # and one that costs little, to hear what the map is
+PER_CELL = 1000  # records of a cell, about
+MOST_PARTS = 4096  # nodes by which cells are guessed
+KEPT = 16  # answers, counts and rows of cells that are kept
+LAYER, LAYER_NAME = "layer", "layer_name"  # the properties that have the layer of a record of version 2
+PER_LEAF, PER_NODE = 16, 64  # the most records of a leaf, and the most nodes below one
+LIMITS = Limits(bytes=2**28, requests=10000, seconds=60)  # of one query
+
+
+def open_shapes(name: str, limits: Limits) -> Any:
+    """The features of a map whose payloads are digests."""
+    raise Unfit("%s: shapes are not read yet" % name)
+
+
+Box = Tuple[Decimal, Decimal, Decimal, Decimal]  # x0, y0, x1, y1 in the unit of the coordinate system
+Start = Tuple[int, int]  # a place in a long answer: a cell, and how many features of it were told
+
+
+class Plan(NamedTuple):
+    """What is said of a map before it is asked: by its statement, or by the words of a command line."""
+
+    name: str
+    title: str
+    root: str
+    address: str
+    grid: Grid
+    crs: Optional[str]  # an authority and a code, as EPSG:25833
+    in_degrees: bool  # whether x is the longitude and y the latitude, in degrees
+    number: str = "number"  # the property that has the number
+    payload: str = "none"  # none, text, digest, key or hexadecimal, as in statements
+    payload_name: str = "payload"  # the property that has it
+    layers: Dict[int, str] = {}  # the names of layers
+    shapes: Optional[str] = None
+    statement: Optional[Statement] = None
+
+
+class State(NamedTuple):
+    """What an accepted proof says of the map: its version, batch and count of records, and the rectangle round them."""
+
+    version: int
+    batch: int
+    count: int
+    rect: Optional[Rect]
+
+
+class Window(NamedTuple):
+    """A box in map units: rounded outwards, which is asked for, and inwards, which a record has to meet.
+
+    Between two units the second has its sides out of order, and what meets it lies over both.
+    """
+
+    outer: Rect
+    inner: Rect
+
+    def meets(self, rect: Rect) -> bool:
+        """Whether a rectangle meets the box itself, to the last digit.
+
+        >>> Window((1, 0, 2, 9), (2, 0, 1, 9)).meets((1, 5, 2, 5)), Window((1, 0, 2, 9), (2, 0, 1, 9)).meets((2, 5, 2, 5))
+        (True, False)
+        """
+        inner = self.inner
+        return rect[0] <= inner[2] and inner[0] <= rect[2] and rect[1] <= inner[3] and inner[1] <= rect[3]
+
+
+class Page(NamedTuple):
+    """Part of an answer: its records, where the next part begins, if there is one; and how many there are in all."""
+
+    records: List[Record]
+    rest: Optional[Start]
+    matched: Optional[int]
+
+
+class Kept:
+    """The last few results of what costs much, by their keys. Several threads may ask at once."""
+
+    def __init__(self, most: int = KEPT) -> None:
+        self.most, self.lock = most, threading.Lock()
+        self.found: OrderedDict[Any, Any] = OrderedDict()
+
+    def get(self, key: Any, make: Callable[[], Any]) -> Any:
+        """The result with this key, which is made where it is not kept."""
+        with self.lock:
+            if key in self.found:
+                self.found.move_to_end(key)
+                return self.found[key]
+        made = make()
+        with self.lock:
+            self.found[key] = made
+            while len(self.found) > self.most:
+                self.found.popitem(last=False)
+        return made
+
+
+# ---- where proofs come from
+
+
+class ByPages:
+    """A map's file, of which the pages are fetched that a query opens. One query at a time is asked."""
+
+    def __init__(self, root: str, address: str, limits: Limits) -> None:
+        self.root, self.address, self.limits = client.read_root(root), address, limits
+        self.map: Optional[FarMap] = None
+        self.lock = threading.Lock()
+
+    def opened(self) -> FarMap:
+        """The map, with what may be fetched for one query more. Raises Failed and MapRefused."""
+        meter = Meter(self.limits)
+        if self.map is None:
+            self.map = FarMap(self.root, source_of(self.address, meter))
+        self.map.source.meter = meter
+        return self.map
+
+    def proof(self, word: str) -> bytes:
+        """The proof of a window. Raises Failed, Ended and MapRefused."""
+        with self.lock:
+            return self.opened().proof(client.read_query(word))
+
+    def count_proof(self, word: str) -> bytes:
+        """The proof of a count. Raises as `proof`."""
+        with self.lock:
+            return self.opened().count_proof(client.read_window(word))
+
+    def parts(self, rect: Rect) -> List[Tuple[Rect, int]]:
+        """Rectangles of nodes that meet a window, each with about how many records it has. Raises as `proof`."""
+        with self.lock:
+            there = self.opened()
+            row = [there.head.root] if there.head.root else []
+            while row and row[0].level > 1 and len(row) < MOST_PARTS:
+                there.fetch(row)
+                row = [one for child in row for one in there.node(child).children if client.meet(one.part.rect, rect)]
+            return [(child.part.rect, size_of(child)) for child in row]
+
+
+def size_of(child: Child) -> int:
+    """About how many records are below an entry: in version 1 the most that there can be."""
+    return child.part.count or min(client.MOST_RECORDS, PER_LEAF * PER_NODE**child.level)
+
+
+class ByHost:
+    """A host, which answers `prove?query=WORD` and `count?query=WORD` below its address with the proof."""
+
+    def __init__(self, root: str, address: str, limits: Limits) -> None:
+        self.address, self.limits = address, limits
+
+    def proof(self, word: str) -> bytes:
+        """The proof of a window. Raises Failed."""
+        return self.got("prove", word)
+
+    def count_proof(self, word: str) -> bytes:
+        """The proof of a count. Raises Failed."""
+        return self.got("count", word)
+
+    def got(self, path: str, word: str) -> bytes:
+        """What the host answers to a word. Raises Failed."""
+        return read_file("%s%s?query=%s" % (self.address, path, quote(word, safe=":,/-")), self.limits.bytes)
+
+    def parts(self, rect: Rect) -> List[Tuple[Rect, int]]:
+        """Nothing is known of the nodes of its map."""
+        return []
+
+
+def is_host(address: str) -> bool:
+    """Whether an address is that of a host: its path ends with a slash, or there is none.
+
+    >>> is_host("http://127.0.0.1:8711/"), is_host("http://example.org"), is_host("http://example.org/a.map")
+    (True, True, False)
+    """
+    return is_address(address) and (urlsplit(address).path or "/").endswith("/")
+
+
+def source_at(root: str, address: str, limits: Limits) -> Union[ByPages, ByHost]:
+    """Where the proofs of a map come from. Raises Unfit where an address is none."""
+    try:
+        if is_address(address):
+            read_address(address)
+    except ValueError as fault:
+        raise Unfit("%s: %s" % (address, fault)) from None
+    if is_host(address):
+        return ByHost(root, address if address.endswith("/") else address + "/", limits)
+    return ByPages(root, address, limits)
+
+
+# ---- boxes, windows and cells
+
+
+def window_of(box: Box, grid: Grid) -> Optional[Window]:
+    """The window of a box; none where no coordinate in map units lies in it. Raises Unfit where sides are out of order.
+
+    >>> window_of(tuple(map(Decimal, ("0.04", "0", "0.31", "1"))), Grid(Decimal("0.1")))
+    Window(outer=(0, 0, 4, 10), inner=(1, 0, 3, 10))
+    >>> window_of(tuple(map(Decimal, ("0.10000000000000001", "0", "0.30000000000000004", "1"))), Grid(Decimal("0.1")))
+    Window(outer=(1, 0, 4, 10), inner=(1, 0, 3, 10))
+    >>> window_of(tuple(map(Decimal, ("1e999", "0", "2e999", "1"))), Grid(Decimal("0.1"))) is None
+    True
+    """
+    if box[0] > box[2] or box[1] > box[3]:
+        raise Unfit("the sides of the box are out of order")
+    low, high = grid.unit * ALL[0], grid.unit * ALL[2]
+    if box[0] > high or box[1] > high or box[2] < low or box[3] < low:
+        return None
+    sides = [snapped(min(max(side, low), high), grid) for side in box]
+    down, up = ([grid.units(side, way) for side in sides] for way in (ROUND_FLOOR, ROUND_CEILING))
+    return Window((down[0], down[1], up[2], up[3]), (up[0], up[1], down[2], down[3]))
+
+
+def snapped(side: Decimal, grid: Grid) -> Decimal:
+    """A side of a box; where it is a whole map unit but for the digits that a number of 64 bits adds, that unit.
+
+    GIS programs write 13.39 as 13.39000000000000057, and mean records at 13.39 too.
+
+    >>> snapped(Decimal("13.39000000000000057"), Grid(Decimal("1e-7"))), snapped(Decimal("1.5"), Grid(Decimal(1)))
+    (Decimal('13.3900000'), Decimal('1.5'))
+    """
+    near = grid.unit * grid.units(side)
+    return near if float(near) == float(side) else side
+
+
+def word_of(rect: Rect, mask: Optional[int]) -> str:
+    """The word of the query for a window, on the layers of a mask.
+
+    >>> word_of((0, 0, 9, 9), None), word_of((0, 0, 9, 9), 0b101)
+    ('window:0,0,9,9', 'window:0,0,9,9/0000000000000005')
+    """
+    return "window:%d,%d,%d,%d" % rect + ("" if mask is None else "/%016x" % mask)
+
+
+Parts = List[Tuple[Rect, float]]  # rectangles, each with about how many records it has
+
+
+def cut_to(rect: Rect, parts: Parts) -> Parts:
+    """What of some rectangles lies in a window, with the share of their records that lies there, if they lie evenly.
+
+    >>> cut_to((5, 0, 20, 20), [((0, 0, 9, 9), 100), ((0, 0, 4, 9), 7)])
+    [((5, 0, 9, 9), 50.0)]
+    """
+    found = []
+    for part, size in parts:
+        if client.meet(part, rect):
+            x0, y0, x1, y1 = max(part[0], rect[0]), max(part[1], rect[1]), min(part[2], rect[2]), min(part[3], rect[3])
+            area = (part[2] - part[0] + 1) * (part[3] - part[1] + 1)
+            found.append(((x0, y0, x1, y1), size * (x1 - x0 + 1) * (y1 - y0 + 1) / area))
+    return found
+
+
+def cells_of(rect: Rect, parts: Parts, count: int) -> List[Rect]:
+    """A window in cells of some thousand records each, if those of the map lie in these rectangles evenly.
+
+    >>> cells_of((0, 0, 9, 9), [((0, 0, 9, 3), 900), ((0, 4, 9, 9), 900)], 1800)
+    [(0, 0, 4, 9), (5, 0, 9, 9)]
+    """
+    inside = cut_to(rect, parts)
+    scale = min(1.0, count / (sum(size for _, size in inside) or 1.0))
+    cells, left = [], [(rect, [(part, size * scale) for part, size in inside])]
+    while left:
+        cell, inside = left.pop()
+        halves = halved(cell, inside) if sum(size for _, size in inside) > 1.5 * PER_CELL else []
+        left.extend((half, cut_to(half, inside)) for half in reversed(halves))
+        if not halves:
+            cells.append(cell)
+    return cells
+
+
+def halved(cell: Rect, parts: Parts) -> List[Rect]:
+    """A cell in two, across its longer side, with about as many records each; none where it is a single map unit."""
+    axis = 1 if cell[3] - cell[1] > cell[2] - cell[0] else 0
+    if cell[axis] == cell[axis + 2]:
+        return []
+    ordered = sorted(((part[axis] + part[axis + 2]) // 2, size) for part, size in parts)
+    half, total, cut = sum(size for _, size in ordered) / 2, 0.0, cell[axis]
+    for place, size in ordered:
+        total += size
+        if total >= half:
+            cut = min(place, cell[axis + 2] - 1)
+            break
+    low, high = list(cell), list(cell)
+    low[axis + 2], high[axis] = cut, cut + 1
+    return [(low[0], low[1], low[2], low[3]), (high[0], high[1], high[2], high[3])]
+
+
+# ---- the map
+
+
+class Published:
+    """A published map. Several threads may ask at once.
+
+    What it raises: Refused, and of that MapRefused, where a proof or a page is refused; Failed where a server or a file
+    fails; StatementRefused where the map is another one than the statement says; and Ended and Unfit as they say.
+    """
+
+    def __init__(self, plan: Plan, limits: Limits = LIMITS) -> None:
+        self.plan, self.limits, self.source = plan, limits, source_at(plan.root, plan.address, limits)
+        self.states, self.rows, self.answers, self.counts, self.places = Kept(), Kept(), Kept(), Kept(), Kept(100000)
+        self.shapes: Any = None
+        self.shapes_lock = threading.Lock()
+
+    def state(self) -> State:
+        """What the map is, by a proof of next to nothing."""
+        return self.states.get("state", self.asked_state)
+
+    def asked_state(self) -> State:
+        """The same, asked anew."""
+        rects: List[Rect] = []
+        answer = self.checked(CORNER, None, lambda tag, level, rect, shown: rects.append(rect))
+        if self.plan.statement:
+            compare(self.plan.statement, answer.version, answer.batch, answer.count)
+        return State(answer.version, answer.batch, answer.count, rects[-1] if rects else None)
+
+    def checked(self, rect: Rect, mask: Optional[int], watch: Optional[client.Watch] = None) -> Answer:
+        """The checked answer to the query for a window."""
+        word = word_of(rect, mask)
+        with judged(self.plan.statement):
+            return client.check(self.plan.root, word, self.source.proof(word), watch)
+
+    def answer(self, rect: Rect, mask: Optional[int]) -> Answer:
+        """The same, or one that is kept."""
+        return self.answers.get((rect, mask), lambda: self.checked(rect, mask))
+
+    def inside(self, rect: Rect, mask: Optional[int]) -> int:
+        """How many records lie inside a window, by a checked count; the map is of version 2. A window may be empty."""
+        if rect[0] > rect[2] or rect[1] > rect[3]:
+            return 0
+        word = word_of(rect, mask)
+        with judged(self.plan.statement):
+            return client.check_count(self.plan.root, word, self.source.count_proof(word)).inside
+
+    # -- parts of an answer
+
+    def cells(self, rect: Rect) -> List[Rect]:
+        """The cells of a window: the same each time, since the map is."""
+        state = self.state()
+        if state.rect is None:
+            return [rect]
+        around = state.rect
+        return self.rows.get(rect, lambda: cells_of(rect, self.source.parts(rect) or [(around, state.count)], state.count))
+
+    def windows(self, box: Optional[Box]) -> List[Window]:
+        """The windows that a box is: none where no record can lie in it; two where it goes over the antimeridian."""
+        grid = self.plan.grid
+        if box is None:
+            return [Window(ALL, ALL)]
+        boxes = [box]
+        if self.plan.in_degrees and box[0] > box[2]:
+            boxes = [(box[0], box[1], Decimal(180), box[3]), (Decimal(-180), box[1], box[2], box[3])]
+        return [window for window in (window_of(one, grid) for one in boxes) if window]
+
+    def page(self, windows: Sequence[Window], mask: Optional[int], start: Start, limit: int) -> Page:
+        """Up to so many of the records that meet some windows, from a place on."""
+        cells = [(window, at, cell) for at, window in enumerate(windows) for cell in self.cells(window.outer)]
+        (at, skip), shown, total = start, [], None
+        while at < len(cells) and len(shown) < limit:
+            window, number, cell = cells[at]
+            found = [one for one in self.answer(cell, mask).records if is_of(one.rect, cell, window)]
+            found = [one for one in found if not any(before.meets(one.rect) for before in windows[:number])]
+            total, taken = len(found), found[skip : skip + limit - len(shown)]
+            shown, skip = shown + taken, skip + len(taken)
+            if skip >= total:
+                at, skip = at + 1, 0
+        for one in shown:
+            self.places.get(one.number, lambda: one.rect)
+        matched = total if len(cells) == 1 and total is not None else None if cells else 0
+        return Page(shown, (at, skip) if at < len(cells) else None, matched)
+
+    def matched(self, windows: Sequence[Window], mask: Optional[int]) -> Optional[int]:
+        """How many records meet some windows, where a checked count tells it: that of the map, or those of version 2."""
+        state = self.state()
+        if not windows or state.rect is None:
+            return 0
+        window = windows[0]
+        is_all = client.meet(window.inner, state.rect) and holds(window.inner, state.rect)
+        if mask is None and is_all:
+            return state.count
+        if len(windows) > 1 or state.version == 1:
+            return None
+        return self.counts.get((window.inner, mask), lambda: self.counted(window.inner, mask))
+
+    def counted(self, inner: Rect, mask: Optional[int]) -> int:
+        """How many records meet a window, by counts: all, less those on each side of it; those at corners were taken twice.
+
+        What lies wholly to the left of the window lies inside the half of the plane there, and so on.
+        """
+        x0, y0, x1, y1 = inner
+        left, low, right, high = ALL
+        columns, rows = [(left, x0 - 1), (x1 + 1, right)], [(low, y0 - 1), (y1 + 1, high)]
+        total = self.inside(ALL, mask)
+        total -= sum(self.inside((a, low, b, high), mask) for a, b in columns)
+        total -= sum(self.inside((left, a, right, b), mask) for a, b in rows)
+        return total + sum(self.inside((a, c, b, d), mask) for a, b in columns for c, d in rows)
+
+    # -- features
+
+    def features(self, shown: Sequence[Record]) -> List[str]:
+        """Records as features of GeoJSON: with their shapes, if the map has any, each by its digest; else as boxes."""
+        shapes: Dict[int, bytes] = {}
+        if self.plan.shapes and shown:
+            with self.shapes_lock:
+                if self.shapes is None:
+                    self.shapes = open_shapes(self.plan.shapes, self.limits)
+                shapes = self.shapes.fetch(shown)
+        return [self.feature(one, shapes.get(one.number)) for one in shown]
+
+    def feature(self, record: Record, shape: Optional[bytes] = None) -> str:
+        """A record as a feature. Raises Unfit where its payload is no text, and has to be."""
+        number = record.number if record.number <= records.MOST_EXACT else str(record.number)
+        properties, geometry = self.properties(record), records.geometry(record, self.plan.grid)
+        if shape is not None:
+            told = json.loads(shape)
+            properties.update(told.get("properties") or {})
+            geometry = records.compact(told["geometry"])
+        told = '"id":%s,"properties":%s' % (json.dumps(number), records.compact(properties))
+        return '{"type":"Feature",%s,"geometry":%s}' % (told, geometry)
+
+    def properties(self, record: Record) -> Dict[str, Any]:
+        """What is told of a record beside its place: the same names for each record of the map."""
+        plan, has_keys = self.plan, bool(self.plan.statement and self.plan.statement.keys)
+        is_text = has_keys or record.number > records.MOST_EXACT
+        properties: Dict[str, Any] = {plan.number: str(record.number) if is_text else record.number}
+        if self.state().version == 2:
+            properties[LAYER] = record.layer
+            if plan.layers:
+                properties[LAYER_NAME] = plan.layers.get(record.layer)
+        if plan.payload in ("text", "key"):
+            try:
+                properties[plan.payload_name] = record.payload.decode("utf-8")
+            except UnicodeDecodeError:
+                raise Unfit("the payload of record %d is not UTF-8" % record.number) from None
+        elif plan.payload != "none":
+            properties["digest" if plan.payload == "digest" else plan.payload_name] = record.payload.hex()
+        return properties
+
+    def found(self, number: int, mask: Optional[int] = None) -> Optional[Record]:
+        """The record of a number, where its place is known: it was told before, or its shape has it."""
+        rect = self.places.found.get(number)
+        if rect is None:
+            return None
+        return next((one for one in self.checked(rect, mask).records if one.number == number), None)
+
+
+def is_of(rect: Rect, cell: Rect, window: Window) -> bool:
+    """Whether a record is told with a cell of a window: its lower left corner, put into the window, lies there."""
+    x, y = max(rect[0], window.outer[0]), max(rect[1], window.outer[1])
+    return cell[0] <= x <= cell[2] and cell[1] <= y <= cell[3] and window.meets(rect)
+
+
+def holds(outer: Rect, rect: Rect) -> bool:
+    """Whether a rectangle lies in another one."""
+    return outer[0] <= rect[0] and outer[1] <= rect[1] and rect[2] <= outer[2] and rect[3] <= outer[3]
