@@ -1,4 +1,4 @@
-"""A driver of GDAL for published maps: each answer is checked, and ogr2ogr, QGIS and others get features that were proved.
+"""A driver of GDAL for published maps: each answer is checked, and ogr2ogr and others get features that were proved.
 
 GDAL finds it where GDAL_PYTHON_DRIVER_PATH names this folder. Names of a dataset: MRTREE:STATEMENT, or
 MRTREE:ROOT,address=ADDRESS,unit=UNIT; behind them may stand more of these: address, unit, crs, payload, shapes, number,
@@ -20,7 +20,7 @@ import sys
 from decimal import Decimal
 from typing import Any, Dict, Iterator, List, Optional, Tuple
 
-sys.path.append(os.path.dirname(os.path.abspath(__file__)))
+sys.path.insert(0, os.path.dirname(os.path.abspath(__file__)))
 
 import mrtree_gateway as gateway  # noqa: E402
 import published  # noqa: E402
@@ -31,6 +31,7 @@ from published import Published, Window  # noqa: E402
 from gdal_python_driver import BaseDataset, BaseDriver, BaseLayer  # noqa: E402
 
 PREFIX = "MRTREE:"
+# What may stand in the name of a dataset.
 OPTIONS = ("address", "unit", "crs", "payload", "shapes", "number", "name", "layers", "publishers")
 PER_PAGE = 1000  # features that are asked for at once
 SAMPLE = 100  # shapes by which the names and types of properties are told

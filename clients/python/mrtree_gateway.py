@@ -15,6 +15,7 @@ rule and place, and no feature.
 --payload NAME         of a ROOT: the payload is text, and the property NAME has it
 --digest               of a ROOT: the payload is the digest of a shape
 --shapes SHAPES        of a ROOT: the file or address of the shapes
+--places INDEX         the file or address of an index that tells where the record of a number or a key is
 --number NAME          the property that has the number of a record, else number
 --publishers FILE      each statement has to be signed by one of the publishers in this file
 --port PORT            else 8710; 0 is any that is free
@@ -23,8 +24,8 @@ rule and place, and no feature.
 --log                  tells each request on standard error
 --help, -h             prints this, where it stands first
 
-Exit statuses: 0 where it is ended by a signal, 1 of words that do not fit, 2 of a map or statement that is refused as it
-begins, 7 where one cannot be had or the port is taken. docs/GATEWAY.md has all answers. Tested, and not proved.
+Exit statuses: 0 where it is ended by a signal, 1 of words that do not fit, 2 of a map or statement that is refused as
+it begins, 7 where one cannot be had or the port is taken. docs/GATEWAY.md has all answers. Tested, and not proved.
 """
 from __future__ import annotations
 
@@ -58,6 +59,7 @@ if __package__:
     from .pagewise import MapRefused
     from .published import Box, Plan, Published, Start
     from .ranges import Failed, is_address
+    from .shapes import ShapeRefused
     from .sources import Grid
 else:
     import mrtree_ask
@@ -72,6 +74,7 @@ else:
     from pagewise import MapRefused
     from published import Box, Plan, Published, Start
     from ranges import Failed, is_address
+    from shapes import ShapeRefused
     from sources import Grid
 
 SCRIPT = "mrtree_gateway.py"
@@ -80,6 +83,7 @@ NAMES = ("127.0.0.1", "localhost", "[::1]")  # by which it may be asked
 PATIENCE = 30  # seconds that a client may be silent, or not take what is sent
 AT_ONCE = 64  # connections
 LIMIT, MOST_LIMIT = 1000, 10000  # features of a page, where it is not said, and at most
+EVERY, MOST_EVERY = "all", 100000  # the limit by which all features are asked for at once, and how many these may be
 MOST_DIGITS = 64  # letters of a coordinate
 MOST_TOLD = 400  # letters of a message
 DEFINITIONS = "http://www.opengis.net/def/crs/"
@@ -114,7 +118,7 @@ def fault_of(cause: Exception, is_later: bool = False) -> Fault:
     """
     words, code, more = str(cause), "SourceFailed", {}
     if isinstance(cause, Refused):
-        code = "MapRefused" if isinstance(cause, MapRefused) else "ProofRefused"
+        code = {MapRefused: "MapRefused", ShapeRefused: "ShapeRefused"}.get(type(cause), "ProofRefused")
         more = {"rule": cause.rule, "place": cause.place}
     elif isinstance(cause, statement.StatementRefused):
         code, more = "StatementRefused", {"rule": cause.rule}
@@ -174,8 +178,6 @@ def collections_of(maps: Sequence[Published]) -> Dict[str, Collection]:
     found = {}
     for one in maps:
         plan = one.plan
-        if plan.name in found:
-            raise Unfit("two maps are called %s: --name calls one of them otherwise" % plan.name)
         found[plan.name] = Collection(plan.name, plan.title, one)
         for layer, title in sorted(plan.layers.items()):
             name = "%s.layer-%d" % (plan.name, layer)
@@ -273,7 +275,8 @@ class Service:
             paths[path + "/items/{id}"] = operation("item-" + one.name, ["crs"], GEOJSON, [number])
         info = {"title": "checked maps", "version": __version__}
         shared = {"parameters": {name: dict(value, name=name, **QUERY) for name, value in PARAMETERS.items()}}
-        return {"openapi": "3.0.3", "info": info, "servers": [{"url": asked.base}], "paths": paths, "components": shared}
+        servers = [{"url": asked.base}]
+        return {"openapi": "3.0.3", "info": info, "servers": servers, "paths": paths, "components": shared}
 
     # -- features
 
@@ -290,6 +293,9 @@ class Service:
             raise Fault(400, "InvalidParameter", str(unfit)) from None
         try:
             page = one.map.page(windows, mask, start, limit)
+            if page.rest and asked.words.get("limit") == EVERY:
+                words = "more than %d features: the box has to be smaller, or a page asked for" % MOST_EVERY
+                raise Fault(400, "TooMany", words)
             matched = one.map.matched(windows, mask) if page.matched is None else page.matched
             features = one.map.features(page.records)
         except (Refused, Ended, Unfit) as cause:
@@ -325,16 +331,12 @@ class Service:
         asked.only("crs", "f")
         refuse_other_crs(one, asked.words.get("crs"), "crs")
         try:
-            number = client.read_decimal(word, 0, 2**64 - 1)
-        except ValueError:
-            number = -1
-        try:
-            found = one.map.found(number, one.mask(None))
+            found = one.map.found(word, one.mask(None))
             features = one.map.features([found] if found else [])
         except (Refused, Ended, Unfit) as cause:
             raise fault_of(cause) from None
         if not features:
-            told = "%s was not told before, and no proof goes by numbers: ask by bbox" % sources.clipped(word)
+            told = "where %s is nothing tells: no proof goes by numbers, so ask by bbox" % sources.clipped(word)
             raise Fault(404, "NotFound", told)
         here = asked.link("self", asked.path + spelled(asked.words), GEOJSON)
         links = [here, asked.link("collection", "/collections/" + one.name)]
@@ -377,8 +379,8 @@ def refuse_other_time(word: Optional[str]) -> None:
 
 def limit_of(word: Optional[str]) -> int:
     """How many features are asked for. Raises Fault."""
-    if word is None:
-        return LIMIT
+    if word in (None, EVERY):
+        return LIMIT if word is None else MOST_EVERY
     if not re.fullmatch("[0-9]{1,18}", word) or int(word) < 1:
         raise Fault(400, "InvalidParameter", "limit is a whole number from 1, and %d at most are told" % MOST_LIMIT)
     return min(int(word), MOST_LIMIT)
@@ -408,8 +410,8 @@ PARAMETERS: Dict[str, Dict[str, Any]] = {  # of items, with what OpenAPI says of
 def operation(name: str, words: List[str], kind: str, more: Sequence[Any] = ()) -> Dict[str, Any]:
     """What OpenAPI says of a path."""
     given = [*more, *({"$ref": "#/components/parameters/" + word} for word in words)]
-    told = {"200": {"description": "as asked for", "content": {kind: {"schema": {"type": "object"}}}}}
-    told.update({"400": {"description": "a parameter that is none"}, "502": {"description": "refused, or not to be had"}})
+    told: Dict[str, Any] = {"200": {"description": "as asked for", "content": {kind: {"schema": {"type": "object"}}}}}
+    told["400"], told["502"] = {"description": "a parameter that is none"}, {"description": "refused, or not to be had"}
     return {"get": {"operationId": name, "parameters": given, "responses": told}}
 
 
@@ -470,6 +472,8 @@ class Handler(BaseHTTPRequestHandler):
     def tell(self, status: int, kind: str, text: str, crs: Optional[str] = None) -> None:
         """Sends an answer."""
         body = text.encode("utf-8", "replace")
+        if self.request_version == "HTTP/0.9":  # the oldest clients take an answer without a head; none of them is left
+            self.request_version = "HTTP/1.0"
         self.send_response(status)
         self.send_header("Content-Type", kind)
         self.send_header("Content-Length", str(len(body)))
@@ -556,7 +560,7 @@ def parser_of_map() -> Parser:
     """The parser of the words of one map."""
     parser = Parser(prog=SCRIPT, add_help=False, allow_abbrev=False)
     parser.add_argument("words", nargs="*")
-    for option in ("--name", "--crs", "--payload", "--shapes"):
+    for option in ("--name", "--crs", "--payload", "--shapes", "--places"):
         parser.add_argument(option)
     parser.add_argument("--number", default="number")
     parser.add_argument("--unit", type=records.unit_of)
@@ -618,7 +622,7 @@ def plan_of(words: Sequence[str], publishers: Optional[str]) -> Plan:
         raise Unfit("behind a root digest stand the address of its map, and --unit")
     else:
         plan = plan_of_root(given, first, address)
-    plan = plan._replace(number=given.number, shapes=given.shapes or plan.shapes)
+    plan = plan._replace(number=given.number, shapes=given.shapes or plan.shapes, places=given.places)
     name = given.name or name_of(address or first if given.unit else first)
     if not re.fullmatch("[A-Za-z0-9_-]{1,64}", name):
         raise Unfit("%s is no name of a collection: it has letters, digits, _ and -" % sources.clipped(name))
@@ -688,6 +692,10 @@ def run(words: List[str]) -> None:
         return
     given, rest = parser_of_server().parse_known_args(words)
     plans = [plan_of(group, given.publishers) for group in groups_of(rest)]
+    called = [plan.name for plan in plans]
+    for name in called:
+        if called.count(name) > 1:
+            raise Unfit("two maps are called %s: --name calls one of them otherwise" % name)
     service = Service(collections_of([opened(plan) for plan in plans]))
     names = [*NAMES, *filter(None, given.names.lower().split(","))]
     try:

@@ -15,7 +15,7 @@ import mrtree_check
 HERE = os.path.dirname(os.path.abspath(__file__))
 FILES = ["__init__.py", "mrtree_check.py", "mrtree_ask.py", "ranges.py", "pagewise.py", "layout.py"]
 FILES += ["outputs.py", "sources.py", "statement.py", "shapes.py", "kinds.py", "records.py", "draw.py", "py.typed"]
-FILES += ["mrtree_host.py", "listening.py", "mapped.py", "tiles.py"]
+FILES += ["mrtree_host.py", "listening.py", "mapped.py", "tiles.py", "published.py", "mrtree_gateway.py"]
 NAME = "mrtree_check-%s" % mrtree_check.__version__
 METADATA = """Metadata-Version: 2.1
 Name: mrtree-check
@@ -26,6 +26,7 @@ Requires-Python: >=3.9
 COMMANDS = """[console_scripts]
 mrtree-check = mrtree_check.mrtree_check:main
 mrtree-ask = mrtree_check.mrtree_ask:main
+mrtree-gateway = mrtree_check.mrtree_gateway:main
 mrtree-layout = mrtree_check.layout:main
 mrtree-records = mrtree_check.records:main
 mrtree-draw = mrtree_check.draw:main

@@ -8,6 +8,7 @@ cells lie is guessed by the map's inner nodes, and no answer hangs on it. Tested
 from __future__ import annotations
 
 import json
+import re
 import threading
 from collections import OrderedDict
 from decimal import ROUND_CEILING, ROUND_FLOOR, Decimal
@@ -17,21 +18,23 @@ from urllib.parse import quote, urlsplit
 if __package__:
     from . import mrtree_check as client
     from . import records
-    from .mrtree_check import Answer, Ended, Record, Rect
+    from .mrtree_check import Answer, Record, Rect, Refused
     from .outputs import Unfit
     from .pagewise import Child, FarMap
-    from .ranges import Limits, Meter, is_address, read_address, source_of
+    from .ranges import Failed, Limits, Meter, is_address, read_address, source_of
     from .sources import Grid
-    from .statement import Statement, compare, judged, read_file
+    from .shapes import Shapes, open_shapes, places_of
+    from .statement import Statement, compare, compare_records, judged, number_of_key, read_file
 else:
     import mrtree_check as client
     import records
-    from mrtree_check import Answer, Ended, Record, Rect
+    from mrtree_check import Answer, Record, Rect, Refused
     from outputs import Unfit
     from pagewise import Child, FarMap
-    from ranges import Limits, Meter, is_address, read_address, source_of
+    from ranges import Failed, Limits, Meter, is_address, read_address, source_of
     from sources import Grid
-    from statement import Statement, compare, judged, read_file
+    from shapes import Shapes, open_shapes, places_of
+    from statement import Statement, compare, compare_records, judged, number_of_key, read_file
 
 ALL: Rect = (-(2**31), -(2**31), 2**31 - 1, 2**31 - 1)  # the window in which every record lies
 CORNER: Rect = (-(2**31), -(2**31), -(2**31), -(2**31))  # and one that costs little, to hear what the map is
@@ -41,11 +44,6 @@ KEPT = 16  # answers, counts and rows of cells that are kept
 LAYER, LAYER_NAME = "layer", "layer_name"  # the properties that have the layer of a record of version 2
 PER_LEAF, PER_NODE = 16, 64  # the most records of a leaf, and the most nodes below one
 LIMITS = Limits(bytes=2**28, requests=10000, seconds=60)  # of one query
-
-
-def open_shapes(name: str, limits: Limits) -> Any:
-    """The features of a map whose payloads are digests."""
-    raise Unfit("%s: shapes are not read yet" % name)
 
 
 Box = Tuple[Decimal, Decimal, Decimal, Decimal]  # x0, y0, x1, y1 in the unit of the coordinate system
@@ -67,6 +65,7 @@ class Plan(NamedTuple):
     payload_name: str = "payload"  # the property that has it
     layers: Dict[int, str] = {}  # the names of layers
     shapes: Optional[str] = None
+    places: Optional[str] = None  # the index that has the places of numbers
     statement: Optional[Statement] = None
 
 
@@ -91,7 +90,8 @@ class Window(NamedTuple):
     def meets(self, rect: Rect) -> bool:
         """Whether a rectangle meets the box itself, to the last digit.
 
-        >>> Window((1, 0, 2, 9), (2, 0, 1, 9)).meets((1, 5, 2, 5)), Window((1, 0, 2, 9), (2, 0, 1, 9)).meets((2, 5, 2, 5))
+        >>> window = Window((1, 0, 2, 9), (2, 0, 1, 9))
+        >>> window.meets((1, 5, 2, 5)), window.meets((2, 5, 2, 5))
         (True, False)
         """
         inner = self.inner
@@ -104,6 +104,9 @@ class Page(NamedTuple):
     records: List[Record]
     rest: Optional[Start]
     matched: Optional[int]
+
+
+Parts = List[Tuple[Rect, float]]  # rectangles, each with about how many records it has
 
 
 class Kept:
@@ -156,7 +159,7 @@ class ByPages:
         with self.lock:
             return self.opened().count_proof(client.read_window(word))
 
-    def parts(self, rect: Rect) -> List[Tuple[Rect, int]]:
+    def parts(self, rect: Rect) -> Parts:
         """Rectangles of nodes that meet a window, each with about how many records it has. Raises as `proof`."""
         with self.lock:
             there = self.opened()
@@ -173,10 +176,12 @@ def size_of(child: Child) -> int:
 
 
 class ByHost:
-    """A host, which answers `prove?query=WORD` and `count?query=WORD` below its address with the proof."""
+    """A host, which answers `ROOT/prove?query=WORD` and `ROOT/count?query=WORD` below its address with the proof."""
 
     def __init__(self, root: str, address: str, limits: Limits) -> None:
-        self.address, self.limits = address, limits
+        self.limits, self.address = limits, address if address.endswith("/") else address + "/"
+        self.pages = ByPages(root, self.address + root + ".map", limits)
+        self.place = self.address + root + "/"
 
     def proof(self, word: str) -> bytes:
         """The proof of a window. Raises Failed."""
@@ -188,11 +193,14 @@ class ByHost:
 
     def got(self, path: str, word: str) -> bytes:
         """What the host answers to a word. Raises Failed."""
-        return read_file("%s%s?query=%s" % (self.address, path, quote(word, safe=":,/-")), self.limits.bytes)
+        return read_file("%s%s?query=%s" % (self.place, path, quote(word, safe=":,/-")), self.limits.bytes)
 
-    def parts(self, rect: Rect) -> List[Tuple[Rect, int]]:
-        """Nothing is known of the nodes of its map."""
-        return []
+    def parts(self, rect: Rect) -> Parts:
+        """What the map's pages tell of its nodes, if the host gives them; else nothing."""
+        try:
+            return self.pages.parts(rect)
+        except (Refused, Failed):
+            return []
 
 
 def is_host(address: str) -> bool:
@@ -212,7 +220,7 @@ def source_at(root: str, address: str, limits: Limits) -> Union[ByPages, ByHost]
     except ValueError as fault:
         raise Unfit("%s: %s" % (address, fault)) from None
     if is_host(address):
-        return ByHost(root, address if address.endswith("/") else address + "/", limits)
+        return ByHost(root, address, limits)
     return ByPages(root, address, limits)
 
 
@@ -258,9 +266,6 @@ def word_of(rect: Rect, mask: Optional[int]) -> str:
     ('window:0,0,9,9', 'window:0,0,9,9/0000000000000005')
     """
     return "window:%d,%d,%d,%d" % rect + ("" if mask is None else "/%016x" % mask)
-
-
-Parts = List[Tuple[Rect, float]]  # rectangles, each with about how many records it has
 
 
 def cut_to(rect: Rect, parts: Parts) -> Parts:
@@ -326,7 +331,7 @@ class Published:
     def __init__(self, plan: Plan, limits: Limits = LIMITS) -> None:
         self.plan, self.limits, self.source = plan, limits, source_at(plan.root, plan.address, limits)
         self.states, self.rows, self.answers, self.counts, self.places = Kept(), Kept(), Kept(), Kept(), Kept(100000)
-        self.shapes: Any = None
+        self.shapes: Optional[Shapes] = None
         self.shapes_lock = threading.Lock()
 
     def state(self) -> State:
@@ -345,7 +350,10 @@ class Published:
         """The checked answer to the query for a window."""
         word = word_of(rect, mask)
         with judged(self.plan.statement):
-            return client.check(self.plan.root, word, self.source.proof(word), watch)
+            answer = client.check(self.plan.root, word, self.source.proof(word), watch)
+        if self.plan.statement:
+            compare_records(self.plan.statement, answer.records)
+        return answer
 
     def answer(self, rect: Rect, mask: Optional[int]) -> Answer:
         """The same, or one that is kept."""
@@ -366,8 +374,8 @@ class Published:
         state = self.state()
         if state.rect is None:
             return [rect]
-        around = state.rect
-        return self.rows.get(rect, lambda: cells_of(rect, self.source.parts(rect) or [(around, state.count)], state.count))
+        even: Parts = [(state.rect, state.count)]
+        return self.rows.get(rect, lambda: cells_of(rect, self.source.parts(rect) or even, state.count))
 
     def windows(self, box: Optional[Box]) -> List[Window]:
         """The windows that a box is: none where no record can lie in it; two where it goes over the antimeridian."""
@@ -397,7 +405,7 @@ class Published:
         return Page(shown, (at, skip) if at < len(cells) else None, matched)
 
     def matched(self, windows: Sequence[Window], mask: Optional[int]) -> Optional[int]:
-        """How many records meet some windows, where a checked count tells it: that of the map, or those of version 2."""
+        """How many records meet some windows, where a checked count tells it: of all, or in version 2 of any window."""
         state = self.state()
         if not windows or state.rect is None:
             return 0
@@ -410,7 +418,7 @@ class Published:
         return self.counts.get((window.inner, mask), lambda: self.counted(window.inner, mask))
 
     def counted(self, inner: Rect, mask: Optional[int]) -> int:
-        """How many records meet a window, by counts: all, less those on each side of it; those at corners were taken twice.
+        """How many records meet a window, by counts: all, less those on each side of it, and back those at each corner.
 
         What lies wholly to the left of the window lies inside the half of the plane there, and so on.
         """
@@ -431,6 +439,7 @@ class Published:
             with self.shapes_lock:
                 if self.shapes is None:
                     self.shapes = open_shapes(self.plan.shapes, self.limits)
+                self.shapes.source.meter = self.shapes.index.source.meter = Meter(self.limits)
                 shapes = self.shapes.fetch(shown)
         return [self.feature(one, shapes.get(one.number)) for one in shown]
 
@@ -463,12 +472,21 @@ class Published:
             properties["digest" if plan.payload == "digest" else plan.payload_name] = record.payload.hex()
         return properties
 
-    def found(self, number: int, mask: Optional[int] = None) -> Optional[Record]:
-        """The record of a number, where its place is known: it was told before, or its shape has it."""
-        rect = self.places.found.get(number)
-        if rect is None:
-            return None
-        return next((one for one in self.checked(rect, mask).records if one.number == number), None)
+    def found(self, word: str, mask: Optional[int]) -> Optional[Record]:
+        """The record of a number or a key, where its place is known: it was told before, or an index has it."""
+        numbers = []
+        if re.fullmatch("0|[1-9][0-9]{0,19}", word) and int(word) < 2**64:
+            numbers.append(int(word))
+        if self.plan.statement and self.plan.statement.keys:
+            numbers.append(number_of_key(word.encode("utf-8")))
+        for number in numbers:
+            rect = self.places.found.get(number)
+            if rect is None and self.plan.places:
+                rect = places_of(self.plan.places, [number], self.limits).get(number)
+            for one in self.checked(rect, mask).records if rect else []:
+                if one.number == number:
+                    return one
+        return None
 
 
 def is_of(rect: Rect, cell: Rect, window: Window) -> bool:

@@ -15,6 +15,7 @@ import beside
 import chances
 import foretold
 import formats
+import gateway
 import gis
 import hosts
 import inputs
@@ -30,7 +31,7 @@ import ways
 LONGEST = 40  # lines of a function
 MODULES = ["mrtree_check", "mrtree_ask", "ranges", "pagewise", "layout"]
 MODULES += ["outputs", "sources", "statement", "shapes", "kinds", "records", "draw", "packing", "mrtree_host"]
-MODULES += ["listening", "mapped", "tiles"]
+MODULES += ["listening", "mapped", "tiles", "published", "mrtree_gateway"]
 MOST_IN_SHORT = 2**17  # bytes of a proof that the short run takes from a story
 # The rules by which texts, batches, map files and proofs are refused.
 RULES = """TooMany NoEnd Head Form Number Coordinate Order Payload Repeat Query Layer OutOfOrder Present Full Absent
@@ -224,6 +225,7 @@ def main(how: str, program: str) -> int:
         ("maps asked by their pages", ask.asks_hold),
         ("maps on servers", servers.all_hold),
         ("a host", hosts.all_hold),
+        ("the gateway and the driver of GDAL", gateway.gateway_holds),
         ("the examples on pages", pages.pages_hold),
     ]
     if bench.is_long:

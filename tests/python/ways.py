@@ -555,6 +555,8 @@ def installs(bench: Bench) -> None:
         bench.holds(ran.returncode == 0 and b"usage: mrtree_host.py" in ran.stdout, "mrtree-host: %s" % (ran,))
         ran = run([os.path.join(into, "bin", "mrtree-tiles"), "grid", "5", "0,0,5,5", "grid"])
         bench.holds(ran.returncode == 0 and read("grid").count(b"\n") == 4, "mrtree-tiles: %s" % (ran,))
+        ran = run([os.path.join(into, "bin", "mrtree-gateway"), "--help"])
+        bench.holds(ran.returncode == 0 and b"mrtree_gateway.py MAP.." in ran.stdout, "mrtree-gateway: %s" % (ran,))
         asks = "import mrtree_check; print(mrtree_check.__version__, mrtree_check.check.__module__)"
         ran = run([sys.executable, "-c", asks])
         meant = "%s mrtree_check.mrtree_check\n" % mrtree_check.__version__
