@@ -683,13 +683,12 @@ def picture_holds(bench: Bench, records: List[Tuple[int, ...]]) -> None:
         for row in range(max(0, round((525300000 - y1) / step)), min(POINTS, round((525300000 - y0) / step))):
             for column in range(max(0, round((x0 - 133200000) / step)), min(POINTS, round((x1 - 133200000) / step))):
                 meant[row * POINTS + column] = 1
-    for at in range(0, len(picture), 3):
+    for at in range(0, min(len(picture), 3 * len(meant)), 3):
         wrong += (picture[at + 1] < 128) != meant[at // 3]
     share = sum(meant) / len(meant)
     is_so = 0.2 < share < 0.9 and wrong < 0.01 * len(meant)
     bench.holds(is_so, "QGIS: %d points differ, %.2f are drawn" % (wrong, share))
-    with open("out.png", "rb") as file:
-        bench.holds(file.read(4) == b"\x89PNG", "QGIS drew no picture")
+    bench.holds(read("out.png")[:4] == b"\x89PNG", "QGIS drew no picture")
     if os.environ.get("KEEP_PICTURE"):
         shutil.copy("out.png", os.environ["KEEP_PICTURE"])
 

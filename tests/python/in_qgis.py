@@ -8,7 +8,8 @@ import os
 import sys
 
 from qgis.core import QgsApplication, QgsFeatureRequest, QgsFillSymbol, QgsMapRendererSequentialJob, QgsMapSettings
-from qgis.core import QgsRectangle, QgsSingleSymbolRenderer, QgsVectorLayer
+from qgis.core import QgsPalLayerSettings, QgsRectangle, QgsSingleSymbolRenderer, QgsVectorLayer
+from qgis.core import QgsVectorLayerSimpleLabeling
 from qgis.PyQt.QtCore import QSize
 from qgis.PyQt.QtGui import QColor, QImage
 
@@ -20,6 +21,10 @@ def drawn(layer, box, out, is_plain):
     style = {"color": "200,30,30,255", "style": "solid", "outline_style": "no"}
     if not is_plain:
         style = {"color": "236,214,170,255", "outline_color": "120,80,40,255", "outline_width": "0.2"}
+        labels = QgsPalLayerSettings()
+        labels.fieldName = "number"
+        layer.setLabeling(QgsVectorLayerSimpleLabeling(labels))
+        layer.setLabelsEnabled(True)
     layer.setRenderer(QgsSingleSymbolRenderer(QgsFillSymbol.createSimple(style)))
     settings = QgsMapSettings()
     settings.setLayers([layer])
