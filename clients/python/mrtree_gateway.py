@@ -85,7 +85,7 @@ AT_ONCE = 64  # connections
 LIMIT, MOST_LIMIT = 1000, 10000  # features of a page, where it is not said, and at most
 EVERY, MOST_EVERY = "all", 100000  # the limit by which all features are asked for at once, and how many these may be
 MOST_DIGITS = 64  # letters of a coordinate
-MOST_TOLD = 400  # letters of a message
+MOST_TOLD, MOST_REASON = 400, 200  # letters of a message, and of what of it stands in the first line of an answer
 DEFINITIONS = "http://www.opengis.net/def/crs/"
 CRS84 = DEFINITIONS + "OGC/1.3/CRS84"
 PARTS = {"core": 1, "geojson": 1, "oas30": 1, "crs": 2}  # the conformance classes, each with its part of the standard
@@ -292,8 +292,9 @@ class Service:
         except Unfit as unfit:
             raise Fault(400, "InvalidParameter", str(unfit)) from None
         try:
-            page = one.map.page(windows, mask, start, limit)
-            if page.rest and asked.words.get("limit") == EVERY:
+            is_every = asked.words.get("limit") == EVERY
+            page = one.map.page(windows, mask, start, limit, box is None and not is_every)
+            if page.rest and is_every:
                 words = "more than %d features: the box has to be smaller, or a page asked for" % MOST_EVERY
                 raise Fault(400, "TooMany", words)
             matched = one.map.matched(windows, mask) if page.matched is None else page.matched
@@ -460,21 +461,25 @@ class Handler(BaseHTTPRequestHandler):
             asked = asked_of(self.path, hosts[0] if len(hosts) == 1 else "", self.server.names)
             self.tell(200, *self.server.service.answer(asked))
         except Fault as fault:
-            self.tell(fault.status, JSON, fault.body())
+            self.tell_fault(fault)
         except (Refused, Ended, Unfit) as cause:
-            fault = fault_of(cause)
-            self.tell(fault.status, JSON, fault.body())
+            self.tell_fault(fault_of(cause))
         except MemoryError:
-            self.tell(503, JSON, Fault(503, "NoMemory", "there is not enough memory").body())
+            self.tell_fault(Fault(503, "NoMemory", "there is not enough memory"))
 
     do_HEAD = do_GET
 
-    def tell(self, status: int, kind: str, text: str, crs: Optional[str] = None) -> None:
+    def tell_fault(self, fault: Fault) -> None:
+        """Sends an error. It stands in the first line too, which is all that QGIS shows of it."""
+        reason = fault.words.encode("ascii", "replace").decode()[:MOST_REASON]
+        self.tell(fault.status, JSON, fault.body(), reason=reason)
+
+    def tell(self, status: int, kind: str, text: str, crs: Optional[str] = None, reason: Optional[str] = None) -> None:
         """Sends an answer."""
         body = text.encode("utf-8", "replace")
         if self.request_version == "HTTP/0.9":  # the oldest clients take an answer without a head; none of them is left
             self.request_version = "HTTP/1.0"
-        self.send_response(status)
+        self.send_response(status, reason)
         self.send_header("Content-Type", kind)
         self.send_header("Content-Length", str(len(body)))
         self.send_header("Cache-Control", "no-store")
@@ -496,7 +501,7 @@ class Handler(BaseHTTPRequestHandler):
         if not hasattr(self, "command") or self.command is None:
             self.command = ""
         words = "only GET and HEAD are answered" if status == 405 else message or "the request is none"
-        self.tell(status, JSON, Fault(status, "BadRequest", words).body())
+        self.tell_fault(Fault(status, "BadRequest", words))
 
     def log_message(self, format: str, *words: Any) -> None:
         """Tells a request, where that is wanted."""

@@ -387,11 +387,13 @@ class Published:
             boxes = [(box[0], box[1], Decimal(180), box[3]), (Decimal(-180), box[1], box[2], box[3])]
         return [window for window in (window_of(one, grid) for one in boxes) if window]
 
-    def page(self, windows: Sequence[Window], mask: Optional[int], start: Start, limit: int) -> Page:
-        """Up to so many of the records that meet some windows, from a place on."""
+    def page(
+        self, windows: Sequence[Window], mask: Optional[int], start: Start, limit: int, is_short: bool = False
+    ) -> Page:
+        """Up to so many of the records that meet some windows, from a place on; a short one ends with its cell."""
         cells = [(window, at, cell) for at, window in enumerate(windows) for cell in self.cells(window.outer)]
         (at, skip), shown, total = start, [], None
-        while at < len(cells) and len(shown) < limit:
+        while at < len(cells) and len(shown) < limit and not (is_short and shown):
             window, number, cell = cells[at]
             found = [one for one in self.answer(cell, mask).records if is_of(one.rect, cell, window)]
             found = [one for one in found if not any(before.meets(one.rect) for before in windows[:number])]

@@ -13,12 +13,14 @@ import sys
 import tempfile
 import threading
 import time
+from decimal import Decimal
 from typing import Any, Dict, Iterator, List, NamedTuple, Optional, Tuple
 from urllib.parse import unquote
 
 from bench import CLIENTS, HERE, TOP, Bench, read, write
 import mrtree_check
 import mrtree_gateway
+import published
 import shapes
 import sources
 
@@ -273,13 +275,13 @@ class Window(NamedTuple):
 
     def sides(self) -> List[str]:
         """The sides, in the unit of the coordinate system."""
-        grid = mrtree_gateway.Grid(mrtree_gateway.Decimal(self.unit))
+        grid = sources.Grid(Decimal(self.unit))
         return [grid.in_file(side) for side in self.rect]
 
 
 def windows_on(bench: Bench, root: str, unit: str, count: int) -> List[Window]:
     """A window for each size, on the map `m` of so many generated records."""
-    grid, found = mrtree_gateway.Grid(mrtree_gateway.Decimal(unit)), []
+    grid, found = sources.Grid(Decimal(unit)), []
     for size in SIZES:
         half = int(10**6 * (min(size / count, 1) ** 0.5))
         for half in (half, half * 3 // 2, half * 2, half * 4):
@@ -517,6 +519,71 @@ def hostile_requests(bench: Bench) -> None:
     print("tests/clients: hostile requests to the gateway: " + told_)
 
 
+# ---- pages and counts, beside a scan
+
+
+def pages_hold(bench: Bench) -> None:
+    """Answers that are put together of small cells and pages are those of a scan, each record once; counts too."""
+    chance, unit = random.Random(67), Decimal("0.1")
+    for version in (1, 2):
+        lines = []
+        for number in range(1, 1500):
+            x, y = (round(chance.gauss(0, 500)) for _ in range(2)) if number % 3 else (chance.choice((-1800, 1790)), 7)
+            wide, high = (chance.choice((0, 0, 3, 10, 400)) for _ in range(2))
+            sides = x, y, min(x + wide, 1800), y + high
+            lines.append("%d %d %d %d %d%s -\n" % (number, *sides, " %d" % chance.choice((0, 3, 9)) * (version - 1)))
+        write("m.txt", "".join(lines).encode())
+        root = root_of(bench, "build2" if version == 2 else "build", "m")
+        records = [sources.record_of_line(line.rstrip("\n"), True) for line in lines]
+        plan = published.Plan("m", "m", root, "m.map", sources.Grid(unit), None, True)
+        kept, published.PER_CELL = published.PER_CELL, 40
+        map_ = published.Published(plan)
+        for number in range(400 if bench.is_long else 30):
+            box = None if number == 0 else box_of(chance)
+            mask = chance.choice((None, None, 1, 0b1001, 1 << 9, 1 << 5)) if version == 2 else None
+            answer_holds(bench, chance, map_, records, box, mask)
+        published.PER_CELL = kept
+
+
+def box_of(chance: random.Random) -> Tuple[Decimal, ...]:
+    """A box at random: with sides at map units or beside them, over the antimeridian, large or of no size."""
+    digits = chance.choice((1, 1, 3, 17))
+    x, y = (Decimal(round(chance.gauss(0, 50) * 10**digits)).scaleb(-digits) for _ in range(2))
+    if chance.random() < 0.15:
+        return Decimal(chance.randint(170, 180)), y, Decimal(chance.randint(-180, -170)), y + 90
+    wide, high = (Decimal(chance.choice((0, 1, 70, 900, 3000))).scaleb(-1) for _ in range(2))
+    return x, y, x + wide, y + high
+
+
+def answer_holds(
+    bench: Bench, chance: random.Random, map_: published.Published, records: List[Any], box: Any, mask: Optional[int]
+) -> None:
+    """An answer of pages is that of a scan, and so is the count, where one is told."""
+    unit, meant = map_.plan.grid.unit, set()
+    halves = [box]
+    if box is not None and box[0] > box[2]:
+        halves = [(box[0], box[1], 180, box[3]), (-180, box[1], box[2], box[3])]
+    for one in records:
+        x0, y0, x1, y1 = (side * unit for side in one.rect)
+        for half in halves:
+            meets = half is None or x0 <= half[2] and half[0] <= x1 and y0 <= half[3] and half[1] <= y1
+            if meets and (mask is None or mask >> one.layer & 1):
+                meant.add(one.number)
+    windows, start, found = map_.windows(box), (0, 0), []
+    limit, is_short, where = chance.choice((1, 7, 100, 5000)), chance.random() < 0.3, "%s, layers %s" % (box, mask)
+    while start and len(found) <= 3000:
+        page = map_.page(windows, mask, start, limit, is_short)
+        size = len(page.records)
+        bench.holds(0 < size <= limit or page.rest is None, "%s: %d of a page" % (where, size))
+        found += [one.number for one in page.records]
+        start = page.rest
+    is_so = len(found) == len(set(found)) and set(found) == meant
+    bench.holds(is_so, "%s: %d records, and %d" % (where, len(found), len(meant)))
+    counts = {page.matched, map_.matched(windows, mask)} - {None}
+    bench.holds(counts <= {len(meant)}, "%s: counts %s, and %d" % (where, counts, len(meant)))
+    bench.holds(bool(counts) or map_.state().version == 1 or len(windows) > 1, "%s: no count" % where)
+
+
 # ---- shapes
 
 SHAPES = [  # a feature each: a triangle with a hole, two lines, a point
@@ -553,7 +620,7 @@ def shapes_hold(bench: Bench) -> None:
 def shapes_written(bench: Bench, name: str) -> str:
     """Writes the map `t.map`, the shapes and both indexes of a file of GeoJSON; answers the root digest."""
     shelf, lines, entries = shapes.Shelf("."), [], []
-    reading = sources.Reading(name, sources.Options(mrtree_gateway.Grid(mrtree_gateway.Decimal("1e-7"))))
+    reading = sources.Reading(name, sources.Options(sources.Grid(Decimal("1e-7"))))
     with open(name, "rb") as file:
         for one in sources.features_of(file):
             rect, digest = sources.rect_of(one["geometry"], reading), sources.digest_of(one)
@@ -661,9 +728,17 @@ def qgis_holds(bench: Bench) -> None:
     bench.program(["prove", "m.map", "window:%d,%d,%d,%d" % rect, "p"])
     said = bench.client(["check", root, "window:%d,%d,%d,%d" % rect, "p"])[1].decode().splitlines()
     found = [tuple(map(int, line.split(" ")[:5])) for line in said]
-    with gateway([[root, "m.map", "--unit", "1e-7", "--name", "parcels"]]) as server:
+    whole = read("m.map")
+    pages = [whole[at : at + 4096] for at in range(0, len(whole), 4096)]
+    write("bent", b"".join(bent(page) if page[:1] == b"L" else page for page in pages))
+    called = {"parcels": "m.map", "bent": "bent"}
+    groups = [[root, file, "--unit", "1e-7", "--name", name] for name, file in called.items()]
+    with gateway(groups) as server:
         address = "http://127.0.0.1:%d" % server.server_port
         told = in_qgis([address, "parcels", "13.32,52.51,13.34,52.53", "out"])
+        refused = in_qgis([address, "bent", "13.32,52.51,13.34,52.53", "none"])
+    is_so = refused.get("is_valid") is False and "refused map page " in " ".join(refused.get("messages", []))
+    bench.holds(is_so and not os.path.exists("none.png"), "QGIS with a bent map: %s" % refused)
     numbers = sorted(one[0] for one in found)
     is_so = told.get("is_valid") is True and told["count"] == 3000 and told["crs"] == "EPSG:4326"
     bench.holds(is_so, "QGIS: %s" % told)
@@ -698,7 +773,7 @@ def picture_holds(bench: Bench, records: List[Tuple[int, ...]]) -> None:
 
 def gateway_holds(bench: Bench) -> None:
     """All of it, each part in a folder of its own."""
-    parts = [table_holds, hostile_requests, shapes_hold]
+    parts = [table_holds, pages_hold, hostile_requests, shapes_hold]
     if shutil.which("ogr2ogr"):
         parts += [windows_hold, refusals_hold, driver_holds, pipe_holds]
     else:

@@ -49,6 +49,8 @@ def main(address, name, sides, out):
     """Opens, counts, asks and draws."""
     application = QgsApplication([], False)  # it has to be kept
     application.initQgis()
+    messages = []
+    QgsApplication.messageLog().messageReceived.connect(lambda text, *more: messages.append(text))
     source = "url='%s' typename='%s' restrictToRequestBBOX='1'" % (address, name)
     layer = QgsVectorLayer(source, name, "OAPIF")
     told = {"is_valid": layer.isValid(), "error": layer.error().message() or layer.dataProvider().error().message()}
@@ -60,7 +62,8 @@ def main(address, name, sides, out):
         told["numbers"] = sorted(feature["number"] for feature in found)
         drawn(layer, box, out, True)
         drawn(layer, box, out, False)
-    print(json.dumps(told), flush=True)
+    application.processEvents()
+    print(json.dumps({**told, "messages": messages}), flush=True)
     os._exit(0)  # what QGIS takes down by itself ends now and then with a signal
 
 
