@@ -21,7 +21,7 @@ from bench import CLIENTS, HERE, TOP, Bench, read, write
 import mrtree_check
 import mrtree_gateway
 import published
-import shapes
+import records
 import sources
 
 STATEMENT = """map: %s
@@ -526,22 +526,22 @@ def pages_hold(bench: Bench) -> None:
     """Answers that are put together of small cells and pages are those of a scan, each record once; counts too."""
     chance, unit = random.Random(67), Decimal("0.1")
     for version in (1, 2):
-        lines = []
+        lines, made = [], []
         for number in range(1, 1500):
             x, y = (round(chance.gauss(0, 500)) for _ in range(2)) if number % 3 else (chance.choice((-1800, 1790)), 7)
             wide, high = (chance.choice((0, 0, 3, 10, 400)) for _ in range(2))
-            sides = x, y, min(x + wide, 1800), y + high
-            lines.append("%d %d %d %d %d%s -\n" % (number, *sides, " %d" % chance.choice((0, 3, 9)) * (version - 1)))
+            sides, layer = (x, y, min(x + wide, 1800), y + high), chance.choice((0, 3, 9))
+            made.append(mrtree_check.Record(number, sides, b"", layer))
+            lines.append(made[-1].line(version) + "\n")
         write("m.txt", "".join(lines).encode())
         root = root_of(bench, "build2" if version == 2 else "build", "m")
-        records = [sources.record_of_line(line.rstrip("\n"), True) for line in lines]
         plan = published.Plan("m", "m", root, "m.map", sources.Grid(unit), None, True)
         kept, published.PER_CELL = published.PER_CELL, 40
         map_ = published.Published(plan)
         for number in range(400 if bench.is_long else 30):
             box = None if number == 0 else box_of(chance)
             mask = chance.choice((None, None, 1, 0b1001, 1 << 9, 1 << 5)) if version == 2 else None
-            answer_holds(bench, chance, map_, records, box, mask)
+            answer_holds(bench, chance, map_, made, box, mask)
         published.PER_CELL = kept
 
 
@@ -556,14 +556,14 @@ def box_of(chance: random.Random) -> Tuple[Decimal, ...]:
 
 
 def answer_holds(
-    bench: Bench, chance: random.Random, map_: published.Published, records: List[Any], box: Any, mask: Optional[int]
+    bench: Bench, chance: random.Random, map_: published.Published, made: List[Any], box: Any, mask: Optional[int]
 ) -> None:
     """An answer of pages is that of a scan, and so is the count, where one is told."""
     unit, meant = map_.plan.grid.unit, set()
     halves = [box]
     if box is not None and box[0] > box[2]:
         halves = [(box[0], box[1], 180, box[3]), (-180, box[1], box[2], box[3])]
-    for one in records:
+    for one in made:
         x0, y0, x1, y1 = (side * unit for side in one.rect)
         for half in halves:
             meets = half is None or x0 <= half[2] and half[0] <= x1 and y0 <= half[3] and half[1] <= y1
@@ -619,19 +619,9 @@ def shapes_hold(bench: Bench) -> None:
 
 def shapes_written(bench: Bench, name: str) -> str:
     """Writes the map `t.map`, the shapes and both indexes of a file of GeoJSON; answers the root digest."""
-    shelf, lines, entries = shapes.Shelf("."), [], []
-    reading = sources.Reading(name, sources.Options(sources.Grid(Decimal("1e-7"))))
-    with open(name, "rb") as file:
-        for one in sources.features_of(file):
-            rect, digest = sources.rect_of(one["geometry"], reading), sources.digest_of(one)
-            record = mrtree_check.Record(int(one["id"]), rect, digest)
-            shelf.keep(record, sources.canonical(one).encode())
-            lines.append(record.line() + "\n")
-            entries.append(shapes.entry_of_place(record))
-    write("t.txt", "".join(lines).encode())
-    with open("town.shapes", "wb") as out, open("town.shapes.index", "wb") as index, open("places", "wb") as places:
-        shelf.write(out, index)
-        shapes.write_index(places, shapes.PLACES, entries, 0)
+    words = ["text", name, "t.txt", "--unit", "1e-7", "--digest", "--shapes-to", "town.shapes", "--places-to", "places"]
+    status, told = bench.call(records, words)
+    bench.holds(status == 0, "the shapes are written: %s" % told)
     return root_of(bench, "build", "t")
 
 
@@ -748,13 +738,13 @@ def qgis_holds(bench: Bench) -> None:
     bench.holds(inside >= set(numbers), "QGIS: %d features, and %d" % (len(inside), len(numbers)))
 
 
-def picture_holds(bench: Bench, records: List[Tuple[int, ...]]) -> None:
+def picture_holds(bench: Bench, found: List[Tuple[int, ...]]) -> None:
     """The picture has red where a record is, and white elsewhere, but for points at the sides of records."""
     picture, wrong = read("out.rgb"), 0
     bench.holds(len(picture) == 3 * POINTS * POINTS, "QGIS drew %d bytes" % len(picture))
     meant = bytearray(POINTS * POINTS)
     step = 200000 / POINTS
-    for _, x0, y0, x1, y1 in records:
+    for _, x0, y0, x1, y1 in found:
         for row in range(max(0, round((525300000 - y1) / step)), min(POINTS, round((525300000 - y0) / step))):
             for column in range(max(0, round((x0 - 133200000) / step)), min(POINTS, round((x1 - 133200000) / step))):
                 meant[row * POINTS + column] = 1
