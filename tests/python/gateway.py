@@ -298,8 +298,8 @@ def windows_on(bench: Bench, root: str, unit: str, count: int) -> List[Window]:
     return found
 
 
-def ways_of(port: int, root: str, window: Window, is_degrees: bool) -> List[List[str]]:
-    """The calls of ogr2ogr by which a window of the map `m` is read."""
+def ways_of(port: int, root: str, window: Window, is_degrees: bool, is_long: bool) -> List[List[str]]:
+    """The calls of ogr2ogr by which a window of the map `m` is read: in short all but one of them."""
     sides = window.sides()
     crs = "" if is_degrees else ",crs=EPSG:25833"
     name = "MRTREE:%s,address=m,unit=%s%s,name=m" % (root, window.unit, crs)
@@ -312,7 +312,7 @@ def ways_of(port: int, root: str, window: Window, is_degrees: bool) -> List[List
         words = "limit=all&crs=%s&bbox-crs=%s&bbox=%s" % (UTM, UTM, ",".join(sides))
         source = "http://127.0.0.1:%d/collections/m/items?%s" % (port, words)
         calls.append(calls[0][:4] + [source, *calls[0][-2:]])
-    return calls
+    return calls if is_long or not is_degrees or len(window.records) < 1000 else calls[1:]
 
 
 def windows_hold(bench: Bench) -> None:
@@ -325,7 +325,7 @@ def windows_hold(bench: Bench) -> None:
         words = [root, "m", "--unit", unit, "--name", "m"] + ([] if is_degrees else ["--crs", "EPSG:25833"])
         with gateway([words]) as server:
             for window in windows_on(bench, root, unit, count):
-                for call in ways_of(server.server_port, root, window, is_degrees):
+                for call in ways_of(server.server_port, root, window, is_degrees, bench.is_long):
                     window_holds(bench, call, window, is_degrees)
             if is_degrees:
                 open_holds(bench, server.server_port, count)
