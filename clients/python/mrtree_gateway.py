@@ -84,6 +84,7 @@ PATIENCE = 30  # seconds that a client may be silent, or not take what is sent
 AT_ONCE = 64  # connections
 LIMIT, MOST_LIMIT = 1000, 10000  # features of a page, where it is not said, and at most
 EVERY, MOST_EVERY = "all", 100000  # the limit by which all features are asked for at once, and how many these may be
+MANY = "more than %d features: the box has to be smaller, or a page asked for" % MOST_EVERY
 MOST_DIGITS = 64  # letters of a coordinate
 MOST_TOLD, MOST_REASON = 400, 200  # letters of a message, and of what of it stands in the first line of an answer
 DEFINITIONS = "http://www.opengis.net/def/crs/"
@@ -291,12 +292,13 @@ class Service:
             windows = one.map.windows(box)
         except Unfit as unfit:
             raise Fault(400, "InvalidParameter", str(unfit)) from None
+        is_every = asked.words.get("limit") == EVERY
         try:
-            is_every = asked.words.get("limit") == EVERY
+            if is_every and (one.map.matched(windows, mask) or 0) > MOST_EVERY:
+                raise Fault(400, "TooMany", MANY)
             page = one.map.page(windows, mask, start, limit, box is None and not is_every)
             if page.rest and is_every:
-                words = "more than %d features: the box has to be smaller, or a page asked for" % MOST_EVERY
-                raise Fault(400, "TooMany", words)
+                raise Fault(400, "TooMany", MANY)
             matched = one.map.matched(windows, mask) if page.matched is None else page.matched
             features = one.map.features(page.records)
         except (Refused, Ended, Unfit) as cause:

@@ -685,6 +685,7 @@ def pipe_holds(bench: Bench) -> None:
 # ---- QGIS
 
 POINTS = 400  # of the picture along each side
+BOX = "13.32,52.51,13.34,52.53"
 
 
 def has_qgis() -> bool:
@@ -693,13 +694,14 @@ def has_qgis() -> bool:
     return os.path.exists(call[0]) and subprocess.run(call, stderr=subprocess.DEVNULL).returncode == 0
 
 
-def in_qgis(words: List[str]) -> Dict[str, Any]:
-    """What QGIS says of a collection, without a screen."""
-    env = {**os.environ, "QT_QPA_PLATFORM": "offscreen", "HOME": os.getcwd()}
-    call = ["/usr/bin/python3", os.path.join(HERE, "in_qgis.py"), *words]
+def in_qgis(groups: List[List[str]]) -> List[Dict[str, Any]]:
+    """What QGIS says of some collections, without a screen."""
+    env = {**os.environ, **DRIVER, "QT_QPA_PLATFORM": "offscreen", "HOME": os.getcwd()}
+    env["PATH"] = "/usr/bin:/bin:" + os.environ.get("PATH", "")
+    call = ["/usr/bin/python3", os.path.join(HERE, "in_qgis.py"), *(word for group in groups for word in group)]
     ran = subprocess.run(call, stdout=subprocess.PIPE, stderr=subprocess.PIPE, env=env, timeout=300)
-    lines = ran.stdout.decode().splitlines()
-    return json.loads(lines[-1]) if ran.returncode == 0 and lines else {"error": ran.stderr.decode()[-300:]}
+    told = [json.loads(line) for line in ran.stdout.decode().splitlines() if line.startswith("{")]
+    return told + [{"error": ran.stderr.decode()[-300:]}] * (len(groups) - len(told))
 
 
 def qgis_holds(bench: Bench) -> None:
@@ -725,11 +727,15 @@ def qgis_holds(bench: Bench) -> None:
     groups = [[root, file, "--unit", "1e-7", "--name", name] for name, file in called.items()]
     with gateway(groups) as server:
         address = "http://127.0.0.1:%d" % server.server_port
-        told = in_qgis([address, "parcels", "13.32,52.51,13.34,52.53", "out"])
-        refused = in_qgis([address, "bent", "13.32,52.51,13.34,52.53", "none"])
+        source = "MRTREE:%s,address=m.map,unit=0.01,crs=EPSG:25833" % root
+        asked_for = [[address, "parcels", BOX, "out"], [address, "bent", BOX, "none"]]
+        asked_for.append([source, "m", "1332000,5251000,1334000,5253000", "metres"])
+        told, refused, metres = in_qgis(asked_for)
     is_so = refused.get("is_valid") is False and "refused map page " in " ".join(refused.get("messages", []))
     bench.holds(is_so and not os.path.exists("none.png"), "QGIS with a bent map: %s" % refused)
     numbers = sorted(one[0] for one in found)
+    is_so = metres.get("crs") == "EPSG:25833" and metres["count"] == 3000 and metres["numbers"] == numbers
+    bench.holds(is_so, "QGIS, by the driver: %s" % metres)
     is_so = told.get("is_valid") is True and told["count"] == 3000 and told["crs"] == "EPSG:4326"
     bench.holds(is_so, "QGIS: %s" % told)
     bench.holds(told.get("fields") == ["number"], "QGIS: fields %s" % told.get("fields"))

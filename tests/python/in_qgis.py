@@ -1,7 +1,8 @@
-"""Opens a collection of the gateway in QGIS without a screen. /usr/bin/python3 runs it: in_qgis.py ADDRESS NAME BOX OUT.
+"""Opens a collection of the gateway in QGIS without a screen. /usr/bin/python3 runs it: in_qgis.py ADDRESS NAME BOX OUT ..
 
-BOX is X0,Y0,X1,Y1. It prints JSON: how many features there are, the coordinate system, the fields, and the numbers of those in the box. It
-draws the box into OUT.png, and as plain bytes, three for each point, into OUT.rgb.
+BOX is X0,Y0,X1,Y1. ADDRESS is that of the gateway, or MRTREE: and what the driver of GDAL takes. Of each four words
+it prints a line of JSON: how many features there are, the coordinate system, the fields, and the numbers of those in
+the box. It draws the box into OUT.png, and as plain bytes, three for each point, into OUT.rgb.
 """
 import json
 import os
@@ -45,26 +46,36 @@ def drawn(layer, box, out, is_plain):
         file.write(b"".join(lines))
 
 
-def main(address, name, sides, out):
-    """Opens, counts, asks and draws."""
-    application = QgsApplication([], False)  # it has to be kept
-    application.initQgis()
-    messages = []
-    QgsApplication.messageLog().messageReceived.connect(lambda text, *more: messages.append(text))
+def told_of(address, name, sides, out):
+    """What QGIS tells of a collection."""
     source = "url='%s' typename='%s' restrictToRequestBBOX='1'" % (address, name)
-    layer = QgsVectorLayer(source, name, "OAPIF")
-    told = {"is_valid": layer.isValid(), "error": layer.error().message() or layer.dataProvider().error().message()}
+    is_driver = address.startswith("MRTREE:")
+    layer = QgsVectorLayer(address if is_driver else source, name, "ogr" if is_driver else "OAPIF")
+    told = {"is_valid": layer.isValid()}
     if layer.isValid():
         box = QgsRectangle(*map(float, sides.split(",")))
         told.update({"count": layer.featureCount(), "crs": layer.crs().authid()})
         told["fields"] = [field.name() for field in layer.fields()]
         found = layer.getFeatures(QgsFeatureRequest().setFilterRect(box))
         told["numbers"] = sorted(feature["number"] for feature in found)
-        drawn(layer, box, out, True)
-        drawn(layer, box, out, False)
-    application.processEvents()
-    print(json.dumps({**told, "messages": messages}), flush=True)
+        if not is_driver:
+            drawn(layer, box, out, True)
+            drawn(layer, box, out, False)
+    return told
+
+
+def main(words):
+    """Opens, counts, asks and draws, each collection in turn."""
+    application = QgsApplication([], False)  # it has to be kept
+    application.initQgis()
+    messages = []
+    QgsApplication.messageLog().messageReceived.connect(lambda text, *more: messages.append(text))
+    for at in range(0, len(words), 4):
+        told = told_of(*words[at : at + 4])
+        application.processEvents()
+        print(json.dumps({**told, "messages": messages}), flush=True)
+        messages.clear()
     os._exit(0)  # what QGIS takes down by itself ends now and then with a signal
 
 
-main(*sys.argv[1:])
+main(sys.argv[1:])
