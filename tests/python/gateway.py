@@ -324,11 +324,11 @@ def windows_hold(bench: Bench) -> None:
     for unit, is_degrees in (("1e-5", True), ("0.01", False)):
         words = [root, "m", "--unit", unit, "--name", "m"] + ([] if is_degrees else ["--crs", "EPSG:25833"])
         with gateway([words]) as server:
+            if is_degrees:
+                open_holds(bench, server.server_port, count)
             for window in windows_on(bench, root, unit, count):
                 for call in ways_of(server.server_port, root, window, is_degrees, bench.is_long):
                     window_holds(bench, call, window, is_degrees)
-            if is_degrees:
-                open_holds(bench, server.server_port, count)
 
 
 def window_holds(bench: Bench, call: List[str], window: Window, is_degrees: bool) -> None:
@@ -353,7 +353,8 @@ def open_holds(bench: Bench, port: int, count: int) -> None:
     said = gdal(["ogrinfo", "-so", "OAPIF:http://127.0.0.1:%d" % port, "m"])[1]
     took, used = time.monotonic() - began, time.process_time() - used
     bench.holds("Feature Count: %d\n" % count in said, "ogrinfo: %s" % said[:300])
-    bench.holds(used < 2 and (took < 2 or not bench.is_long), "opened in %.1f s, %.1f s of processor" % (took, used))
+    is_busy = os.getloadavg()[0] > (os.cpu_count() or 1)  # then the clock tells of other processes
+    bench.holds(used < 2 and (took < 2 or is_busy), "opened in %.1f s, %.1f s of processor" % (took, used))
     print("tests/clients: GDAL opens %d records in %.2f s, %.2f s of the gateway's processor" % (count, took, used))
 
 
