@@ -24,8 +24,10 @@ else:
     from shapes import HEAD, MAGIC, PLACES, SHAPES
 
 PIECE = 2**20  # bytes that are read at once
+INDEX = "index.map"  # the file in the folder of an atlas that has its index
 MOST_LINE = 4096  # bytes of the first line of a text
 KINDS = {b"W": "window", b"K": "nearest", b"C": "count", b"J": "part of a join"}  # of proofs, by their byte 5
+ATLAS_KINDS = (b"W", b"K", b"C")  # those of an atlas's proof
 NUMBER = rb"(?:0|[1-9][0-9]{0,19})"
 RECORD = re.compile(rb"%s(?: -?[0-9]{1,10}){4}( [0-9]{1,2})? (?:-|[0-9a-f]{2,400})" % NUMBER)
 BATCH = re.compile(rb"batch (%s)" % NUMBER)
@@ -36,6 +38,8 @@ SHOWN = ["map", "root", "atlas", "version", "batch", "records", "unit", "crs", "
 
 def lines_of(name: str, limits: Limits = Limits()) -> List[str]:
     """What a file or what lies at an address is, in lines. Raises Unfit, Refused and Failed."""
+    if not is_address(name) and os.path.isfile(os.path.join(name, INDEX)):
+        return ["file: folder of an atlas", *lines_of(os.path.join(name, INDEX), limits)[1:]]
     try:
         source = source_of(name, Meter(limits))
     except ValueError as fault:
@@ -127,6 +131,20 @@ def join_lines(front: bytes, size: Optional[int]) -> List[str]:
     return [*lines, "second batch: %d" % batch, "second records: %d" % count]
 
 
+def atlas_lines(front: bytes, size: Optional[int]) -> List[str]:
+    """What the frame of an atlas's proof says, and the head of its index's part. Raises Refused where it is none.
+
+    >>> atlas_lines(b"MRAT\1W" + bytes([0, 0, 0, 22]) + b"MRVO\1W" + bytes(15) + b"\5", None)
+    ['file: proof', 'kind: window of an atlas', 'batch: 0', 'sheets: 5']
+    """
+    kind = front[5:6]
+    if len(front) < 6 or front[4:5] != b"\1" or kind not in ATLAS_KINDS:
+        place = 4 if front[4:5] not in (b"", b"\1") else 5
+        raise Refused("Short" if len(front) < 6 else "BadVersion" if place == 4 else "WrongKind", place, b"", "frame")
+    _, _, batch, count = head_of_proof(front, 14 if kind == b"K" else 10)
+    return ["file: proof", "kind: %s of an atlas" % KINDS[kind], "batch: %d" % batch, "sheets: %d" % count]
+
+
 def index_lines(front: bytes, size: Optional[int]) -> List[str]:
     """What the head of an index says. Raises Unfit where it is none."""
     if len(front) < HEAD.size or front[4:6] not in (b"\1" + SHAPES, b"\1" + PLACES):
@@ -145,6 +163,7 @@ BY_MAGIC: Dict[bytes, Callable[[bytes, Optional[int]], List[str]]] = {
     b"MRMP": map_lines,
     b"MRVO": proof_lines,
     b"MRJN": join_lines,
+    b"MRAT": atlas_lines,
     MAGIC: index_lines,
     b"-----BEGIN SSH SIGNATURE-----": known_lines("signature"),
     b"\x1f\x8b": known_lines("packed by gzip"),

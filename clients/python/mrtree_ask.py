@@ -8,6 +8,8 @@ usage: mrtree_ask.py [OPTIONS] [check | check-count] ROOT QUERY SOURCE
 
 SOURCE is an address that begins with http:// or https://, or the name of a map file. Of it the pages are fetched that
 the query opens. The honest proof is made of them, and then it is checked by mrtree_check.py, whose lines are printed.
+A SOURCE that ends with a slash, or is a folder, is an atlas, a map of maps: then the lines are those of check-atlas and
+check-atlas-count. Joins are not of atlases.
 
 --proof FILE        keeps the proof in a file, once it is accepted
 --most BYTES        fetches at most so many bytes in all, else 1073741824
@@ -23,7 +25,9 @@ Exit statuses are those of mrtree_check.py, and 10 where a map of version 2 is n
 The script is tested, not proved.
 
 As a module: `ask(root, query, source)` answers what `check` of mrtree_check answers, or raises what it raises, and
-Failed where the file cannot be had. `ask_count` and `ask_join` do the same of counts and joins.
+Failed where the file cannot be had. `ask_count` and `ask_join` do the same of counts and joins. Of an atlas the first
+two answer what `check_atlas` and `check_atlas_count` do. `open_map` and `open_atlas` are for several queries: they keep
+what was fetched, and make the proofs.
 """
 from __future__ import annotations
 
@@ -45,20 +49,23 @@ from typing import Dict, List, NamedTuple, Optional, Tuple, Union
 if __package__:
     from . import mrtree_check as client
     from . import outputs, statement
-    from .mrtree_check import Answer, Count, Ended, Join, Query, Refused
+    from .mrtree_check import Answer, AtlasAnswer, AtlasCount, Count, Ended, Join, Query, Refused
     from .pagewise import MEANINGS, FarMap, MapRefused, join_proof
     from .ranges import Failed, Limits, Meter, is_address, read_address, source_of, told
+    from .sheetwise import FarAtlas, is_atlas
     from .statement import Statement
 else:
     import mrtree_check as client
     import outputs
     import statement
-    from mrtree_check import Answer, Count, Ended, Join, Query, Refused
+    from mrtree_check import Answer, AtlasAnswer, AtlasCount, Count, Ended, Join, Query, Refused
     from pagewise import MEANINGS, FarMap, MapRefused, join_proof
     from ranges import Failed, Limits, Meter, is_address, read_address, source_of, told
+    from sheetwise import FarAtlas, is_atlas
     from statement import Statement
 
-__all__ = ["FarMap", "Failed", "Limits", "MapRefused", "Refused", "ask", "ask_count", "ask_join", "open_map"]
+__all__ = ["FarAtlas", "FarMap", "Failed", "Limits", "MapRefused", "Refused", "ask", "ask_count", "ask_join"]
+__all__ += ["is_atlas", "open_atlas", "open_map"]
 
 SCRIPT = "mrtree_ask.py"
 USAGE = "usage: %s [OPTIONS] [check | check-count] ROOT QUERY SOURCE" % SCRIPT
@@ -73,19 +80,28 @@ def open_map(root: str, source: str, limits: Limits = Limits()) -> FarMap:
     return FarMap(client.read_root(root), source_of(source, Meter(limits)))
 
 
-def ask(root: str, query: str, source: str, limits: Limits = Limits()) -> Answer:
-    """The answer to a query word on the map with a root digest, whose file is at an address or has a name.
+def open_atlas(root: str, place: str, limits: Limits = Limits()) -> FarAtlas:
+    """The atlas with a root digest, in a folder or below an address, for several queries. Raises as `ask`."""
+    return FarAtlas(client.read_root(root), place, Meter(limits))
 
-    Raises Refused, and of that MapRefused where a page does not fit; Failed where the file cannot be had; Ended where a
-    mask is named and the map is of version 1; and ValueError where a word is no such word.
+
+def ask(root: str, query: str, source: str, limits: Limits = Limits()) -> Union[Answer, AtlasAnswer]:
+    """The answer to a query word on the map or atlas with a root digest, which is at an address or has a name.
+
+    Raises Refused, and of that MapRefused where a page does not fit; Failed where a file cannot be had; Ended where a
+    mask is named and a map is of version 1; and ValueError where a word is no such word.
     """
     asked = client.read_query(query)
+    if is_atlas(source):
+        return client.check_atlas(root, query, open_atlas(root, source, limits).proof(asked))
     return client.check(root, query, open_map(root, source, limits).proof(asked))
 
 
-def ask_count(root: str, query: str, source: str, limits: Limits = Limits()) -> Count:
+def ask_count(root: str, query: str, source: str, limits: Limits = Limits()) -> Union[Count, AtlasCount]:
     """How many records lie inside the window of a query word. Raises as `ask`."""
     asked = client.read_window(query)
+    if is_atlas(source):
+        return client.check_atlas_count(root, query, open_atlas(root, source, limits).count_proof(asked))
     return client.check_count(root, query, open_map(root, source, limits).count_proof(asked))
 
 
@@ -147,8 +163,12 @@ Done = Tuple[bytes, List[str]]  # a proof, and the lines of its answer
 
 def check_done(words: Words, meter: Meter) -> Done:
     """What comes of `check`."""
-    proof = FarMap(words.root, source_of(words.sources[0], meter)).proof(words.asked)
-    answer = client.judge(words.root, words.asked, [proof])
+    if is_atlas(words.sources[0]):
+        proof = FarAtlas(words.root, words.sources[0], meter).proof(words.asked)
+        answer: Union[Answer, AtlasAnswer] = client.judge_atlas(words.root, words.asked, [proof])
+    else:
+        proof = FarMap(words.root, source_of(words.sources[0], meter)).proof(words.asked)
+        answer = client.judge(words.root, words.asked, [proof])
     for said in words.said:
         statement.compare_verdict(said, answer)
         statement.compare_records(said, answer.records)
@@ -157,8 +177,12 @@ def check_done(words: Words, meter: Meter) -> Done:
 
 def count_done(words: Words, meter: Meter) -> Done:
     """What comes of `check-count`."""
-    proof = FarMap(words.root, source_of(words.sources[0], meter)).count_proof(words.asked)
-    count = client.judge_count(words.root, words.asked, [proof])
+    if is_atlas(words.sources[0]):
+        proof = FarAtlas(words.root, words.sources[0], meter).count_proof(words.asked)
+        count: Union[Count, AtlasCount] = client.judge_atlas_count(words.root, words.asked, [proof])
+    else:
+        proof = FarMap(words.root, source_of(words.sources[0], meter)).count_proof(words.asked)
+        count = client.judge_count(words.root, words.asked, [proof])
     for said in words.said:
         statement.compare_verdict(said, count)
     return proof, ["count %d" % count.inside]
@@ -207,6 +231,8 @@ def read_words(words: List[str]) -> Words:
     for source in filter(is_address, rest[2:]):
         read_address(source)
     proof = given.pop("--proof", [""])[0]
+    if command == "check-join" and any(map(is_atlas, rest[2:])):
+        raise ValueError("joins are of maps, and not of atlases")
     if proof:
         refuse_same(proof, [*rest[2:], *statements[0], *statements[1]])
     limits = {LIMITS[option]: read_number(option, word) for option, (word,) in given.items()}
@@ -275,7 +301,10 @@ def read_number(option: str, word: str) -> int:
 
 
 def refuse_same(proof: str, sources: List[str]) -> None:
-    """Raises ValueError where a proof is to stand in a file that is read."""
+    """Raises ValueError where a proof is to stand in a file that is read, or among those of an atlas."""
+    folder = os.path.dirname(os.path.realpath(proof))
+    if any(is_atlas(source) and folder == os.path.realpath(os.path.join(source, "sheets")) for source in sources):
+        raise ValueError("%s is to be written among the sheets of an atlas: give it another name" % proof)
     try:
         outputs.refuse_same(proof, sources)
     except outputs.Unfit as unfit:
@@ -331,7 +360,8 @@ def explain(words: List[str], status: int, text: str) -> None:
         if status == 1:
             read_words(words)
         page = re.search(r"map page [0-9]+ ([A-Za-z]+)", text) if status == 2 else None
-        why = MEANINGS.get(page[1], "") if page else client.meaning_of(text)
+        is_told = ": " in text  # what does not go with a statement says itself why
+        why = MEANINGS.get(page[1], "") if page else "" if is_told else client.meaning_of(text)
         if status == 10:
             why = "the map is of version 1, which has no layers, no counts and no joins"
     except ValueError as fault:

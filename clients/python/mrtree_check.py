@@ -5,6 +5,8 @@ usage: mrtree_check.py [--most BYTES] [check] ROOT QUERY PROOF
        mrtree_check.py [--most BYTES] check-count ROOT QUERY PROOF
        mrtree_check.py [--most BYTES] check-join ROOT ROOT2 PROOF
        mrtree_check.py [--most BYTES] check-all ROOT SCRIPT BUNDLE
+       mrtree_check.py [--most BYTES] check-atlas ROOT QUERY PROOF
+       mrtree_check.py [--most BYTES] check-atlas-count ROOT QUERY PROOF
        mrtree_check.py --help | -h | --version
 
 ROOT is the root digest of a map, 64 hexadecimal digits; QUERY is window:x0,y0,x1,y1 or nearest:x,y,k, in map units; and
@@ -12,14 +14,16 @@ PROOF is the file of a proof. Of many queries SCRIPT has one on each line, and B
 
 Lines and exit statuses are those of the program's commands of these names, with three differences. A file may be a pipe
 too. The name `-` is the standard input. And of a proof or bundle no more is read than `--most` allows: a longer one
-ends with status 7. Where the status is not 0, a line on standard error says what that mostly means. The script is
-tested against the program, and not proved.
+ends with status 7. Where the status is not 0, a line on standard error says what that mostly means. The program has no
+atlases: there the lines are those of `check` and `check-count` on all sheets together. The script is tested against the
+program, and not proved.
 
 As a module: `check(root, query, proof)` answers the records, the batch and the count of the map, or raises `Refused`;
 `check_count(root, query, proof)` answers how many records lie inside a window, by a count proof; and
-`check_join(root, root2, proof)` which records of two maps meet, by a join proof. Coordinates and rectangles are in map
-units, distances are squared map units, places are numbers of bytes. A mask is a number with a bit for each layer, bit
-l, worth 2^l, for layer l. Proofs are of version 1, which has no layers, or 2; count and join proofs are of version 2.
+`check_join(root, root2, proof)` which records of two maps meet, by a join proof. `check_atlas` and `check_atlas_count`
+do the same of an atlas, a map of maps. Coordinates and rectangles are in map units, distances are squared map units,
+places are numbers of bytes. A mask is a number with a bit for each layer, bit l, worth 2^l, for layer l. Proofs are of
+version 1, which has no layers, or 2; count and join proofs are of version 2.
 """
 from __future__ import annotations
 
@@ -44,6 +48,7 @@ from typing import Callable, Iterable, Iterator, List, NamedTuple, Optional, Tup
 
 __version__ = "1.3.0"
 __all__ = ["Answer", "Count", "Join", "Query", "Record", "Refused", "State", "Verdict", "check", "check_all"]
+__all__ += ["AtlasAnswer", "AtlasCount", "Sheet", "check_atlas", "check_atlas_count"]
 __all__ += ["check_count", "check_join", "distance", "meet"]
 
 Rect = Tuple[int, int, int, int]  # x0, y0, x1, y1 in map units, with x0 <= x1 and y0 <= y1; the sides belong to it
@@ -62,14 +67,26 @@ MOST_LAYER = 63
 ALL_LAYERS = 2**64 - 1  # their mask
 MOST_RADIUS = 2 * (2**32 - 1) ** 2  # the greatest squared distance
 MOST_LINES = 65536  # of a script
+EVERYTHING = 2**32 - 1  # half a side of a square round a point that has all other points in it
+PREIMAGE = {1: 67, 2: 75}  # bytes of the preimage of the root of a map with records, by the version
 PIECE = 65536  # bytes that are read at once
 COMMAND = "mrtree_check.py [--most BYTES]"
 # What a run mostly means that did not end with 0, by how its line begins; of several the first one that fits.
 MEANINGS = {
-    "refused frame BadMagic": "the file is no proof of a join",
+    "refused frame BadMagic": "the file is no proof of a join, or none of an atlas where that is asked for",
+    "refused frame BadVersion": "the proof is of an unknown version",
+    "refused frame WrongKind": "the proof is for another query, or of a count and not of an answer, or vice versa",
+    "refused frame WrongRadius": "the proof is for another query",
+    "refused frame Trailing": "there is more in the file than a proof",
+    "refused index WrongRoot": "the proof is of another atlas, or of another state of it than ROOT; or it was changed",
+    "refused index Missing": "the proof was cut off",
+    "refused index": "the proof is for another query, or the server held something back",
+    "refused sheet": "a sheet was held back, or is of another state; or the proof was cut off, or is for another query",
+    "refused entry": "a record of the index tells of no sheet: the publisher erred, or ROOT is that of a map",
+    "refused number": "two records have one number: the publisher erred",
     "refused frame BadFlag": "the file is no proof of a join",
     "refused frame BadRect": "the file is no proof of a join",
-    "refused frame Short": "the proof was cut off, or is no proof of a join",
+    "refused frame Short": "the proof was cut off, or is no proof of a join, or of an atlas where that is asked for",
     "refused frame": "the proof is of another second map",
     "refused first WrongRoot": "the proof is of another first map, or of another state of it",
     "refused second WrongRoot": "the proof is of another second map, or of another state of it",
@@ -170,15 +187,17 @@ class Refused(Exception):
     """A proof is refused: its first broken rule, the place of that fault in bytes, of WrongRoot the digest found.
 
     Of a join proof `part` says in what the fault is: `frame`, or `first` or `second`, in which places count from there.
+    Of an atlas proof that is `frame`, `index` or `sheet N`; or `entry N` or `number N`, and then there is no place.
     """
 
-    def __init__(self, rule: str, place: int, found: bytes = b"", part: str = "") -> None:
+    def __init__(self, rule: str, place: Optional[int], found: bytes = b"", part: str = "") -> None:
         super().__init__(rule, place, found, part)
         self.rule, self.place, self.found, self.part = rule, place, found, part
 
     def __str__(self) -> str:
+        place = "" if self.place is None else " at %d" % self.place
         found = " found " + self.found.hex() if self.found else ""
-        return "refused %s%s at %d%s" % (self.part and self.part + " ", self.rule, self.place, found)
+        return "refused %s%s%s%s" % (self.part and self.part + " ", self.rule, place, found)
 
     def meaning(self) -> str:
         """What it mostly is."""
@@ -942,7 +961,7 @@ def read_frame(fields: Fields) -> Frame:
 
 
 def in_part(name: str, fault: Refused) -> Refused:
-    """This fault, of a part of a join proof."""
+    """This fault, of a part of a join proof or an atlas proof."""
     return Refused(fault.rule, fault.place, fault.found, name)
 
 
@@ -1000,6 +1019,222 @@ def judge_join(root: bytes, root2: bytes, proof: Pieces) -> Join:
 def state_of(shown: Shown) -> State:
     """What a part says of its map."""
     return State(shown.head.batch, shown.head.count)
+
+
+# ---- atlases
+
+
+class Sheet(NamedTuple):
+    """A map of an atlas, as a record of the atlas's index tells of it: its number, rectangle, and so on.
+
+    The mask of a sheet of version 1 is of all layers. The root is a digest, and the name bytes of any kind.
+    """
+
+    number: int
+    rect: Rect
+    version: int
+    batch: int
+    count: int
+    level: int
+    mask: int
+    root: bytes
+    name: bytes
+
+
+class AtlasAnswer(NamedTuple):
+    """What an accepted atlas proof shows: the records, each with its sheet's version; batch and sheets of the index.
+
+    The records are in the order of an `Answer`. The sheets are those whose rectangles meet the window of the proof, in
+    rising number.
+    """
+
+    records: List[Record]
+    versions: List[int]
+    batch: int
+    sheets: List[Sheet]
+
+    def lines(self) -> List[str]:
+        """The record lines, each of its sheet's version."""
+        return [record.line(version) for record, version in zip(self.records, self.versions)]
+
+
+class AtlasCount(NamedTuple):
+    """What an accepted atlas proof of a count shows: how many records lie inside; the rest as of AtlasAnswer."""
+
+    inside: int
+    batch: int
+    sheets: List[Sheet]
+
+
+def read_sheet(record: Record) -> Sheet:
+    """The sheet that a record of an index tells of. Raises Refused (Form, Rect).
+
+    >>> told = "5201" "0000000000000000" "0000000000000001" "00" "00000002000000030000000400000005"
+    >>> payload = bytes.fromhex(told + "9d7194ddd9acb06e26ff45011bfa9e1d730f4895ad23dead6b04141fe581ccb3") + b"a"
+    >>> sheet = read_sheet(Record(7, (2, 3, 4, 5), payload))
+    >>> sheet.root.hex()[:16], sheet.count, sheet.name
+    ('c6de89b68a6b5fd2', 1, b'a')
+    >>> read_sheet(Record(7, (2, 3, 4, 6), payload))
+    Traceback (most recent call last):
+    mrtree_check.Refused: refused entry 7 Rect
+    """
+    told, part = record.payload, "entry %d" % record.number
+    version = told[1] if told[:1] == b"R" and len(told) > 1 else 0
+    size = PREIMAGE.get(version, 0)
+    if not size or len(told) < size:
+        raise Refused("Form", None, part=part)
+    batch, count, level, *rect = struct.unpack_from(">QQB4i", told, 2)
+    mask = int.from_bytes(told[35:43], "big") if version == 2 else ALL_LAYERS
+    is_in_order = rect[0] <= rect[2] and rect[1] <= rect[3]
+    if not (1 <= count <= MOST_RECORDS and level <= 7 and is_in_order and mask):
+        raise Refused("Form", None, part=part)
+    if tuple(rect) != record.rect:
+        raise Refused("Rect", None, part=part)
+    return Sheet(record.number, record.rect, version, batch, count, level, mask, digest(told[:size]), told[size:])
+
+
+def square(point: Rect, half: int) -> Rect:
+    """The points that are within half a side of this one along each axis, as far as there are coordinates.
+
+    >>> square((5, -6, 5, -6), 2), square((0, 0, 0, 0), EVERYTHING)
+    ((3, -8, 7, -4), (-2147483648, -2147483648, 2147483647, 2147483647))
+    """
+    low, high = -(2**31), 2**31 - 1
+    return max(point[0] - half, low), max(point[1] - half, low), min(point[0] + half, high), min(point[1] + half, high)
+
+
+def way_of_sheet(sheet: Sheet, query: Query, ways: Ways) -> str:
+    """The way of a sheet among these of a query: its part is there where that is open.
+
+    One of version 1 has none in which masks are told: it is open too, and then no part of it is accepted.
+    """
+    return OPEN if sheet.version == 1 and query.mask is not None else ways(sheet.rect, sheet.mask)
+
+
+class AtlasParts:
+    """The parts of an atlas proof, one after another, from its pieces: how the index and the sheets are judged.
+
+    `half` is half a side of the square of nearest records, and 0 without such.
+    """
+
+    def __init__(self, proof: Pieces, kind: bytes) -> None:
+        self.fields, self.half = Fields(proof), 0
+        try:
+            self.read_frame(kind)
+        except Refused as fault:
+            raise in_part("frame", fault) from None
+
+    def read_frame(self, kind: bytes) -> None:
+        """Reads what is in front of the parts. Raises Refused (BadMagic, BadVersion, WrongKind, Short)."""
+        for size, right, rule in ((4, b"MRAT", "BadMagic"), (1, b"\1", "BadVersion"), (1, kind, "WrongKind")):
+            if self.fields.take(size) != right:
+                raise Refused(rule, self.fields.last)
+        self.half = self.fields.number(4) if kind == b"K" else 0
+
+    def judge(self, name: str, judged: Callable[[Slice], T]) -> T:
+        """What is judged of the next part, that of this name. Raises Refused (Missing), or with the part's fault."""
+        start = self.fields.place
+        front = b"".join(Slice(self.fields, 4))
+        part = Slice(self.fields, int.from_bytes(front, "big"))
+        found = judge_whole(part, judged) if len(front) == 4 else None
+        if found is None:
+            raise Refused("Missing", start, part=name)
+        if isinstance(found, Refused):
+            raise in_part(name, found)
+        return found
+
+    def index(self, root: bytes, window: Rect) -> Tuple[int, List[Sheet]]:
+        """The batch of the index with this root digest, and its sheets that meet a window. Raises Refused."""
+        answer = self.judge("index", lambda part: judge(root, Query(window, 0), part))
+        return answer.batch, [read_sheet(record) for record in answer.records]
+
+    def sheet(self, sheet: Sheet, judged: Callable[[bytes, Query, Slice], T], query: Query) -> T:
+        """What is judged of the next part, that of a sheet. Raises Refused."""
+        return self.judge("sheet %d" % sheet.number, lambda part: judged(sheet.root, query, part))
+
+    def end(self) -> None:
+        """Raises Refused (Trailing) where bytes are left."""
+        place = self.fields.place
+        if any(Slice(self.fields, 1)):
+            raise Refused("Trailing", place, part="frame")
+
+
+def judge_atlas(root: bytes, query: Query, proof: Pieces) -> AtlasAnswer:
+    """The answer that an atlas proof proves. Raises Refused with its first fault; no piece behind it is taken."""
+    parts = AtlasParts(proof, kind_of(query).letter)
+    window = Query(square(query.rect, parts.half) if query.k else query.rect, 0, query.mask)
+    batch, sheets = parts.index(root, window.rect)
+    found: List[Tuple[Record, int]] = []
+    for sheet in sheets:
+        if way_of_sheet(sheet, window, reach(window, None)) == OPEN:
+            answer = parts.sheet(sheet, judge, window)
+            found += [(record, answer.version) for record in answer.records]
+    parts.end()
+    found = nearest_of(query, parts.half, found) if query.k else sorted(found, key=lambda one: one[0].number)
+    records = [record for record, _ in found]
+    refuse_repeats(sorted(record.number for record in records))
+    return AtlasAnswer(records, [version for _, version in found], batch, sheets)
+
+
+def judge_atlas_count(root: bytes, query: Query, proof: Pieces) -> AtlasCount:
+    """The count inside a window that an atlas proof proves. Raises as `judge_atlas`."""
+    parts = AtlasParts(proof, COUNTS.letter)
+    batch, sheets = parts.index(root, query.rect)
+    count, ways = 0, inside(query)
+    for sheet in sheets:
+        way = way_of_sheet(sheet, query, ways)
+        if way == OPEN:
+            count += parts.sheet(sheet, judge_count, query).inside
+        count += sheet.count if way == WHOLE else 0
+    parts.end()
+    return AtlasCount(count, batch, sheets)
+
+
+def nearest_of(query: Query, half: int, found: List[Tuple[Record, int]]) -> List[Tuple[Record, int]]:
+    """The nearest of the records that a square of this half side gave, in order. Raises Refused (WrongRadius).
+
+    Half a side has to be the least by which k records are near enough, if there is such a number below EVERYTHING.
+    """
+    ranked = sorted(found, key=lambda one: (distance(query.rect, one[0].rect), one[0].number))
+    far = [distance(query.rect, record.rect) for record, _ in ranked]
+    near = len(far) if half == EVERYTHING else bisect_right(far, half * half)
+    nearer = bisect_right(far, (half - 1) * (half - 1)) if half else 0
+    if half < EVERYTHING and near < query.k or nearer >= query.k:
+        raise Refused("WrongRadius", 6, part="frame")
+    return ranked[: min(near, query.k)]
+
+
+def refuse_repeats(numbers: List[int]) -> None:
+    """Raises Refused (Repeat) where of numbers in rising order two are equal: the maps of no atlas have these."""
+    for number, other in zip(numbers, numbers[1:]):
+        if number == other:
+            raise Refused("Repeat", None, part="number %d" % number)
+
+
+def check_atlas(root: str, query: str, proof: Union[Bytes, Pieces]) -> AtlasAnswer:
+    """The answer to a query word on the atlas with a root digest, as an atlas proof shows it. Raises as `check`.
+
+    Of `Refused` the part says in what the fault is.
+
+    >>> root = "3192817fd1840eb7f63b1b289a173abad1772411a7b2a52117cfe44a09df8c30"
+    >>> proof = bytes.fromhex("4d5241540157" "00000016" "4d52564f01570000000000000000" "0000000000000000")
+    >>> check_atlas(root, "window:0,0,9,9", proof)
+    AtlasAnswer(records=[], versions=[], batch=0, sheets=[])
+    >>> check_atlas(root, "window:0,0,9,9", proof[:-1])
+    Traceback (most recent call last):
+    mrtree_check.Refused: refused index Missing at 6
+    """
+    refuse_other_words(root, query)
+    return judge_atlas(read_root(root), read_query(query), only_bytes(proof, "a proof"))
+
+
+def check_atlas_count(root: str, query: str, proof: Union[Bytes, Pieces]) -> AtlasCount:
+    """How many records of the atlas with a root digest lie inside a window, as an atlas proof shows it.
+
+    Raises as `check_atlas`, and ValueError too where the query is no window.
+    """
+    refuse_other_words(root, query)
+    return judge_atlas_count(read_root(root), read_window(query), only_bytes(proof, "a proof"))
 
 
 # ---- the commands
@@ -1061,6 +1296,22 @@ def check_join_lines(root: bytes, root2: bytes, name: str, most: Optional[int]) 
         return 2, [str(fault)]
 
 
+def check_atlas_lines(root: bytes, query: Query, name: str, most: Optional[int]) -> Tuple[int, List[str]]:
+    """Status and lines of `check-atlas` of the proof in a file. Raises Ended."""
+    try:
+        return 0, judge_atlas(root, query, read_pieces(name, most)).lines()
+    except Refused as fault:
+        return 2, [str(fault)]
+
+
+def check_atlas_count_lines(root: bytes, query: Query, name: str, most: Optional[int]) -> Tuple[int, List[str]]:
+    """Status and lines of `check-atlas-count` of the proof in a file. Raises Ended."""
+    try:
+        return 0, ["count %d" % judge_atlas_count(root, query, read_pieces(name, most)).inside]
+    except Refused as fault:
+        return 2, [str(fault)]
+
+
 def check_all_lines(root: bytes, script: str, name: str, most: Optional[int]) -> Tuple[int, List[str]]:
     """Status and lines of `check-all` of a script and the bundle in a file. Raises Ended."""
     queries = read_script(b"".join(read_pieces(script)))
@@ -1085,6 +1336,8 @@ COMMANDS = {  # what reads the second word behind each, and what gives status an
     "check-count": (read_window, check_count_lines),
     "check-join": (read_root, check_join_lines),
     "check-all": (str, check_all_lines),
+    "check-atlas": (read_query, check_atlas_lines),
+    "check-atlas-count": (read_window, check_atlas_count_lines),
 }
 
 
@@ -1108,8 +1361,9 @@ def read_words(words: List[str]) -> Words:
         most, words = read_most("".join(words[1:2])), words[2:]
     command, *rest = words if len(words) == 4 else ["check", *words]
     if command not in COMMANDS or len(rest) != 3 or "" in rest:
+        ones = "check | check-count | check-atlas | check-atlas-count"
         others = "check-join ROOT ROOT2 PROOF, or: check-all ROOT SCRIPT BUNDLE"
-        raise ValueError("usage: %s [check | check-count] ROOT QUERY PROOF, or: %s" % (COMMAND, others))
+        raise ValueError("usage: %s [%s] ROOT QUERY PROOF, or: %s" % (COMMAND, ones, others))
     root = read_root(rest[0])
     asked = COMMANDS[command][0](rest[1])
     if command == "check-all" and asked == rest[2]:

@@ -9,15 +9,15 @@ from __future__ import annotations
 import heapq
 import itertools
 import struct
-from typing import Callable, Dict, Iterable, List, NamedTuple, Optional, Set, Tuple
+from typing import Callable, Dict, Iterable, Iterator, List, NamedTuple, Optional, Set, Tuple, Union
 
 if __package__:
     from . import mrtree_check as client
-    from .mrtree_check import OPEN, Ended, Part, Query, Rect, Refused, Ways
+    from .mrtree_check import OPEN, Ended, Part, Query, Record, Rect, Refused, Ways
     from .ranges import Place, Source
 else:
     import mrtree_check as client
-    from mrtree_check import OPEN, Ended, Part, Query, Rect, Refused, Ways
+    from mrtree_check import OPEN, Ended, Part, Query, Record, Rect, Refused, Ways
     from ranges import Place, Source
 
 PAGE = {1: 4096, 2: 8192}  # bytes of a page, by the version
@@ -263,12 +263,18 @@ class FarMap:
     # -- what proofs are made of
 
     def radius(self, query: Query) -> Optional[int]:
-        """The squared distance of the last one of the nearest records; None where there are fewer.
+        """The squared distance of the last one of the nearest records; None where there are fewer."""
+        far = self.distances(query, [])
+        return far[-1] if len(far) == query.k else None
+
+    def distances(self, query: Query, known: List[int]) -> List[int]:
+        """The least squared distances, in rising order, of these that are known and those of records: at most k.
 
         The nearest node is opened, again and again, as long as it may hold a nearer record.
         """
         asked, root = client.layers(query), self.head.root
-        best: List[int] = []  # the least squared distances, at most k of them; negated, as a heap
+        best = [-far for far in known]  # the least squared distances, at most k of them; negated, as a heap
+        heapq.heapify(best)
         heap: List[Tuple[int, int, Child]] = []  # nodes by their squared distance, and in the order in which they came
         come, turns = [root] if root else [], itertools.count()
         digests: Set[bytes] = set()
@@ -278,7 +284,7 @@ class FarMap:
                     heapq.heappush(heap, (client.distance(query.rect, child.part.rect), next(turns), child))
             radius = -best[0] if len(best) == query.k else None
             if not heap or radius is not None and heap[0][0] >= radius:
-                return radius
+                return sorted(-far for far in best)
             self.fetch(likely(heap, query.k, radius, self.is_kept))
             nearest = heapq.heappop(heap)[2]
             see(nearest, digests)
@@ -289,6 +295,27 @@ class FarMap:
                     heapq.heappush(best, -client.distance(query.rect, rect))
                     if len(best) > query.k:
                         heapq.heappop(best)
+
+    def by_distance(self, point: Rect) -> Iterator[Tuple[int, Record]]:
+        """All records by rising squared distance from a point, each behind its own: nodes are opened as it goes on."""
+        heap: List[Tuple[int, int, Union[Child, Record]]] = []
+        come: List[Union[Child, Record]] = [self.head.root] if self.head.root else []
+        turns, digests = itertools.count(), set()
+        while True:
+            for one in come:
+                rect = one.rect if isinstance(one, Record) else one.part.rect
+                heapq.heappush(heap, (client.distance(point, rect), next(turns), one))
+            if not heap:
+                return
+            far, _, nearest = heapq.heappop(heap)
+            come = []
+            if isinstance(nearest, Record):
+                yield far, nearest
+                continue
+            see(nearest, digests)
+            self.fetch([nearest])
+            node = self.node(nearest)
+            come = [*node.children, *records_of(node, self.head.version)]
 
     def proof_of(self, kind: bytes, flag: bytes, way: Ways) -> bytes:
         """The proof of this kind that opens what is open."""
@@ -308,6 +335,17 @@ class FarMap:
         pieces.append(node.leaf or b"N" + bytes([len(node.children)]))
         for below in node.children:
             self.add_item(below, opened, pieces)
+
+
+def records_of(node: Node, version: int) -> List[Record]:
+    """The records of a leaf, in its order; none of an inner node.
+
+    >>> leaf = bytes.fromhex("4c01" "0000000000000001" "00000002000000030000000400000005" "00")
+    >>> records_of(Node([], leaf, []), 1), records_of(Node([], b"", []), 1)
+    ([Record(number=1, rect=(2, 3, 4, 5), payload=b'', layer=0)], [])
+    """
+    fields = client.Fields([node.leaf[2:]])
+    return [client.read_record(fields, version) for _ in range(node.leaf[1] if node.leaf else 0)]
 
 
 def see(child: Child, digests: Set[bytes]) -> None:
@@ -364,5 +402,5 @@ def join_proof(first: FarMap, second: FarMap) -> bytes:
 
 
 def in_part(name: str, fault: Refused) -> Refused:
-    """This fault, of a map of a join."""
+    """This fault, of a map of a join or an atlas."""
     return type(fault)(fault.rule, fault.place, fault.found, name)

@@ -19,7 +19,7 @@ import threading
 import time
 from collections import deque
 from contextlib import suppress
-from typing import Any, Callable, Deque, Iterator, List, NamedTuple, Optional, Tuple, Union
+from typing import Any, Callable, Deque, Iterator, List, NamedTuple, Optional, Tuple, TypeVar, Union
 from urllib.parse import urljoin, urlsplit
 
 if __package__:
@@ -28,6 +28,7 @@ else:
     from mrtree_check import Ended, __version__
 
 Place = Tuple[int, int]  # a range: the place of its first byte, and the place behind its last one
+T = TypeVar("T")
 
 AT_ONCE = 6  # requests
 PATIENCE = 30  # seconds without a byte, after which a server is taken for dead
@@ -100,6 +101,52 @@ class Meter:
         return left
 
 
+# ---- several things at once
+
+
+def side_by_side(tasks: List[Callable[[], T]], at_once: int, left: Callable[[], float]) -> Iterator[Tuple[int, T]]:
+    """What tasks give, as it comes, each behind its number in the list: so many at once, in threads of their own.
+
+    Raises what the first one raises that fails, and begins no other then. `left` says how long one may wait, or raises.
+
+    >>> sorted(side_by_side([lambda: "a", lambda: "b", lambda: "c"], 2, lambda: 9.0))
+    [(0, 'a'), (1, 'b'), (2, 'c')]
+    """
+    waiting = deque(enumerate(tasks))
+    come: queue.SimpleQueue[Tuple[int, Any]] = queue.SimpleQueue()
+    for _ in range(min(at_once, len(tasks))):
+        threading.Thread(target=work, args=(waiting, come), daemon=True).start()
+    try:
+        for _ in tasks:
+            at, found = next_of(come, left)
+            if isinstance(found, BaseException):
+                raise found
+            yield at, found
+    finally:
+        waiting.clear()
+
+
+def work(waiting: Deque[Tuple[int, Callable[[], Any]]], come: Any) -> None:
+    """Does task after task, as long as some are waiting."""
+    with suppress(IndexError):
+        while True:
+            at, task = waiting.popleft()
+            try:
+                found = task()
+            except BaseException as fault:  # whoever waits for it has to be told of any
+                come.put((at, fault))
+                return
+            come.put((at, found))
+
+
+def next_of(come: Any, left: Callable[[], float]) -> Tuple[int, Any]:
+    """What comes next."""
+    while True:
+        wait = left()
+        with suppress(queue.Empty):
+            return come.get(timeout=min(wait, PATIENCE))
+
+
 # ---- a file on the disk
 
 
@@ -107,7 +154,7 @@ class OnDisk:
     """A file on the disk, by ranges."""
 
     def __init__(self, name: str, meter: Meter) -> None:
-        self.name, self.meter = name, meter
+        self.name, self.meter, self.at_once = name, meter, 1
 
     def many(self, places: List[Place]) -> Iterator[Tuple[int, bytes]]:
         """The bytes of each range, behind its number in the list; fewer where the file ends. Raises Failed."""
@@ -175,6 +222,15 @@ def read_address(word: str) -> Address:
     return Address(word, secret, host, PORT[secret] if port is None else port, path)
 
 
+def server_of(address: Address) -> Tuple[bool, str, Optional[int]]:
+    """What tells the server of an address from others.
+
+    >>> server_of(read_address("https://example.org/a")) == server_of(read_address("https://EXAMPLE.org/b"))
+    True
+    """
+    return address.secret, address.host, address.port
+
+
 def told(fault: BaseException) -> str:
     """What the system says of a fault."""
     return getattr(fault, "strerror", None) or str(fault) or type(fault).__name__
@@ -221,12 +277,18 @@ class Reply(http.client.HTTPResponse):
         self.fp = io.BufferedReader(Wire(link, left, most))
 
 
-class OnServer:
-    """A file on a server, by ranges. Its connections are kept for the next ranges."""
+Link = Tuple[Tuple[bool, str, Optional[int]], http.client.HTTPConnection]  # a connection, behind the server's name
 
-    def __init__(self, word: str, meter: Meter) -> None:
-        self.name, self.meter, self.address = word, meter, read_address(word)
-        self.free: List[Tuple[str, http.client.HTTPConnection]] = []
+
+class OnServer:
+    """A file on a server, by ranges, so many at once. Its connections are kept for the next ranges, in a list.
+
+    Several files may have one such list.
+    """
+
+    def __init__(self, word: str, meter: Meter, free: Optional[List[Link]] = None, at_once: int = AT_ONCE) -> None:
+        self.name, self.meter, self.address, self.at_once = word, meter, read_address(word), at_once
+        self.free: List[Link] = [] if free is None else free
         self.tls = ssl.create_default_context() if self.address.secret else None
 
     def failed(self, name: str, words: str) -> Failed:
@@ -247,36 +309,8 @@ class OnServer:
         if len(places) == 1:
             yield 0, self.one(places[0])
             return
-        waiting: Deque[Tuple[int, Place]] = deque(enumerate(places))
-        come: queue.SimpleQueue[Tuple[int, Union[bytes, BaseException]]] = queue.SimpleQueue()
-        for _ in range(min(AT_ONCE, len(places))):
-            threading.Thread(target=self.work, args=(waiting, come), daemon=True).start()
-        try:
-            for _ in places:
-                at, found = self.next_of(come)
-                if isinstance(found, BaseException):
-                    raise found
-                yield at, found
-        finally:
-            waiting.clear()
-
-    def next_of(self, come: Any) -> Tuple[int, Union[bytes, BaseException]]:
-        """What comes next. Raises Failed (MostSeconds)."""
-        while True:
-            left = self.meter.left(self.name)
-            with suppress(queue.Empty):
-                return come.get(timeout=min(left, PATIENCE))
-
-    def work(self, waiting: Deque[Tuple[int, Place]], come: Any) -> None:
-        """Gets range after range, as long as some are waiting."""
-        with suppress(IndexError):
-            while True:
-                at, place = waiting.popleft()
-                try:
-                    come.put((at, self.one(place)))
-                except BaseException as fault:  # whoever waits for it has to be told of any
-                    come.put((at, fault))
-                    return
+        tasks = [functools.partial(self.one, place) for place in places]
+        yield from side_by_side(tasks, self.at_once, lambda: self.meter.left(self.name))
 
     def one(self, place: Place) -> bytes:
         """The bytes of a range, fewer where the file ends. Raises Failed."""
@@ -287,7 +321,7 @@ class OnServer:
                 if reply.status not in LED:
                     data = self.body(reply, place)
                     if reply.isclosed():
-                        self.free.append((address.word, link))
+                        self.free.append((server_of(address), link))
                     else:
                         link.close()
                     return data
@@ -310,7 +344,7 @@ class OnServer:
 
         A kept connection may be closed by the server meanwhile. So where one fails, it is made anew, once.
         """
-        kept = [one for one in self.free if one[0] == address.word]
+        kept = [one for one in self.free if one[0] == server_of(address)]
         link = self.new_link(address)
         with suppress(ValueError, IndexError):
             self.free.remove(kept[-1])
@@ -327,10 +361,8 @@ class OnServer:
     def new_link(self, address: Address) -> http.client.HTTPConnection:
         """A connection, which is made once something is asked for."""
         if address.secret:
-            link = http.client.HTTPSConnection(address.host, address.port, context=self.tls)
-        else:
-            link = http.client.HTTPConnection(address.host, address.port)
-        return link
+            return http.client.HTTPSConnection(address.host, address.port, context=self.tls)
+        return http.client.HTTPConnection(address.host, address.port)
 
     def asked(self, link: http.client.HTTPConnection, address: Address, place: Place) -> Reply:
         """The head of the answer to a request for a range."""
@@ -393,6 +425,9 @@ class OnServer:
 Source = Union[OnDisk, OnServer]
 
 
-def source_of(word: str, meter: Meter) -> Source:
-    """The file at an address or of a name. Raises ValueError where an address is none."""
-    return OnServer(word, meter) if is_address(word) else OnDisk(word, meter)
+def source_of(word: str, meter: Meter, free: Optional[List[Link]] = None, at_once: int = AT_ONCE) -> Source:
+    """The file at an address or of a name. Raises ValueError where an address is none.
+
+    Of a server so many ranges come at once, over connections in a list that others may have too.
+    """
+    return OnServer(word, meter, free, at_once) if is_address(word) else OnDisk(word, meter)

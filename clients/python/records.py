@@ -19,7 +19,8 @@ the nearest map unit, and a box is rounded outwards. The number is the feature's
 --number names; or it is made of a key, a text that --key names. The payload is the text or number that --payload names,
 in UTF-8. With --layer record texts and batches are of version 2, which has layers, and else of version 1; record texts
 of either are read. Of `answer` PROOF may be a map file too, or the address of one: then the pages are read that the
-query opens, and make the proof.
+query opens, and make the proof. A PROOF that ends with a slash, or is a folder, is an atlas, a map of maps, which is
+asked alike; the proof of an atlas is told by its first bytes.
 
 With --statement FILE the publisher's statement says root, unit, coordinate system, payload and layers, and the word
 ROOT is left out. So may PROOF be, where the statement has the map's address.
@@ -53,7 +54,7 @@ from typing import Any, Dict, Iterable, Iterator, List, Mapping, NamedTuple, NoR
 if __package__:
     from . import kinds, mrtree_ask, outputs, shapes, sources, statement
     from . import mrtree_check as client
-    from .mrtree_check import Query, Record
+    from .mrtree_check import Answer, AtlasAnswer, Query, Record
     from .outputs import Unfit
     from .ranges import Limits
     from .sources import Grid, Options, State, clipped, number_of
@@ -66,7 +67,7 @@ else:
     import shapes
     import sources
     import statement
-    from mrtree_check import Query, Record
+    from mrtree_check import Answer, AtlasAnswer, Query, Record
     from outputs import Unfit
     from ranges import Limits
     from sources import Grid, Options, State, clipped, number_of
@@ -104,7 +105,7 @@ HELP = """--unit: a map unit in the file's unit, as 1e-7 of a degree, or 1 metre
 --statement: the publisher's statement of the map, a file or an address; of several the newest is taken
 --publishers: a file of publishers (ssh-keygen's allowed signers), one of whom has to have signed the statement
 --map: words that say what the map is
---atlas: MAP is the index of an atlas, and the statement is of the atlas
+--atlas: the root digest is that of an atlas, so that a proof of a map is refused; of statement MAP is its index
 --axes: what x and y are: longitude latitude, or east north, or x y
 --numbers: words that say what the numbers are
 --hexadecimal: the payloads are neither texts nor digests
@@ -566,7 +567,7 @@ def answer_command(given: argparse.Namespace) -> None:
     """Writes the answer that a proof proves."""
     root, query = root_and_query(given.ROOT, given.QUERY)
     with statement.judged(given.said):
-        answer = client.judge(root, query, proof_of(given, query))
+        answer = answer_of(given, root, query)
     compare(given, [answer])
     inputs, naming = [given.PROOF, *(given.statement or [])], naming_of(given)
     if given.shapes:
@@ -577,12 +578,30 @@ def answer_command(given: argparse.Namespace) -> None:
     rows = [(record, []) for record in answer.records]
     write(given.OUT, inputs, written_as(given, features, rows, naming))
     found = bounds(answer.records)
-    told = extent(found, naming.grid) + ", of a map of %d at batch %d" % (answer.count, answer.batch)
-    outputs.tell(SCRIPT, told)
+    outputs.tell(SCRIPT, extent(found, naming.grid) + ", of " + what_of(answer))
     tell_system(given, found[1])
 
 
-def compare(given: argparse.Namespace, answers: Iterable[client.Answer]) -> None:
+def answer_of(given: argparse.Namespace, root: bytes, query: Query) -> Union[Answer, AtlasAnswer]:
+    """The answer of a map or an atlas, by a proof or by pages. Raises Unfit, Refused and Ended."""
+    pieces, front = iter(proof_of(given, query)), b""
+    while len(front) < 4:
+        piece = next(pieces, None)
+        if piece is None:
+            break
+        front += piece
+    is_atlas = given.atlas or given.said and given.said.atlas or front.startswith(b"MRAT")
+    return (client.judge_atlas if is_atlas else client.judge)(root, query, joined(front, pieces))
+
+
+def what_of(answer: Union[Answer, AtlasAnswer]) -> str:
+    """What an answer is of."""
+    if isinstance(answer, AtlasAnswer):
+        return "%d sheets of an atlas at batch %d" % (len(answer.sheets), answer.batch)
+    return "a map of %d at batch %d" % (answer.count, answer.batch)
+
+
+def compare(given: argparse.Namespace, answers: Iterable[Union[Answer, AtlasAnswer]]) -> None:
     """Raises StatementRefused where a statement says something else than accepted proofs."""
     for answer in answers if given.said else ():
         statement.compare_verdict(given.said, answer)
@@ -613,11 +632,13 @@ def tell_system(given: argparse.Namespace, rect: Optional[client.Rect]) -> None:
 
 
 def proof_of(given: argparse.Namespace, query: Query) -> client.Pieces:
-    """The proof in a file, or the one that the pages of a map give. Raises Unfit, Refused and Ended."""
-    if not mrtree_ask.is_map(given.PROOF):
+    """The proof in a file, or the one that the pages of a map or an atlas give. Raises Unfit, Refused and Ended."""
+    is_atlas = mrtree_ask.is_atlas(given.PROOF)
+    if not is_atlas and not mrtree_ask.is_map(given.PROOF):
         return client.read_pieces(given.PROOF, given.most)
     try:
-        return [mrtree_ask.open_map(given.ROOT, given.PROOF, limits_of(given)).proof(query)]
+        opened = mrtree_ask.open_atlas if is_atlas else mrtree_ask.open_map
+        return [opened(given.ROOT, given.PROOF, limits_of(given)).proof(query)]
     except ValueError as fault:
         raise Unfit(str(fault)) from None
 
@@ -940,7 +961,7 @@ COMMANDS = {
     "text": (text_command, "FILE RECORDS", READS),
     "batch": (batch_command, "N OLD NEW BATCH", READS),
     "query": (query_command, "WORDS", "unit " + STATED),
-    "answer": (answer_command, "ROOT QUERY PROOF OUT", WRITES + " key shapes form most " + STATED),
+    "answer": (answer_command, "ROOT QUERY PROOF OUT", WRITES + " key shapes atlas form most " + STATED),
     "answers": (answers_command, "ROOT SCRIPT BUNDLE OUT", WRITES + " most " + STATED),
     "features": (features_command, "LINES OUT", WRITES),
     "find": (find_command, "ROOT MAP OUT KEYS", "unit number key payload layer digest shapes places by-number form most " + STATED),

@@ -10,8 +10,9 @@
  * usage: node mrtree_ask.js [OPTIONS] [check | check-count] ROOT QUERY SOURCE
  *        node mrtree_ask.js [OPTIONS] check-join ROOT ROOT2 SOURCE SOURCE2
  *
- * SOURCE is an address that begins with http:// or https://, or the name of a map file. The lines
- * are those of mrtree_check.js, and the options
+ * SOURCE is an address that begins with http:// or https://, or the name of a map file. A SOURCE
+ * that ends with a slash, or is a folder, is an atlas, a map of maps; joins are not of atlases. The
+ * lines are those of mrtree_check.js, and the options
  *
  *     --proof FILE        keeps the proof in a file, once it is accepted
  *     --most BYTES        fetches at most so many bytes in all, else 1073741824
@@ -29,8 +30,9 @@ const client =
         ? require("./mrtree_check.js")
         : {
               ...{ Judge, CountJudge, PartJudge, Meets, check, checkCount, checkJoin, checkBoxes },
-              ...{ readRoot, readQuery, readWindow, recordsOf, rectAt, isInOrder },
-              ...{ hexOf, meet, distance, digestOf, refusalOf },
+              ...{ judge, checkAtlas, checkAtlasCount, readSheet, square, wayOfSheet, PartRefused },
+              ...{ readRoot, readQuery, readWindow, recordsOf, rectAt, isInOrder, EVERYTHING },
+              ...{ hexOf, meet, distance, digestOf, refusalOf, linesOfAtlas, boundsOf },
               ...{ ALL_LAYERS, MOST_RECORDS, MOST_LEVEL, MOST_LAYER },
           };
 
@@ -40,6 +42,7 @@ const WIDE = 6; // requests at once: as many as a browser makes of one server by
 const GAP = 2; // pages between two others that are read along with them, by one request
 const MOST_PAGES = 64; // of a request
 const MOST_KEPT = 20000; // nodes
+const MOST_SHEETS = 64; // of an atlas, that are kept
 const MOST_LED = 5; // times that a server may lead on to another address
 const LED = [301, 302, 303, 307, 308]; // the statuses by which it does
 const CLOSED = ["ECONNRESET", "EPIPE", "UND_ERR_SOCKET"]; // what Node says of such a connection
@@ -49,7 +52,7 @@ const MOST_TOLD = 200; // letters of what is told of a fault, some of which a se
 const LIMITS = {
     ...{ bytes: 2 ** 30, requests: 10000, seconds: 600 },
     patience: 30, // seconds without a byte, after which a server is taken for dead
-    ...{ leaves: 128, inner: 64 }, // of one level that a view opens
+    ...{ leaves: 128, inner: 64, sheets: 16 }, // of one level that a view opens
     margin: 8, // nodes to wait for, where a view shows what it has before
 };
 
@@ -80,7 +83,7 @@ class MapRefused extends Error {
         Object.assign(this, { rule, page, found, part: "", status: 2 });
     }
 
-    /** The line that tells of it, without its line feed; of a join with the map. */
+    /** The line that tells of it, without its line feed; of a join or an atlas with the map. */
     get line() {
         const part = this.part === "" ? "" : `${this.part} `;
         const found = this.found === "" ? "" : ` found ${this.found}`;
@@ -118,12 +121,14 @@ class NeedsVersion2 extends Error {
     }
 }
 
-/** The judge refuses what was made of pages that fit: the root digest is of no map. */
+/** The judge refuses what was made of pages that fit: the root digest is of no map, or no atlas. */
 class ProofRefused extends Error {
     constructor(verdict) {
         super(client.refusalOf(verdict));
         Object.assign(this, { rule: verdict.rule, line: this.message, status: 2 });
-        this.means = "The tree with this root digest is that of no map.";
+        this.means = verdict.part === undefined
+            ? "The tree with this root digest is that of no map."
+            : "The maps with these root digests are those of no atlas.";
     }
 }
 
@@ -408,6 +413,59 @@ function lettersOf(text) {
     return Array.from(text, (letter) => letter.charCodeAt(0));
 }
 
+/**
+ * What tasks give, in their order: so many at once. Throws what the first of those throws that
+ * fail, once all that are under way have ended, and begins no other behind a fault.
+ */
+async function sideBySide(tasks, most) {
+    const given = new Array(tasks.length);
+    let next = 0;
+    const work = async () => {
+        while (next < tasks.length) {
+            const at = next++;
+            given[at] = await tasks[at]();
+        }
+    };
+    const stopAll = (error) => {
+        next = tasks.length;
+        throw error;
+    };
+    const length = Math.min(most, tasks.length);
+    const workers = Array.from({ length }, () => work().catch(stopAll));
+    const ended = await Promise.allSettled(workers);
+    const failed = ended.find(({ status }) => status === "rejected");
+    if (failed !== undefined) {
+        throw failed.reason;
+    }
+    return given;
+}
+
+/** Lets so many pass at once, and the others wait. */
+class Gate {
+    constructor(most) {
+        Object.assign(this, { left: most, waiting: [] });
+    }
+
+    /** What a call promises, once it may pass. */
+    async pass(call) {
+        if (this.left === 0) {
+            await new Promise((go) => this.waiting.push(go));
+        } else {
+            this.left -= 1;
+        }
+        try {
+            return await call();
+        } finally {
+            const go = this.waiting.shift();
+            if (go === undefined) {
+                this.left += 1;
+            } else {
+                go();
+            }
+        }
+    }
+}
+
 /** What is nearest first: values, each with how far it is. */
 class Nearest {
     constructor() {
@@ -484,8 +542,8 @@ class Nearest {
  * NeedsVersion2, ProofRefused, and RangeError for a word that is none.
  */
 class FarMap {
-    constructor(source, limits = {}) {
-        this.limits = { ...LIMITS, ...limits };
+    constructor(source, limits = {}, gate = new Gate(Infinity)) {
+        Object.assign(this, { limits: { ...LIMITS, ...limits }, gate });
         const { patience } = this.limits;
         this.file = isAddress(source) ? new OnServer(source, patience) : new OnDisk(source);
         Object.assign(this, { source, requests: 0, bytes: 0, root: null });
@@ -500,11 +558,13 @@ class FarMap {
 
     /** Bytes of the file. */
     async read(start, end, meter) {
-        meter.spend(end - start, this.source);
-        this.requests += 1;
-        const bytes = await this.file.read(start, end, meter);
-        this.bytes += bytes.length;
-        return bytes;
+        return this.gate.pass(async () => {
+            meter.spend(end - start, this.source);
+            this.requests += 1;
+            const bytes = await this.file.read(start, end, meter);
+            this.bytes += bytes.length;
+            return bytes;
+        });
     }
 
     /** Reads page 0, and holds it against the root digest, a word. Answers the map. */
@@ -619,21 +679,8 @@ class FarMap {
             await this.keep(entry, this.front, 0, held);
         }
         const groups = this.groupsOf(entries.filter((entry) => !isInFront(entry)));
-        const work = async () => {
-            while (groups.length > 0) {
-                await this.fetchGroup(groups.shift(), held, meter);
-            }
-        };
-        const stopAll = (error) => {
-            groups.length = 0;
-            throw error;
-        };
-        const workers = Array.from({ length: WIDE }, () => work().catch(stopAll));
-        const ended = await Promise.allSettled(workers);
-        const failed = ended.find(({ status }) => status === "rejected");
-        if (failed !== undefined) {
-            throw failed.reason;
-        }
+        const tasks = groups.map((group) => () => this.fetchGroup(group, held, meter));
+        await sideBySide(tasks, WIDE);
     }
 
     /** Entries, in the order of their pages, in groups: one request fetches each. */
@@ -810,14 +857,21 @@ class FarMap {
         return [this.proofOf("J", opens, held), rects.filter(meets)];
     }
 
+    /** The squared distance of the last of the k nearest records; null where there are fewer. */
+    async radiusOf(query, held, meter) {
+        const far = await this.distances(query, [], held, meter);
+        return far.length === query.k ? far[query.k - 1] : null;
+    }
+
     /**
-     * The squared distance of the last of the k nearest records; null where there are fewer. Nodes
-     * are opened by their distance, and with one a few others that are likely to be wanted.
+     * The least squared distances, in rising order, of those that are known and those of records,
+     * at most k. Nodes are opened by their distance, and with one a few others that are likely to
+     * be wanted.
      */
-    async radiusOf({ rect, k, mask }, held, meter) {
+    async distances({ rect, k, mask }, known, held, meter) {
         const layers = mask ?? client.ALL_LAYERS;
         const [heap, seen] = [new Nearest(), new Set()];
-        let best = []; // at most k distances, in rising order
+        let best = known; // at most k distances, in rising order
         const push = (entry) => {
             if ((entry.mask & layers) !== 0n) {
                 heap.push(client.distance(rect, entry.rect), entry);
@@ -838,7 +892,25 @@ class FarMap {
                 best = nearestOf(best, client.recordsOf(preimage, this.version), rect, k, layers);
             }
         }
-        return best.length === k ? best[k - 1] : null;
+        return best;
+    }
+
+    /** All records by rising squared distance from a point: { far, record }. */
+    async *byDistance(point, meter) {
+        const [heap, seen, held] = [new Nearest(), new Set(), new Map()];
+        const push = (value) => heap.push(client.distance(point, value.rect), value);
+        [this.root].filter((root) => root !== null).forEach(push);
+        while (heap.size > 0) {
+            const { far, value } = heap.pop();
+            if (value.key === undefined) {
+                yield { far, record: value };
+                continue;
+            }
+            see(value, seen);
+            await this.get([value], held, meter);
+            const { level, children, preimage } = held.get(value.key);
+            (level === 0 ? client.recordsOf(preimage, this.version) : children).forEach(push);
+        }
     }
 
     // Answers.
@@ -897,6 +969,304 @@ class FarMap {
             row = row.flatMap(({ key }) => held.get(key).children).filter(opens);
         }
         yield view(0, true);
+    }
+}
+
+/** Whether a word is meant as the place of an atlas: it ends with a slash, or is a folder. */
+function isAtlas(word) {
+    if (word.endsWith("/") || isAddress(word) || typeof document === "object") {
+        return word.endsWith("/");
+    }
+    try {
+        return require("fs").statSync(word).isDirectory();
+    } catch {
+        return false;
+    }
+}
+
+/** A number below 2^32 as 4 bytes. */
+function fourBytes(number) {
+    const bytes = new Uint8Array(4);
+    new DataView(bytes.buffer).setUint32(0, number);
+    return bytes;
+}
+
+/** The least whole number whose square is not below a BigInt, as a number. */
+function rootAbove(square) {
+    let side = BigInt(Math.floor(Math.sqrt(Number(square))));
+    while (side * side < square) {
+        side += 1n;
+    }
+    while (side > 0n && (side - 1n) * (side - 1n) >= square) {
+        side -= 1n;
+    }
+    return Number(side);
+}
+
+/**
+ * An atlas with a root digest, in a folder or below an address: its maps are asked as FarMap asks
+ * them, six requests at once in all, and some are kept. What it throws says in `part` of which map
+ * it is: `index` or `sheet 7`. Where a record of the index tells of no sheet, ProofRefused comes.
+ */
+class FarAtlas {
+    constructor(place, limits = {}) {
+        this.place = place.endsWith("/") ? place : `${place}/`;
+        Object.assign(this, { limits: { ...LIMITS, ...limits }, gate: new Gate(WIDE) });
+        this.kept = new Map(); // sheets by root digest, the one used last behind the others
+        this.spent = { requests: 0, bytes: 0 }; // of those that are kept no more
+    }
+
+    meter(signal = null) {
+        return new Meter(this.limits, signal);
+    }
+
+    /** The map with a root digest, opened. */
+    far(word, meter) {
+        return new FarMap(`${this.place}sheets/${word}`, this.limits, this.gate).open(word, meter);
+    }
+
+    /** Opens the index, by the root digest, a word. Answers the atlas. */
+    async open(word, meter = this.meter()) {
+        this.word = word;
+        this.index = await inPart("index", this.far(word, meter));
+        return this;
+    }
+
+    get batch() {
+        return this.index.batch;
+    }
+
+    /** The root node of the index, with its rectangle; null where there are no sheets. */
+    get root() {
+        return this.index.root;
+    }
+
+    /** How many sheets there are. */
+    get sheets() {
+        return this.index.count;
+    }
+
+    get requests() {
+        return this.sum("requests");
+    }
+
+    get bytes() {
+        return this.sum("bytes");
+    }
+
+    /** What was spent in all. */
+    sum(name) {
+        const maps = [this.index, ...this.kept.values()].filter((map) => map !== undefined);
+        return maps.reduce((sum, map) => sum + map[name], this.spent[name]);
+    }
+
+    /** What is promised by `ask` of the map of a sheet; it is kept. */
+    async asked(sheet, meter, ask) {
+        const key = client.hexOf(sheet.root);
+        const promise = (async () => {
+            const map = this.kept.get(key) ?? (await this.far(key, meter));
+            this.kept.delete(key);
+            this.kept.set(key, map);
+            return ask(map);
+        })();
+        const given = await inPart(`sheet ${sheet.number}`, promise);
+        this.forget();
+        return given;
+    }
+
+    /** Forgets sheets, where there are many, or many nodes of them. */
+    forget() {
+        const nodes = () => [...this.kept.values()].reduce((sum, map) => sum + map.nodes.size, 0);
+        while (this.kept.size > MOST_SHEETS || nodes() > MOST_KEPT) {
+            const [key, map] = this.kept.entries().next().value;
+            this.spent.requests += map.requests;
+            this.spent.bytes += map.bytes;
+            this.kept.delete(key);
+        }
+    }
+
+    /** The sheets that meet a window, by the part of the index: { part, sheets }. */
+    async sheetsOn(rect, meter) {
+        const window = { rect, k: 0, mask: null };
+        const part = await inPart("index", this.index.prove(window, meter));
+        const verdict = await client.judge(client.readRoot(this.word), window, [part]);
+        if (!verdict.accepted) {
+            throw new ProofRefused({ ...verdict, part: "index" });
+        }
+        const sheets = [];
+        for (const record of verdict.records) {
+            sheets.push(await sheetOf(record));
+        }
+        return { part, sheets };
+    }
+
+    // Proofs.
+
+    /** The honest proof of a query, as readQuery gives it. */
+    async prove(query, meter = this.meter()) {
+        const half = query.k === 0 ? 0 : await this.halfSide(query, meter);
+        const rect = query.k === 0 ? query.rect : client.square(query.rect, half);
+        const window = { rect, k: 0, mask: query.mask };
+        const front = [lettersOf(query.k === 0 ? "W" : "K"), query.k === 0 ? [] : fourBytes(half)];
+        const judge_ = new client.Judge(null, window);
+        return this.proofOf(front, window, judge_, meter, (map) => map.prove(window, meter));
+    }
+
+    /** The honest proof of a count, of a query for a window. */
+    async proveCount(query, meter = this.meter()) {
+        const judge_ = new client.CountJudge(null, query);
+        const prove = (map) => map.proveCount(query, meter);
+        return this.proofOf([lettersOf("C")], query, judge_, meter, prove);
+    }
+
+    /** The proof of these sheets whose way is open; `prove` makes the part of one. */
+    async proofOf(front, query, judge_, meter, prove) {
+        const { part, sheets } = await this.sheetsOn(query.rect, meter);
+        const opened = sheets.filter((one) => client.wayOfSheet(one, query, judge_) === "open");
+        const byRoot = new Map(opened.map((sheet) => [client.hexOf(sheet.root), sheet]));
+        const tasks = [...byRoot.values()].map((one) => () => this.asked(one, meter, prove));
+        const made = await sideBySide(tasks, WIDE);
+        const partOf = new Map([...byRoot.keys()].map((key, at) => [key, made[at]]));
+        const parts = [part, ...opened.map(({ root }) => partOf.get(client.hexOf(root)))];
+        if (parts.reduce((sum, { length }) => sum + length, 0) > this.limits.bytes) {
+            // as it never is without a sheet that stands there often
+            throw new Failed("MostBytes", this.place, `more than ${this.limits.bytes} bytes`);
+        }
+        const told = parts.flatMap((one) => [fourBytes(one.length), one]);
+        return joined([lettersOf("MRAT"), [1], ...front, ...told]);
+    }
+
+    /** Half a side of the square of a query for nearest records, by sheets of rising distance. */
+    async halfSide(query, meter) {
+        const near = this.index.byDistance(query.rect, meter);
+        const layers = query.mask ?? client.ALL_LAYERS;
+        let best = [];
+        for (;;) {
+            const { value, done } = await inPart("index", near.next());
+            if (done || (best.length === query.k && value.far >= best[query.k - 1])) {
+                break;
+            }
+            const sheet = await sheetOf(value.record);
+            if (sheet.version === 1 && query.mask !== null) {
+                throw new NeedsVersion2();
+            }
+            if ((sheet.mask & layers) !== 0n) {
+                const known = best;
+                const ask = (map) => map.distances(query, known, new Map(), meter);
+                best = await this.asked(sheet, meter, ask);
+            }
+        }
+        const half = best.length === query.k ? rootAbove(best[query.k - 1]) : Infinity;
+        return Math.min(half, client.EVERYTHING);
+    }
+
+    // Answers.
+
+    /** The verdict on a query, a word, as of `checkAtlas`; with the proof. */
+    async ask(word, meter = this.meter()) {
+        const proof = await this.prove(queryOf(word, client.readQuery), meter);
+        return { ...(await client.checkAtlas(this.word, word, proof)), proof };
+    }
+
+    /** The verdict on how many records lie inside a window, as of `checkAtlasCount`. */
+    async askCount(word, meter = this.meter()) {
+        const proof = await this.proveCount(queryOf(word, client.readWindow), meter);
+        return { ...(await client.checkAtlasCount(this.word, word, proof)), proof };
+    }
+
+    /**
+     * The verdicts on a window, a query word, as of `views` of FarMap. Where too many sheets are in
+     * it, boxes of the index come, with `isIndex`: how many records are in one, nothing says. Else
+     * sheets come as boxes, and where these are few at the end all records, or boxes in sheets.
+     */
+    async *views(word, signal = null) {
+        const query = queryOf(word, client.readWindow);
+        const index = await inPart("index", lastOf(this.index.views(plainWindow(query), signal)));
+        const front = { accepted: true, batch: index.batch, query, proof: index.proof, floor: 1 };
+        if (index.floor > 0) {
+            const boxes = index.boxes.map((box) => ({ ...box, tally: 0 }));
+            yield { ...front, boxes, bounds: null, version: 1, isIndex: true, isLast: true };
+            return;
+        }
+        const judge_ = new client.Judge(null, query);
+        const all = await Promise.all(index.records.map(sheetOf));
+        const sheets = all.filter((one) => client.wayOfSheet(one, query, judge_) === "open");
+        const isLast = sheets.length > this.limits.sheets;
+        if (sheets.length > 0) {
+            yield { ...front, ...boxesOf(sheets.map(boxOfSheet), 2, query), isLast };
+        }
+        if (!isLast) {
+            yield { ...front, ...(await this.viewOf(index.proof, sheets, word, query, signal)) };
+        }
+    }
+
+    /** The last view of a window: records of all sheets, or boxes where these are too many. */
+    async viewOf(part, sheets, word, query, signal) {
+        const views = await sideBySide(sheets.map((sheet) => () => this.viewOn(sheet, word, signal,
+            sheets.length)), WIDE);
+        if (views.some(({ floor }) => floor > 0)) {
+            const boxes = views.flatMap((view) => view.boxes ?? view.records.map(boxOfRecord));
+            const version = views.every((view) => view.version === 2) ? 2 : 1;
+            return { ...boxesOf(boxes, version, query), isLast: true };
+        }
+        const parts = [part, ...views.map(({ proof }) => proof)];
+        const told = parts.flatMap((one) => [fourBytes(one.length), one]);
+        const proof = joined([lettersOf("MRAT"), [1], lettersOf("W"), ...told]);
+        const verdict = await client.checkAtlas(this.word, word, proof);
+        if (!verdict.accepted) {
+            throw new ProofRefused(verdict);
+        }
+        const version = verdict.records.some((record) => record.version === 2) ? 2 : 1;
+        return { ...verdict, version, proof, floor: 0, isLast: true };
+    }
+
+    /** The last view of a window of a sheet, which has its share of what a view may open. */
+    viewOn(sheet, word, signal, count) {
+        return this.asked(sheet, this.meter(signal), (map) => {
+            const share = (most) => Math.max(Math.ceil(most / count), 8);
+            const [leaves, inner] = [this.limits.leaves, this.limits.inner].map(share);
+            map.limits = { ...this.limits, leaves, inner };
+            return lastOf(map.views(word, signal));
+        });
+    }
+}
+
+/** The last one of those that come. */
+async function lastOf(views) {
+    let last = null;
+    for await (const view of views) {
+        last = view;
+    }
+    return last;
+}
+
+/** The word of a query's window without its mask. */
+function plainWindow({ rect }) {
+    return `window:${rect}`;
+}
+
+/** A sheet as a box: all its records lie in it. */
+function boxOfSheet({ rect, mask, count, level, version }) {
+    return { rect, mask: version === 1 ? 1n : mask, tally: count, level };
+}
+
+/** A record as a box of its own. */
+function boxOfRecord({ rect, layer }) {
+    return { rect, mask: 1n << BigInt(layer), tally: 1, level: 0 };
+}
+
+/** Boxes that a window meets, with what they say of the number of its records. */
+function boxesOf(boxes, version, { rect, mask }) {
+    const bounds = client.boundsOf({ boxes, version }, rect, mask ?? client.ALL_LAYERS);
+    return { boxes, version, bounds };
+}
+
+/** The sheet that a record of an index tells of. Throws ProofRefused. */
+async function sheetOf(record) {
+    try {
+        return await client.readSheet(record);
+    } catch (error) {
+        throw error instanceof client.PartRefused ? new ProofRefused(error.verdict) : error;
     }
 }
 
@@ -963,7 +1333,7 @@ async function askJoin(first, second, meter = first.meter()) {
     return { ...(await client.checkJoin(first.word, second.word, proof)), proof };
 }
 
-/** What is promised of a map of a join; where the map is refused, it is told which one it is. */
+/** What is promised of one of several maps; where that is refused, it is told which one it is. */
 async function inPart(part, promise) {
     try {
         return await promise;
@@ -989,6 +1359,7 @@ const USAGE_OF_JOIN = "check-join ROOT ROOT2 SOURCE SOURCE2";
 const HELP = [
     ...[USAGE, `       mrtree_ask.js [OPTIONS] ${USAGE_OF_JOIN}`, ""],
     "SOURCE is an address that begins with http:// or https://, or the name of a map file.",
+    "A SOURCE that ends with a slash, or is a folder, is an atlas.",
     ...["", "--proof FILE        keeps the proof in a file, once it is accepted"],
     "--most BYTES        fetches at most so many bytes in all, else 1073741824",
     "--requests NUMBER   sends at most so many requests in all, else 10000",
@@ -1052,10 +1423,13 @@ function readAsked(words) {
     need(areAll, `${USAGE}, or: ${USAGE_OF_JOIN}`);
     needWord(client.readRoot, root);
     needWord(read, asked);
+    need(count < 2 || !sources.some(isAtlas), "joins are of maps, and not of atlases");
     need(sources.every(isSource), "an address begins with http:// or https://, has no user, and " +
         "is of visible letters of ASCII");
     need(!sources.some((source) => isSameFile(proof, source)), `${proof} is to be written, and it ` +
         "is read too: give the output another name");
+    need(!sources.some((source) => isAmongSheets(proof, source)), `${proof} is to be written ` +
+        "among the sheets of an atlas: give it another name");
     return { roots: count === 2 ? [root, asked] : [root], asked, sources, ask, proof, limits };
 }
 
@@ -1070,10 +1444,19 @@ function isSameFile(one, other) {
     }
 }
 
+/** Whether a name is of a file in the folder of an atlas's sheets. */
+function isAmongSheets(name, source) {
+    if (name === null || isAddress(source) || !isAtlas(source)) {
+        return false;
+    }
+    const path = require("path");
+    return isSameFile(path.resolve(name, ".."), path.resolve(source, "sheets"));
+}
+
 /** The lines of a verdict that is accepted. */
 function linesOfVerdict(verdict) {
-    const { records, inside, pairs } = verdict;
-    return records !== undefined ? client.linesOf(verdict)
+    const { records, inside, pairs, sheets } = verdict;
+    return records !== undefined ? (sheets ? client.linesOfAtlas : client.linesOf)(verdict)
         : inside !== undefined ? [`count ${inside}`] : pairs.map(client.pairLineOf);
 }
 
@@ -1082,7 +1465,8 @@ async function answerOf({ roots, asked, sources, ask, limits }) {
     const meter = new Meter({ ...LIMITS, ...limits });
     const maps = [];
     for (const [at, source] of sources.entries()) {
-        const opening = new FarMap(source, limits).open(roots[at], meter);
+        const far = new (isAtlas(source) ? FarAtlas : FarMap)(source, limits);
+        const opening = far.open(roots[at], meter);
         maps.push(await (roots.length === 1 ? opening : inPart(["first", "second"][at], opening)));
     }
     const { proof, ...verdict } = await ask(maps, asked, meter);
@@ -1148,7 +1532,8 @@ async function mainAsk() {
 
 if (typeof module === "object") {
     const refusals = { MapRefused, Failed, NeedsVersion2, ProofRefused, Overtaken };
-    module.exports = { FarMap, askJoin, runAsk, HELP, isAddress, isSource, ...refusals };
+    const words = { isAddress, isSource, isAtlas };
+    module.exports = { FarMap, FarAtlas, askJoin, runAsk, HELP, ...words, ...refusals };
     if (require.main === module) {
         mainAsk();
     }

@@ -10,9 +10,12 @@
  *        node mrtree_check.js check-count ROOT QUERY PROOF
  *        node mrtree_check.js check-join ROOT ROOT2 PROOF
  *        node mrtree_check.js check-all ROOT SCRIPT BUNDLE
+ *        node mrtree_check.js check-atlas ROOT QUERY PROOF
+ *        node mrtree_check.js check-atlas-count ROOT QUERY PROOF
  *
  * with the lines and exit statuses of the program's commands of these names; a file may be a pipe
- * too, and the name `-` is the standard input. It is tested against the program, and not proved.
+ * too, and the name `-` is the standard input. Atlases, maps of maps, the program does not know. It
+ * is tested against the program, and not proved.
  *
  * A rectangle is an array [x0, y0, x1, y1] of map units, with x0 <= x1 and y0 <= y1; a point is a
  * rectangle without extent. A mask is a BigInt with a bit for each layer, bit l, worth 2^l, for
@@ -29,6 +32,8 @@ const ALL_LAYERS = 2n ** 64n - 1n; // their mask
 const MOST_LINES = 65536; // of a script
 const LONGEST_QUERY = 71; // letters of a query word
 const PIECE = 65536; // bytes that are judged at once
+const EVERYTHING = 2 ** 32 - 1; // half a side of a square round a point with all others in it
+const PREIMAGES = [0, 67, 75]; // bytes of the preimage of a map's root, by the version
 const [LETTER_C, LETTER_E, LETTER_J, LETTER_K, LETTER_L, LETTER_N, LETTER_P, LETTER_R, LETTER_W] = [
     ..."CEJKLNPRW",
 ].map((letter) => letter.charCodeAt(0));
@@ -69,6 +74,24 @@ const MEANS_OF_JOIN = {
     WrongKind: "This part shows an answer or a count, and is no part of a join.",
     WrongFlag: "The proof says that the second map has no records, and it has some.",
     WrongRect: "The proof names another rectangle than that of the second map.",
+};
+/** The same of an atlas, whose faults are in its frame, its index or its sheets. */
+const MEANS_OF_ATLAS = {
+    ...MEANS,
+    WrongRoot: "The index or a sheet is of another state of the atlas than that with the root " +
+        "digest, or of another atlas; or it was changed.",
+    BadMagic: "This file, or this part of it, is no proof of an atlas.",
+    Missing: "The proof was cut off, or a sheet was left out.",
+    Form: "A record of the index tells of no sheet: the publisher erred, or the root digest is " +
+        "of a map.",
+    Rect: "The index says another rectangle than the sheet has: the publisher erred.",
+    Repeat: "Two records of the answer have one number: the publisher erred.",
+};
+/** The same of the frame of a join or an atlas. */
+const MEANS_OF_FRAME = {
+    ...MEANS_OF_JOIN,
+    ...MEANS_OF_ATLAS,
+    BadMagic: "This file is no proof of a join, or none of an atlas where that is asked for.",
 };
 /** What other lines mostly mean with which a command ends, by how they begin. */
 const LINES_MEAN = [
@@ -975,8 +998,8 @@ function inPieces(proof) {
 
 /** The line that tells of a proof that is refused, without its line feed. */
 function refusalOf({ part, rule, place, found }) {
-    const name = part === undefined ? "" : `${part} `;
-    return `refused ${name}${rule} at ${place}${found === "" ? "" : ` found ${found}`}`;
+    const [name, at] = [part === undefined ? "" : `${part} `, place === null ? "" : ` at ${place}`];
+    return `refused ${name}${rule}${at}${found === "" ? "" : ` found ${found}`}`;
 }
 
 /** The line of a pair of numbers, without its line feed. */
@@ -1202,7 +1225,7 @@ function pushMetAlongY(ones, others, pairs) {
 
 // ---- joins
 
-/** A join proof is refused: the fault of its `part`, which is `frame`, `first` or `second`. */
+/** A proof of several parts is refused: the fault of its `part`, as `frame`, `first`, `sheet 7`. */
 class PartRefused extends Error {
     constructor(part, { rule, place, found = "" }) {
         super(rule);
@@ -1290,9 +1313,169 @@ async function acceptedJoin(root, root2, source) {
  * map has no records, since nothing is said of it then. Places in a part count from its beginning.
  */
 async function judgeJoin(root, root2, pieces) {
+    return verdictOfParts(pieces, (source) => acceptedJoin(root, root2, source));
+}
+
+// ---- atlases
+
+/** The points within half a side of a point along each axis, as far as there are coordinates. */
+function square([x, y], half) {
+    const [low, high] = [-(2 ** 31), 2 ** 31 - 1];
+    const [x0, y0] = [Math.max(x - half, low), Math.max(y - half, low)];
+    return [x0, y0, Math.min(x + half, high), Math.min(y + half, high)];
+}
+
+/**
+ * The sheet that a record of an atlas's index tells of: { number, rect, version, batch, count,
+ * level, mask, root, name }. The mask of one of version 1 is of all layers; the root has 32 bytes,
+ * and the name is bytes of any kind. Throws PartRefused where the record tells of none.
+ */
+async function readSheet({ number, rect, payload }) {
+    const version = payload[0] === LETTER_R ? payload[1] : 0;
+    const size = PREIMAGES[version] ?? 0;
+    const refused = (rule) => new PartRefused(`entry ${number}`, { rule, place: null });
+    if (size === 0 || payload.length < size) {
+        throw refused("Form");
+    }
+    const view = new DataView(payload.buffer, payload.byteOffset, payload.length);
+    const [batch, count] = [view.getBigUint64(2), Number(view.getBigUint64(10))];
+    const [level, own] = [payload[18], rectAt(view, 19)];
+    const mask = version === 2 ? view.getBigUint64(35) : ALL_LAYERS;
+    const isCount = count >= 1 && count <= MOST_RECORDS;
+    if (!isCount || level > MOST_LEVEL || !isInOrder(own) || mask === 0n) {
+        throw refused("Form");
+    }
+    if (String(own) !== String(rect)) {
+        throw refused("Rect");
+    }
+    const [root, name] = [await digestOf(payload.subarray(0, size)), payload.slice(size)];
+    return { number, rect, version, batch, count, level, mask, root, name };
+}
+
+/**
+ * The way of a sheet for a query: its part is there where that is open. One of version 1 has none
+ * in which masks are told: it is open too, and then no part of it is accepted. The judge is one of
+ * this query, whatever it is of.
+ */
+function wayOfSheet({ version, rect, mask }, query, judge_) {
+    return version === 1 && query.mask !== null ? OPEN : judge_.way(rect, mask);
+}
+
+/** What is in front of the parts of an atlas proof: half a side, 0 but of nearest records. */
+async function readAtlasFrame(letter, source) {
+    const refused = (rule, place) => new PartRefused("frame", { rule, place });
+    if ((await takeField(source, 4)).getUint32(0) !== 0x4d524154) {
+        throw refused("BadMagic", 0);
+    }
+    if ((await takeField(source, 1)).getUint8(0) !== 1) {
+        throw refused("BadVersion", 4);
+    }
+    if ((await takeField(source, 1)).getUint8(0) !== letter) {
+        throw refused("WrongKind", 5);
+    }
+    return letter === LETTER_K ? (await takeField(source, 4)).getUint32(0) : 0;
+}
+
+/** The verdict of a judge on the next part, that of this name. Throws where it is not accepted. */
+async function judgeNamed(name, judge_, source) {
+    const place = source.place;
+    const length = await take(source, 4);
+    const verdict = length && (await judgeWhole(judge_, source, length.getUint32(0)));
+    if (verdict === null) {
+        throw new PartRefused(name, { rule: "Missing", place });
+    }
+    return acceptedPart(name, verdict);
+}
+
+/** The index by its part: its batch, and its sheets that meet a window. Throws PartRefused. */
+async function judgeIndex(root, rect, source) {
+    const judge_ = new Judge(root, { rect, k: 0, mask: null });
+    const { batch, records } = await judgeNamed("index", judge_, source);
+    const sheets = [];
+    for (const record of records) {
+        sheets.push(await readSheet(record));
+    }
+    return { batch, sheets };
+}
+
+/** Throws where bytes are left. */
+async function refuseRest(source) {
+    const place = source.place;
+    if ((await source.some(1)).length > 0) {
+        throw new PartRefused("frame", { rule: "Trailing", place });
+    }
+}
+
+/** The verdict on an atlas proof that is accepted. Throws where it is refused. */
+async function acceptedAtlas(root, query, source) {
+    const half = await readAtlasFrame(query.k === 0 ? LETTER_W : LETTER_K, source);
+    const rect = query.k === 0 ? query.rect : square(query.rect, half);
+    const window = { rect, k: 0, mask: query.mask };
+    const { batch, sheets } = await judgeIndex(root, rect, source);
+    const records = [];
+    for (const sheet of sheets) {
+        const judge_ = new Judge(sheet.root, window);
+        if (wayOfSheet(sheet, window, judge_) === OPEN) {
+            const own = await judgeNamed(`sheet ${sheet.number}`, judge_, source);
+            for (const record of own.records) {
+                records.push({ ...record, version: own.version, sheet: sheet.number });
+            }
+        }
+    }
+    await refuseRest(source);
+    const answer = query.k === 0 ? records.sort((a, b) => compare(a.number, b.number))
+        : nearestRecords(query, half, records);
+    refuseRepeats(answer);
+    return { accepted: true, records: answer, batch, sheets };
+}
+
+/** The verdict on an atlas proof of a count that is accepted. Throws where it is refused. */
+async function acceptedAtlasCount(root, query, source) {
+    await readAtlasFrame(LETTER_C, source);
+    const { batch, sheets } = await judgeIndex(root, query.rect, source);
+    let inside = 0;
+    for (const sheet of sheets) {
+        const judge_ = new CountJudge(sheet.root, query);
+        const way = wayOfSheet(sheet, query, judge_);
+        if (way === OPEN) {
+            inside += (await judgeNamed(`sheet ${sheet.number}`, judge_, source)).inside;
+        }
+        inside += way === WHOLE ? sheet.count : 0;
+    }
+    await refuseRest(source);
+    return { accepted: true, inside, batch, sheets };
+}
+
+/**
+ * The nearest of the records that a square of this half side gave, in order. Throws where half a
+ * side is not the least by which k records are near enough, if there is such below EVERYTHING.
+ */
+function nearestRecords({ rect, k }, half, records) {
+    const ranked = records.map((record) => ({ record, far: distance(rect, record.rect) }));
+    ranked.sort((a, b) => compare(a.far, b.far) || compare(a.record.number, b.record.number));
+    const upTo = (side) => ranked.filter(({ far }) => far <= BigInt(side) ** 2n).length;
+    const near = half === EVERYTHING ? ranked.length : upTo(half);
+    const nearer = half === 0 ? 0 : upTo(half - 1);
+    if ((half < EVERYTHING && near < k) || nearer >= k) {
+        throw new PartRefused("frame", { rule: "WrongRadius", place: 6 });
+    }
+    return ranked.slice(0, Math.min(near, k)).map(({ record }) => record);
+}
+
+/** Throws where two records have one number, at the least such. */
+function refuseRepeats(records) {
+    const numbers = BigUint64Array.from(records, ({ number }) => number).sort();
+    const at = numbers.findIndex((number, place) => place > 0 && numbers[place - 1] === number);
+    if (at > 0) {
+        throw new PartRefused(`number ${numbers[at]}`, { rule: "Repeat", place: null });
+    }
+}
+
+/** The verdict on the pieces of a proof: what `accepted` promises of them, or what it refuses. */
+async function verdictOfParts(pieces, accepted) {
     const source = new Source(pieces);
     try {
-        return await acceptedJoin(root, root2, source);
+        return await accepted(source);
     } catch (error) {
         if (error instanceof PartRefused) {
             return error.verdict;
@@ -1301,6 +1484,45 @@ async function judgeJoin(root, root2, pieces) {
     } finally {
         await source.close();
     }
+}
+
+/**
+ * The verdict on an atlas proof, by the root digest of the atlas:
+ *
+ *     { accepted: true, records, batch, sheets }    each record with its version and sheet besides
+ *     { accepted: false, part, rule, place, found }    part: `frame`, `index`, `sheet 7`, `entry 7`
+ *
+ * Part may be `number 7` too; of that and an entry the place is null. Batch and sheets are those of
+ * the index, sheets as of readSheet: all that meet the window of the proof.
+ */
+async function judgeAtlas(root, query, pieces) {
+    return verdictOfParts(pieces, (source) => acceptedAtlas(root, query, source));
+}
+
+/**
+ * The verdict on an atlas proof of how many records lie inside a window: as of `judgeAtlas`, and
+ * `inside` in the place of `records`.
+ */
+async function judgeAtlasCount(root, query, pieces) {
+    return verdictOfParts(pieces, (source) => acceptedAtlasCount(root, query, source));
+}
+
+/** The verdict on an atlas proof: as of `judgeAtlas`. Throws as `check`. */
+async function checkAtlas(root, query, proof) {
+    const [held, asked] = [readRoot(root), readQuery(query)];
+    if (held === null || asked === null) {
+        throw new RangeError("bad words");
+    }
+    return judgeAtlas(held, asked, inPieces(proof));
+}
+
+/** The verdict on an atlas proof of a count: as of `judgeAtlasCount`. Throws as `checkCount`. */
+async function checkAtlasCount(root, query, proof) {
+    const [held, asked] = [readRoot(root), readWindow(query)];
+    if (held === null || asked === null) {
+        throw new RangeError("bad words");
+    }
+    return judgeAtlasCount(held, asked, inPieces(proof));
 }
 
 // ---- the commands, in Node
@@ -1354,6 +1576,23 @@ async function checkJoinLines(root, root2, pieces) {
     return [0, verdict.pairs.map(pairLineOf)];
 }
 
+/** The record lines of an atlas proof that is accepted, each of its sheet's version. */
+function linesOfAtlas({ records }) {
+    return records.map((record) => lineOf(record, record.version));
+}
+
+/** Status and lines of `check-atlas` of the proof in these pieces. */
+async function checkAtlasLines(root, query, pieces) {
+    const verdict = await judgeAtlas(root, query, pieces);
+    return verdict.accepted ? [0, linesOfAtlas(verdict)] : [2, [refusalOf(verdict)]];
+}
+
+/** Status and lines of `check-atlas-count` of the proof in these pieces. */
+async function checkAtlasCountLines(root, query, pieces) {
+    const verdict = await judgeAtlasCount(root, query, pieces);
+    return verdict.accepted ? [0, [`count ${verdict.inside}`]] : [2, [refusalOf(verdict)]];
+}
+
 /** Status and lines of `check-all` of a script's bytes and the bundle in these pieces. */
 async function checkAllLines(root, script, pieces) {
     const { queries, fault } = readScript(script);
@@ -1387,6 +1626,8 @@ const COMMANDS = new Map([
     ["check", [readQuery, checkLines]],
     ["check-count", [readWindow, checkCountLines]],
     ["check-join", [readRoot, checkJoinLines]],
+    ["check-atlas", [readQuery, checkAtlasLines]],
+    ["check-atlas-count", [readWindow, checkAtlasCountLines]],
 ]);
 
 /** Exit status and lines of the words behind the script's name; `read` gives a file in pieces. */
@@ -1428,9 +1669,11 @@ function refusalMeans(lines) {
     if (front !== "" && rest === "missing") {
         return `${front.trim()}: The bundle ends before it.`;
     }
-    const [, part, rule] = /^refused (frame |first |second )?([A-Za-z]+) at /.exec(rest) ?? [];
+    const [, part, rule] = /^refused ([a-z]+ )?(?:[0-9]+ )?([A-Z]\w+)/.exec(rest) ?? [];
     const other = "What the server gave was not taken: it is not right and whole.";
-    const known = (part === undefined ? MEANS : MEANS_OF_JOIN)[rule] ?? other;
+    const tables = { "first ": MEANS_OF_JOIN, "second ": MEANS_OF_JOIN, "frame ": MEANS_OF_FRAME };
+    const table = part === undefined ? MEANS : tables[part] ?? MEANS_OF_ATLAS;
+    const known = table[rule] ?? other;
     const means = rule !== undefined ? known
         : (LINES_MEAN.find(([begins]) => rest.startsWith(begins)) ?? ["", ""])[1];
     return means === "" || front === "" ? means : `${front.trim()}: ${means}`;
@@ -1441,8 +1684,9 @@ function whyBadWords(words) {
     const [command, root, asked] = words.length === 4 ? words : ["check", ...words];
     if (![3, 4].includes(words.length) || words.includes("") ||
         !(COMMANDS.has(command) || command === "check-all")) {
-        return "usage: node mrtree_check.js [check | check-count] ROOT QUERY PROOF, or: " +
-            "check-join ROOT ROOT2 PROOF, or: check-all ROOT SCRIPT BUNDLE";
+        return "usage: node mrtree_check.js [check | check-count | check-atlas | " +
+            "check-atlas-count] ROOT QUERY PROOF, or: check-join ROOT ROOT2 PROOF, or: check-all " +
+            "ROOT SCRIPT BUNDLE";
     }
     const isNoRoot = readRoot(root) === null || command === "check-join" && readRoot(asked) === null;
     return isNoRoot ? "the root digest is not 64 lower-case hexadecimal digits"
@@ -1490,12 +1734,14 @@ if (typeof module === "object") {
     const judges = { Judge, CountJudge, PartJudge, BoxJudge };
     const judging = { judge, judgeCount, judgeJoin, judgeBundle };
     const verdicts = { check, checkCount, checkJoin, checkBoxes, refusalOf, pairLineOf };
+    const atlases = { judgeAtlas, judgeAtlasCount, checkAtlas, checkAtlasCount, linesOfAtlas };
+    const sheets = { readSheet, square, wayOfSheet, PartRefused, EVERYTHING };
     const shown = { recordsOf, recordAt, lineOf, linesOf, hexOf, boundsOf };
     const geometry = { rectAt, isInOrder, meet, within, distance, Meets };
     const limits = { ALL_LAYERS, MOST_RECORDS, MOST_LEVEL, MOST_LAYER };
     const rest = { digestOf, printLines, run, explain, refusalMeans, VERSION };
     module.exports = {
-        ...{ ...words, ...judges, ...judging, ...verdicts },
+        ...{ ...words, ...judges, ...judging, ...verdicts, ...atlases, ...sheets },
         ...{ ...shown, ...geometry, ...limits, ...rest },
     };
     if (require.main === module) {

@@ -266,16 +266,27 @@ function toldOfTime({ name, begins, until }, today) {
     return told;
 }
 
-/** Throws StatementRefused where a map is of another version, batch or count of records. */
-function compareStatement(statement, { version, batch, count }) {
-    if (statement.atlas) {
-        const words = "it is of an atlas, and the proof of a map";
+/**
+ * Throws StatementRefused where a map is of another version, batch or count of records; or where of
+ * an atlas the index is of another batch, or a sheet of another version, or sheets have more.
+ */
+function compareStatement(statement, { version, batch, count, sheets }) {
+    const isOfAtlas = sheets !== undefined;
+    if (statement.atlas !== isOfAtlas) {
+        const kinds = isOfAtlas ? ["a map", "an atlas"] : ["an atlas", "a map"];
+        const words = `it is of ${kinds[0]}, and the proof of ${kinds[1]}`;
         throw new StatementRefused("OtherKind", statement.name, words);
     }
+    const shown = Array.isArray(sheets) ? sheets : [];
+    const other = shown.find((sheet) => sheet.version !== statement.version);
+    const least = shown.reduce((sum, sheet) => sum + sheet.count, 0);
+    const [own, all] = isOfAtlas
+        ? [other?.version ?? statement.version, Math.max(least, statement.records)]
+        : [version, Number(count)];
     const pairs = [
-        ["Version", "version", statement.version, version],
+        ["Version", "version", statement.version, own],
         ["Batch", "batch", statement.batch, BigInt(batch)],
-        ["Count", "count of records", statement.records, Number(count)],
+        ["Count", "count of records", statement.records, all],
     ];
     for (const [rule, name, said, found] of pairs) {
         if (said !== found) {

@@ -14,10 +14,11 @@ const zlib = require("zlib");
 const { WEB, Bench } = require("./bench.js");
 const { Server, send, rangeOf } = require("./server.js");
 const { linesOf, put, bytesOf } = require("./spelled.js");
-const { Chance, Program, vectorMaps, madeMap, windowOn, maskFor, queryOn } = require("./maps.js");
+const { Chance, Program, vectorMaps, madeMap, madeAtlas } = require("./maps.js");
+const { windowOn, maskFor, queryOn } = require("./maps.js");
 const client = require(path.join(WEB, "mrtree_check.js"));
 const asking = require(path.join(WEB, "mrtree_ask.js"));
-const { FarMap, MapRefused, Failed, Overtaken, askJoin, runAsk, HELP } = asking;
+const { FarMap, FarAtlas, MapRefused, Failed, Overtaken, askJoin, runAsk, HELP } = asking;
 
 const START = 20611; // of what comes by chance, in short
 const LATE = 5; // milliseconds before an answer, so that several requests are under way at once
@@ -736,7 +737,8 @@ function failingRows([root, query, url], [two, second], [other, third]) {
         [["check-join", two, root, second, url], "10 needs version 2\n"],
         [[root, query, `${url}x`], failed("Status", `${url}x`, "status 404")],
         [[root, query, "none"], failed("NoFile", "none", "missing")],
-        [[root, query, "."], failed("NoFile", ".", "it is no file with bytes of its own")],
+        [[root, query, "."], failed("NoFile", `./sheets/${root}`, "missing")],
+        [[root, query, "/dev/null"], failed("NoFile", "/dev/null", "it is no file with bytes of its own")],
         [[...whole, "--proof", "no/such"], failed("NoFile", "no/such", "missing")],
         [[...whole, "--most", "9"], failed("MostBytes", url, "more than 9 bytes")],
         [[...whole, "--requests", "0"], failed("MostRequests", url, "more than 0 requests")],
@@ -781,6 +783,39 @@ async function commandHolds(bench, server, program, [one, two, other]) {
     }
 }
 
+/** Views of atlases beside a scan: records, boxes of sheets and in them, and those of the index. */
+async function atlasViewsHold(bench, server, program, chance, count) {
+    for (const [version, most] of [[1, 60], [2, 60], [2, 3]]) {
+        const [size, seen] = [600, new Set()];
+        const lines = madeMap(program, chance, size, version, false).records.map(({ line }) => line);
+        const atlas = madeAtlas(program, lines, most, version);
+        atlas.files.forEach((bytes, name) => server.put(`at/${name}`, bytes));
+        for (let turn = 0; turn < count; turn++) {
+            const limits = turn % 3 === 0 ? {} : { leaves: 8, inner: 2, sheets: chance.of([2, 16]) };
+            const far = await new FarAtlas(`${server.url}at/`, limits).open(atlas.root);
+            const window = turn === 0 ? WHOLE.slice(7).split(",").map(Number)
+                : windowOn(chance, { ...atlas, name: "at" });
+            const found = atlas.records.filter(({ rect }) => client.meet(rect, window));
+            let last = null;
+            for await (const view of far.views(`window:${window}`)) {
+                const boxes = view.boxes?.map(({ rect }) => rect);
+                const isIn = ({ rect }) => boxes.some((box) => client.within(rect, box));
+                const areIn = boxes ? found.every(isIn)
+                    : view.records.map((one) => client.lineOf(one, one.version)).join() ===
+                        found.map(({ line }) => line).join();
+                const { least, most: bound } = view.bounds ?? { least: 0, most: Infinity };
+                const areBounds = least <= found.length && found.length <= bound;
+                bench.holds(areIn && areBounds, `a view of ${window} on an atlas of ${version}`);
+                seen.add(view.isIndex ? "index" : boxes ? "boxes" : "records");
+                last = view;
+            }
+            bench.holds(last.isLast, `the last view of ${window}`);
+        }
+        bench.holds(seen.size >= 2, `kinds of views of an atlas: ${[...seen]}`);
+        bench.holds(most > 3 || seen.has("index"), "no view of an index");
+    }
+}
+
 /** All of it, on maps in this folder. */
 async function askedHold(bench, server, program, chance, isLong) {
     const sizes = isLong ? [0, 1, 16, 17, 300, 2000, 20000] : [0, 1, 17, 300, 2000];
@@ -811,6 +846,7 @@ async function askedHold(bench, server, program, chance, isLong) {
         await otherBoxesHold(bench, server, map);
         await filesByHand(bench, server, map, map === one ? two : one);
     }
+    await atlasViewsHold(bench, server, program, chance, isLong ? 60 : 9);
     await overtakenHolds(bench, server, program, chance);
     await bentFilesHold(bench, server, program, chance, large, isLong ? 5000 : 150);
     await serversHold(bench, server, two);

@@ -17,7 +17,7 @@ const { pathToFileURL } = require("url");
 const { WEB, Bench } = require("./bench.js");
 const { Browser, find, pause } = require("./chromium.js");
 const { Server, send } = require("./server.js");
-const { Chance, Program, extentOf } = require("./maps.js");
+const { Chance, Program, madeAtlas, extentOf } = require("./maps.js");
 const client = require(path.join(WEB, "mrtree_check.js"));
 const { FarMap } = require(path.join(WEB, "mrtree_ask.js"));
 
@@ -89,6 +89,36 @@ const SEEN = `(() => {
         refusal: at("refusal").innerText, isNone: picture === null,
     };
 })()`;
+
+/** Atlases: few sheets and many, in both versions; and one with a sheet that is another map. */
+async function atlasesHold(bench, browser, page, server, program) {
+    const lines = townLines(new Chance(12), 4000);
+    const cut = (line) => line.replace(/ [0-9]+ ([0-9a-f]+)$/, " $1");
+    for (const [version, most] of [[2, 700], [1, 700], [2, 100]]) {
+        const own = version === 2 ? lines : lines.map(cut);
+        const atlas = madeAtlas(program, own, most, version);
+        atlas.files.forEach((bytes, name) => server.put(`at/${name}`, bytes));
+        const where = `an atlas of version ${version}, ${most} records in a sheet`;
+        await openMap(browser, page, `${server.url}at/`, atlas.root);
+        const which = await browser.value("at('which').textContent");
+        const meant = `an atlas of ${atlas.files.size - 1} sheets · batch 0`;
+        bench.holds(which.endsWith(meant), `${where}: ${which}`);
+        const whole = await scanHolds(bench, browser, atlas, where);
+        bench.holds(whole.boxes !== undefined, `${where}: no boxes`);
+        await zoomToRecords(browser);
+        const near = await scanHolds(bench, browser, atlas, `${where}, zoomed`);
+        bench.holds(near.line.includes(` of an atlas of `), `${where}: ${near.line}`);
+        const isSaved = await browser.value("!at('save').disabled");
+        bench.holds(isSaved, `${where}: its proof may be saved`);
+        const [other, one] = [...atlas.files.keys()];
+        server.put(`at/${one}`, atlas.files.get(other));
+        await openMap(browser, page, `${server.url}at/`, atlas.root);
+        if (most === 700) {
+            const line = "refused sheet 2 map page 0 WrongRoot ";
+            await refusedHolds(bench, browser, line, `${where}, another sheet`);
+        }
+    }
+}
 
 /** The page shows of a map what a scan finds: records, or boxes round them and their number. */
 async function scanHolds(bench, browser, map, where) {
@@ -682,6 +712,7 @@ async function main([name, nginx, folder]) {
         await doubtHolds(bench, browser, page, maps, two);
         await smallHolds(bench, browser, page, maps, two);
         await bentLeavesHold(bench, browser, page, maps, two);
+        await atlasesHold(bench, browser, page, maps, program);
         bench.equal(String(browser.told), "", "failures in the page");
         const origins = [maps.url, pages.url, "about:"];
         if (nginx) {

@@ -170,4 +170,35 @@ function queryOn(chance, map) {
     return `nearest:${window[0]},${window[1]},${k}${end}`;
 }
 
-module.exports = { Chance, Program, vectorMaps, madeMap, extentOf, windowOn, maskFor, queryOn };
+/**
+ * An atlas of records, as their lines of a version, so many in a sheet: { root, version, records,
+ * files }, with the bytes of each file by its name. What it makes stands in this folder.
+ */
+function madeAtlas(program, lines, most, version) {
+    const build = version === 2 ? "build2" : "build";
+    const [files, entries, records] = [new Map(), [], []];
+    const ordered = lines.slice().sort((a, b) => a.split(" ")[1] - b.split(" ")[1]);
+    for (let at = 0; at < ordered.length; at += most) {
+        fs.writeFileSync("sheet", ordered.slice(at, at + most).map((line) => `${line}\n`).join(""));
+        const sheet = program.mapOf("sheet.map", program.lines(build, "sheet.map", "sheet").trim());
+        const { root, bytes } = sheet;
+        const told = bytes.subarray(30, version === 2 ? 86 : 78);
+        const [counts, level] = [bytes.subarray(6, 22), bytes.subarray(5, 6)];
+        const front = Buffer.concat([Buffer.from([0x52, version]), counts, level, told]);
+        const rect = [30, 34, 38, 42].map((place) => bytes.readInt32BE(place)).join(" ");
+        entries.push(`${entries.length + 1} ${rect} ${front.toString("hex")}\n`);
+        files.set(`sheets/${root}`, bytes);
+        records.push(...sheet.records);
+    }
+    fs.writeFileSync("index", entries.join(""));
+    const root = program.lines("build", "index.map", "index").trim();
+    files.set(`sheets/${root}`, fs.readFileSync("index.map"));
+    const numberOf = ({ line }) => Number(line.split(" ")[0]);
+    records.sort((a, b) => numberOf(a) - numberOf(b));
+    return { root, version, records, files };
+}
+
+module.exports = {
+    ...{ Chance, Program, vectorMaps, madeMap, madeAtlas },
+    ...{ extentOf, windowOn, maskFor, queryOn },
+};

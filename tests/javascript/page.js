@@ -16,7 +16,7 @@ const { pathToFileURL } = require("url");
 const { EXAMPLES, WEB, Bench } = require("./bench.js");
 const { Browser, find, pause } = require("./chromium.js");
 const { Server, send } = require("./server.js");
-const { Program } = require("./maps.js");
+const { Chance, Program, madeAtlas } = require("./maps.js");
 const { linesOf, put } = require("./spelled.js");
 const client = require(path.join(WEB, "mrtree_check.js"));
 
@@ -470,8 +470,72 @@ async function addressesHold(bench, browser, program, server, room) {
     const line = `accepted: ${found} of the map's 60000 records lie inside, at batch 0`;
     bench.equal(count.line, line, "a count by an address");
     await partsHold(bench, browser, "count");
+    await atlasAsked(bench, browser, program, server, room);
     await refusedHold(bench, browser, server, [places, large, root]);
     await longHolds(bench, browser, program, root, room);
+}
+
+/** Whether a file is an atlas proof, and shows a count where the words ask for one. */
+function isOfAtlas(bytes, command) {
+    const letters = bytes.subarray(0, 6).toString("latin1");
+    return letters.startsWith("MRAT") && (letters[5] === "C") === (command === "check-atlas-count");
+}
+
+/** What the page says of the proofs of atlases among the vectors, each fourth and the first. */
+async function atlasesHold(bench, browser, room) {
+    let count = 0;
+    const before = process.cwd();
+    process.chdir(room); // where the vectors' files are written
+    for (const { number, words, files, status, text } of linesOf("atlas.tsv")) {
+        put(files, "=");
+        const [command, root, query, name] = words;
+        const isFit = fs.existsSync(name) && isOfAtlas(fs.readFileSync(name), command);
+        if (![0, 2].includes(status) || !isFit || (count++ % 4 > 0 && number > 40)) {
+            continue;
+        }
+        const file = path.join(room, `atlas-${number}.proof`);
+        fs.copyFileSync(name, file);
+        const told = await given(browser, root, query, file);
+        const lines = text.split("\n").slice(0, -1);
+        const found = command === "check-atlas" ? lines.length : Number(text.split(" ")[1]);
+        const records = `accepted: ${found} ${found === 1 ? "record" : "records"} of an atlas, at batch`;
+        const isSo = status === 2 ? told.line === lines[0] : told.line.startsWith(records);
+        bench.holds(isSo, `atlas.tsv line ${number}: ${told.line}`);
+        const numbers = (rows) => rows.map((row) => row.split(" ")[0]).join(" ");
+        const isShown = status === 0 && command === "check-atlas";
+        bench.equal(numbers(isShown ? told.rows : []), numbers(isShown ? lines : []), "its table");
+        bench.holds((told.rows === null) === (status === 2), `atlas.tsv line ${number}: a table`);
+    }
+    process.chdir(before);
+    bench.holds(count > 60, `${count} proofs of atlases`);
+}
+
+/** An atlas that is asked by its address. */
+async function atlasAsked(bench, browser, program, server, room) {
+    const chance = new Chance(13);
+    const lines = Array.from({ length: 300 }, (_, at) => {
+        const [x, y] = [chance.below(1000), chance.below(1000)];
+        return `${at + 1} ${x} ${y} ${x + 3} ${y + 2} ${at % 2} -`;
+    });
+    const before = process.cwd();
+    process.chdir(room);
+    const atlas = madeAtlas(program, lines, 40, 2);
+    process.chdir(before);
+    atlas.files.forEach((bytes, name) => server.put(`at/${name}`, bytes));
+    const rect = [100, 100, 600, 700];
+    const found = atlas.records.filter((one) => client.meet(one.rect, rect)).length;
+    const url = `${server.url}at/`;
+    const told = await askedOf(browser, atlas.root, `window:${rect}`, url);
+    bench.equal(told.line, `accepted: ${found} records of an atlas, at batch 0`, "an atlas asked");
+    const inside = atlas.records.filter((one) => client.within(one.rect, rect)).length;
+    const count = await askedOf(browser, atlas.root, `window:${rect}`, url, true);
+    const line = `accepted: ${inside} records of an atlas, at batch 0, lie inside`;
+    bench.equal(count.line, line, "a count of an atlas asked");
+    const near = await askedOf(browser, atlas.root, "nearest:500,500,7", url);
+    bench.equal(near.line, "accepted: 7 records of an atlas, at batch 0", "nearest of an atlas");
+    const none = await askedOf(browser, PLACES, WINDOW, url);
+    const meant = `failed Status ${url}sheets/${PLACES}: status 404`;
+    bench.equal(none.line, meant, "an atlas that is not there");
 }
 
 /** Maps and servers that are refused, and one that does not answer. */
@@ -582,6 +646,7 @@ async function main([name, picture]) {
         await othersHold(bench, browser, room);
         await countsHold(bench, browser);
         await joinsHold(bench, browser, room);
+        await atlasesHold(bench, browser, room);
         await geojsonHolds(bench, browser, room);
         await unitsHold(bench, browser);
         const elsewhere = browser.asked.filter((url) => !/^(file|blob):/.test(url));

@@ -1,7 +1,7 @@
 "use strict";
 /**
  * The client in clients/web on the lines of examples/vectors that a client alone can run: those of
- * `check`, `check-count`, `check-join` and `check-all`. Each is run on a file, in pieces of a byte
+ * `check`, `check-count`, `check-join` and `check-all`, and those of atlases. Each is run on a file, in pieces of a byte
  * and in pieces of a gigabyte; some as a process of its own, by a file and by a pipe.
  *
  * usage: node vectors.js short|long          In long, the proofs of a gigabyte too.
@@ -15,7 +15,8 @@ const { WEB, Bench, cut } = require("./bench.js");
 const { linesOf, put } = require("./spelled.js");
 const client = require(path.join(WEB, "mrtree_check.js"));
 
-const KNOWN = ["check", "check-count", "check-join", "check-all"];
+const KNOWN = ["check", "check-count", "check-join", "check-all", "check-atlas", "check-atlas-count"];
+const NAMES = ["vectors.tsv", "atlas.tsv"];
 const MOST_IN_BYTES = 10 ** 5; // of a file that is judged byte by byte
 
 /** What the client says of words in one folder, with files in pieces of so many bytes. */
@@ -75,10 +76,10 @@ async function main([how]) {
     const room = fs.mkdtempSync(path.join(os.tmpdir(), "web-vectors-"));
     process.chdir(room);
     try {
-        for (const name of how === "long" ? ["vectors.tsv", "large.tsv"] : ["vectors.tsv"]) {
+        for (const name of how === "long" ? [...NAMES, "large.tsv"] : NAMES) {
             const bench = new Bench(name);
             const count = await vectorsHold(bench, name);
-            bench.holds(count >= (name === "vectors.tsv" ? 100 : 2), `only ${count} lines are run`);
+            bench.holds(count >= (name === "large.tsv" ? 2 : 100), `only ${count} lines are run`);
             bench.end();
         }
     } finally {

@@ -341,6 +341,7 @@ BAD_WORDS = [
     [ROOT, WINDOW, "m", "n"],
     [ROOT, WINDOW, ""],
     ["check-join", ROOT, ROOT, "m"],
+    ["check-join", ROOT, ROOT, "m", "atlas/"],
     ["check-all", ROOT, WINDOW, "m"],
     ["check-count", ROOT, "nearest:0,0,1", "m"],
     [ROOT.upper(), WINDOW, "m"],
@@ -384,7 +385,7 @@ def words_hold(bench: Bench) -> None:
     os.mkdir("folder")
     for words, part in (
         ([ROOT, WINDOW, "none"], "failed NoFile none: missing"),
-        ([ROOT, WINDOW, "folder"], "failed NoFile folder: "),
+        ([ROOT, WINDOW, "folder"], "failed NoFile folder/sheets/%s: missing" % ROOT),
         ([ROOT, WINDOW, "m", "--proof", "folder/none/p"], "failed NoFile folder/none/p: "),
         ([ROOT, WINDOW, "m", "--proof", "folder"], "failed NoFile folder: "),
         ([ROOT, WINDOW, "/dev/null"], "failed NoFile /dev/null: "),

@@ -13,6 +13,7 @@ import threading
 from typing import Any, Dict, List, Tuple
 
 from bench import CLIENTS, EXAMPLES, Bench, read, write
+import mrtree_ask
 import mrtree_check
 import records
 import shapes
@@ -375,6 +376,21 @@ NO_INDEX = "refused index Head\nthe file is no index of this kind, or of a versi
 # ---- what a file is
 
 
+def an_atlas(bench: Bench) -> str:
+    """Makes an atlas of one sheet in the folder `at`, and a proof of a window on it; answers its root digest."""
+    with open("one.map", "rb") as file:
+        page = file.read(78)
+    preimage = b"R" + page[4:5] + page[6:22] + page[5:6] + page[30:78]
+    rect = " ".join(str(int.from_bytes(page[at : at + 4], "big", signed=True)) for at in range(30, 46, 4))
+    os.makedirs(os.path.join("at", "sheets"), exist_ok=True)
+    write("index.txt", ("1 %s %s\n" % (rect, preimage.hex())).encode())
+    index = bench.program(["build", os.path.join("at", "index.map"), "index.txt"])[1].decode().strip()
+    write(os.path.join("at", "sheets", index), read(os.path.join("at", "index.map")))
+    write(os.path.join("at", "sheets", hashlib.sha256(preimage).hexdigest()), read("one.map"))
+    write("at.proof", mrtree_ask.open_atlas(index, "at").proof(mrtree_check.read_query("window:0,0,1,1")))
+    return index
+
+
 def info_holds(bench: Bench) -> None:
     """Each kind of file is told in exact lines; what is none, and what is not whole, is refused."""
     bench.program(["build", "one.map", os.path.join(EXAMPLES, "places.txt")])
@@ -398,6 +414,7 @@ def info_holds(bench: Bench) -> None:
     write("y.journal", b"")
     root = lambda words: bench.program(words)[1].decode().strip()
     two = root(["upgrade", "two.map", "again.map"])
+    sheets = an_atlas(bench)
     rows = [
         ("one.map", "map|version: 1|batch: 0|records: 4|root: %s|%s|pages: 2" % (root(["build", "o.map", EXAMPLE]), EXTENT)),
         ("two.map", "map|version: 2|batch: 1|records: 3|root: %s|extent: 1 1 3 3|layers: 0 5 63|pages: 2" % two),
@@ -408,6 +425,8 @@ def info_holds(bench: Bench) -> None:
         (os.path.join(EXAMPLES, "places-window.proof"), "proof|kind: window|version: 1|batch: 0|records: 4"),
         (os.path.join(EXAMPLES, "places-nearest.proof"), "proof|kind: nearest|version: 1|batch: 0|records: 4"),
         ("u", "bundle|proofs: 2"),
+        ("at", "folder of an atlas|version: 1|batch: 0|records: 1|root: %s|%s|pages: 2" % (sheets, EXTENT)),
+        ("at.proof", "proof|kind: window of an atlas|batch: 0|sheets: 1"),
         ("cut.u", "bundle|proofs: 1|broken at: %d" % (4 + int.from_bytes(read("u")[:4], "big"))),
         ("two.map.journal", "journal|state: closed"),
         ("x.journal", "journal|state: open|version: 2|pages: %d" % int.from_bytes(closed[2:6], "big")),

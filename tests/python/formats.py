@@ -1,5 +1,6 @@
 """The bytes in docs/FORMATS.md: what its test vectors spell is what the vectors in examples/vectors have, or its hash."""
 import hashlib
+import itertools
 import os
 import re
 from typing import Iterator, List, Set
@@ -7,6 +8,7 @@ from typing import Iterator, List, Set
 from bench import EXAMPLES, TOP, Bench, read
 import vectors
 
+NAMES = ("vectors.tsv", "atlas.tsv")
 LEAST = 8  # bytes of a string that is looked for
 SECTIONS = ("## Proofs of joins", "## Vectors as files", "## Test vectors")
 
@@ -53,7 +55,7 @@ def in_tables(lines: List[str]) -> Iterator[bytes]:
 def known() -> List[bytes]:
     """The files of the vectors, as far as they are spelled, and those of the examples."""
     files = []
-    for vector in vectors.lines_of("vectors.tsv"):
+    for vector in itertools.chain(*map(vectors.lines_of, NAMES)):
         files += [vectors.bytes_of(one, EXAMPLES) for _, one in vector.before + vector.after if "@" not in one]
     for folder in (EXAMPLES, os.path.join(EXAMPLES, "vectors")):
         files += [read(os.path.join(folder, name)) for name in sorted(os.listdir(folder)) if name.endswith(".proof")]
@@ -62,7 +64,8 @@ def known() -> List[bytes]:
 
 def formats_hold(bench: Bench) -> None:
     """Each string stands in a file of the vectors, or is told by one; or its digest is; or it is that of such a file."""
-    texts = b"".join(vector.text + " ".join(vector.words).encode() for vector in vectors.lines_of("vectors.tsv"))
+    all_ = itertools.chain(*map(vectors.lines_of, NAMES))
+    texts = b"".join(vector.text + " ".join(vector.words).encode() for vector in all_)
     files = known()
     whole, digests = b"\0".join(files), {hashlib.sha256(file).digest() for file in files}
     lines, seen = sections(), 0

@@ -430,7 +430,7 @@ http {
         add_header Cache-Control "public, max-age=31536000, immutable";
         location /whole/ { alias files/; max_ranges 0; }
         location /packed/ { alias files/; gzip on; gzip_types *; gzip_min_length 1; gzip_proxied any; }
-        location /led/ { return 302 /m; }
+        location /led { return 302 /m; }
         location /few { alias files/m; keepalive_requests 2; }
     }
 }
@@ -507,7 +507,7 @@ def behind_nginx(bench: Bench, one: chances.Map, address: str) -> None:
     lines = mrtree_ask.run([one.root, ask.ALL, "m"])[1]
     for path, status, meant in (
         ("m", 0, lines),
-        ("led/", 0, lines),
+        ("led", 0, lines),
         ("packed/m", 0, lines),
         ("few", 0, lines),
         ("whole/m", 7, "failed NoRanges %swhole/m: the server gives no ranges\n" % address),

@@ -1,6 +1,7 @@
 """The client in clients/web beside the one in clients/python and the program: all three say the same of each string.
 
-tests/web calls it: web.py short|long PROGRAM. Strings are proofs and bundles at random, honest and bent.
+tests/web calls it: web.py short|long PROGRAM. Strings are proofs and bundles at random, honest and bent, and those of
+atlases, which the program does not know.
 """
 import itertools
 import json
@@ -14,6 +15,7 @@ from typing import List
 
 from bench import TOP, Bench, Ended
 import chances
+import sheets
 
 ANSWER = os.path.join(TOP, "tests", "javascript", "answer.js")
 SIZES = (0, 1, 7, 100, 65536, 2**30)  # bytes of the pieces in which the client gets a file; 0: as it reads it
@@ -42,6 +44,10 @@ class Three(Bench):
         self.asked += 1
         self.holds(one == other, "%s: in Python %s, in JavaScript %s" % (" ".join(words), one, other))
         return one
+
+    def ask_in_javascript(self, words: List[str]) -> Ended:
+        """What the asker in JavaScript says."""
+        return self.in_javascript(["ask", *words])
 
     def end(self) -> None:
         """Ends the process of the client in JavaScript: it reads to the end of its input, and has not failed."""
@@ -81,6 +87,7 @@ def main(how: str, program: str) -> int:
         os.chdir(folder)
         bench = Three(program, how == "long")
         random_proofs(bench)
+        sheets.sheets_hold(bench, (30, 400), 7)
         bench.end()
         os.chdir(top)
     seconds = time.monotonic() - began
