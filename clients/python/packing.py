@@ -1,6 +1,7 @@
 """Makes a wheel of these files for pip, with the standard library alone: the build backend of pyproject.toml (PEP 517).
 
 The package mrtree_check has the scripts as modules, and there are commands for those that are called.
+The package mrtree_check has the scripts as modules, and there are six commands, one for each.
 """
 from __future__ import annotations
 
@@ -13,9 +14,11 @@ from typing import Any, Dict
 import mrtree_check
 
 HERE = os.path.dirname(os.path.abspath(__file__))
-FILES = ["__init__.py", "mrtree_check.py", "mrtree_ask.py", "ranges.py", "pagewise.py", "layout.py"]
+FILES = ["__init__.py", "mrtree_check.py", "mrtree_ask.py", "ranges.py", "pagewise.py", "sheetwise.py", "layout.py"]
 FILES += ["outputs.py", "sources.py", "statement.py", "shapes.py", "kinds.py", "records.py", "draw.py", "py.typed"]
 FILES += ["mrtree_host.py", "listening.py", "mapped.py", "tiles.py", "published.py", "mrtree_gateway.py"]
+FILES += ["mrtree_atlas.py", "atlas_sheets.py", "atlas_sort.py", "atlas_numbers.py", "atlas_build.py"]
+FILES += ["atlas_update.py", "atlas_bind.py", "atlas_prove.py", "atlas_audit.py", "atlas_texts.py"]
 NAME = "mrtree_check-%s" % mrtree_check.__version__
 METADATA = """Metadata-Version: 2.1
 Name: mrtree-check
@@ -32,6 +35,7 @@ mrtree-records = mrtree_check.records:main
 mrtree-draw = mrtree_check.draw:main
 mrtree-host = mrtree_check.mrtree_host:main
 mrtree-tiles = mrtree_check.tiles:main
+mrtree-atlas = mrtree_check.mrtree_atlas:main
 """
 WHEEL = "Wheel-Version: 1.0\nGenerator: packing\nRoot-Is-Purelib: true\nTag: py3-none-any\n"
 

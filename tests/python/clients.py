@@ -11,6 +11,8 @@ from typing import Callable, List, Optional, Tuple
 
 from bench import TOP, Bench, read, write
 import ask
+import atlas_stops
+import atlases
 import beside
 import chances
 import foretold
@@ -21,7 +23,9 @@ import hosts
 import inputs
 import mrtree_check
 import pages
+import roads
 import servers
+import sheets
 import statements
 import tables
 import trips
@@ -29,9 +33,12 @@ import vectors
 import ways
 
 LONGEST = 40  # lines of a function
-MODULES = ["mrtree_check", "mrtree_ask", "ranges", "pagewise", "layout"]
+MODULES = ["mrtree_check", "mrtree_ask", "ranges", "pagewise", "sheetwise", "layout"]
 MODULES += ["outputs", "sources", "statement", "shapes", "kinds", "records", "draw", "packing", "mrtree_host"]
-MODULES += ["listening", "mapped", "tiles", "published", "mrtree_gateway"]
+MODULES += ["listening", "mapped", "tiles", "published", "mrtree_gateway", "mrtree_atlas"]
+MODULES += ["atlas_sheets", "atlas_sort", "atlas_numbers", "atlas_build", "atlas_update", "atlas_bind"]
+MODULES += ["atlas_prove", "atlas_audit", "atlas_texts"]
+NO_EXAMPLES = ("layout", "outputs", "packing", "mrtree_atlas", "atlas_build", "atlas_bind", "atlas_audit", "atlas_texts")
 MOST_IN_SHORT = 2**17  # bytes of a proof that the short run takes from a story
 # The rules by which texts, batches, map files and proofs are refused.
 RULES = """TooMany NoEnd Head Form Number Coordinate Order Payload Repeat Query Layer OutOfOrder Present Full Absent
@@ -52,7 +59,7 @@ def style(bench: Bench) -> None:
     for name in MODULES:
         module = importlib.import_module(name)
         results = doctest.testmod(module)
-        has_some = results.attempted > 0 or name in ("layout", "outputs", "packing")
+        has_some = results.attempted > 0 or name in NO_EXAMPLES
         bench.holds(results.failed == 0 and has_some, "%s: its examples" % name)
         with open(module.__file__) as file:
             tree = ast.parse(file.read(), feature_version=(3, 9))
@@ -124,6 +131,19 @@ def client_says(bench: Bench, vector: vectors.Vector, where: str) -> None:
         with open(last, "rb") as file:
             said = bench.script("mrtree_check.py", [*vector.words[:-1], "-"], stdin=file)
         bench.holds(said == expected, "%s: the client, by a pipe, says %s" % (where, said))
+
+
+def atlas_vectors_hold(bench: Bench) -> None:
+    """The client says what each vector of atlases says; the program, which has no atlases, is not asked."""
+    texts, count = b"", 0
+    for vector in vectors.lines_of("atlas.tsv"):
+        for one, spelled in vector.before:
+            write(one, vectors.bytes_of(spelled, "."))
+        client_says(bench, vector, "atlas.tsv line %d" % vector.line)
+        texts, count = texts + vector.text, count + 1
+    bench.holds(count >= 100, "only %d lines of atlas.tsv" % count)
+    for fault in sheets.FAULTS:
+        bench.holds(re.search(fault.encode(), texts) is not None, "no vector of atlases shows the fault " + fault)
 
 
 # ---- the tables of the program's own tests
@@ -210,6 +230,7 @@ def main(how: str, program: str) -> int:
         ("how the scripts are written", style),
         ("the rules that vectors show", each_rule_is_shown),
         ("vectors", lambda bench: vectors_hold(bench, "vectors.tsv")),
+        ("vectors of atlases", atlas_vectors_hold),
         ("the bytes in FORMATS", formats.formats_hold),
         ("the tables of the program's tests", rows_hold),
         ("the same tables, foretold", foretold.tables_hold),
@@ -226,6 +247,10 @@ def main(how: str, program: str) -> int:
         ("maps on servers", servers.all_hold),
         ("a host", hosts.all_hold),
         ("the gateway and the driver of GDAL", gateway.gateway_holds),
+        ("atlases as readers judge them", sheets.sheets_hold),
+        ("atlases by their publisher", atlases.atlases_hold),
+        ("atlases whose making is stopped", atlas_stops.stops_hold),
+        ("an atlas from features to readers", roads.roads_hold),
         ("the examples on pages", pages.pages_hold),
     ]
     if bench.is_long:

@@ -43,7 +43,7 @@ CODE = r"`[^`]*`"
 LONGEST_RUN = 600  # seconds
 MOST_WORDS = 35  # of a sentence
 # The pages whose sentences are counted.
-PLAIN = """README.md CHANGELOG.md docs/PUBLISHING.md docs/SERVING.md docs/HOSTING.md docs/HOST.md docs/READING.md docs/GATEWAY.md docs/DEVELOPING.md docs/SPEED.md
+PLAIN = """README.md CHANGELOG.md docs/PUBLISHING.md docs/SERVING.md docs/HOSTING.md docs/HOST.md docs/ATLAS.md docs/READING.md docs/GATEWAY.md docs/DEVELOPING.md docs/SPEED.md
     docs/COUNTS.md docs/JOINS.md docs/HEADLINE.md docs/PROVED.md docs/HOSTILE.md docs/GLOSSARY.md docs/DECISIONS.md docs/COMMANDS.md docs/FORMATS.md
     docs/DESIGN.md docs/PROVING.md docs/DEFINITIONS.md""".split()
 # The words that the script itself answers, before any build; and those that build, where the program is there.
