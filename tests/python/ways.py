@@ -103,7 +103,7 @@ def answers_hold(bench: Bench) -> None:
         (ROOT, "window:0,0,1,1", PROOF, 2, "refused Needless at 161"),
         ("0" * 64, WINDOW, PROOF, 2, "refused WrongRoot at 172 found " + ROOT),
         (ROOT, WINDOW, "none", 7, "missing none"),
-        (ROOT, WINDOW, "/", 7, "shelf fault"),
+        (ROOT, WINDOW, "/", 7, "failed NoFile /sheets/%s: missing" % ROOT),
         ("00", WINDOW, PROOF, 1, "the root digest is not 64 lower-case hexadecimal digits"),
         (ROOT, "window:0,0,1", PROOF, 1, "the query is neither window:x0,y0,x1,y1 nor nearest:x,y,k"),
     ):
