@@ -590,7 +590,7 @@ def answer_of(given: argparse.Namespace, root: bytes, query: Query) -> Union[Ans
         if piece is None:
             break
         front += piece
-    is_atlas = given.atlas or given.said and given.said.atlas or front.startswith(b"MRAT")
+    is_atlas = given.atlas or front.startswith(b"MRAT")
     return (client.judge_atlas if is_atlas else client.judge)(root, query, joined(front, pieces))
 
 
