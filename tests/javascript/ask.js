@@ -793,7 +793,7 @@ async function atlasViewsHold(bench, server, program, chance, count) {
         for (let turn = 0; turn < count; turn++) {
             const limits = turn % 3 === 0 ? {} : { leaves: 8, inner: 2, sheets: chance.of([2, 16]) };
             const far = await new FarAtlas(`${server.url}at/`, limits).open(atlas.root);
-            const window = turn === 0 ? WHOLE.slice(7).split(",").map(Number)
+            const window = turn < 2 ? WHOLE.slice(7).split(",").map(Number)
                 : windowOn(chance, { ...atlas, name: "at" });
             const found = atlas.records.filter(({ rect }) => client.meet(rect, window));
             let last = null;
