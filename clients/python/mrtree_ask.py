@@ -12,6 +12,10 @@ A SOURCE that ends with a slash, or is a folder, is an atlas, a map of maps: the
 check-atlas-count. Joins are not of atlases.
 
 --proof FILE        keeps the proof in a file, once it is accepted
+--features FILE     of `check`, keeps the true shapes of the answer in a file, a feature of GeoJSON on each line; for -
+                    they are printed in the place of the records
+--shapes FILE       the shapes that the publisher gives, a file or an address, with an index beside it; else those that
+                    the statement says. Those of the answer are fetched alone, each by its digest
 --most BYTES        fetches at most so many bytes in all, else 1073741824
 --requests NUMBER   sends at most so many requests in all, else 10000
 --seconds NUMBER    takes at most so long for them, else 600
@@ -48,7 +52,7 @@ from typing import Dict, List, NamedTuple, Optional, Tuple, Union
 
 if __package__:
     from . import mrtree_check as client
-    from . import outputs, statement
+    from . import outputs, shapes, statement
     from .mrtree_check import Answer, AtlasAnswer, AtlasCount, Count, Ended, Join, Query, Refused
     from .pagewise import MEANINGS, FarMap, MapRefused, join_proof
     from .ranges import Failed, Limits, Meter, is_address, read_address, source_of, told
@@ -57,6 +61,7 @@ if __package__:
 else:
     import mrtree_check as client
     import outputs
+    import shapes
     import statement
     from mrtree_check import Answer, AtlasAnswer, AtlasCount, Count, Ended, Join, Query, Refused
     from pagewise import MEANINGS, FarMap, MapRefused, join_proof
@@ -143,8 +148,8 @@ def is_map(name: str) -> bool:
 class Words(NamedTuple):
     """The words of a command line: the command, the root digest, what is asked, the sources, and what options say.
 
-    What is asked is a query, and of `check-join` the second root digest. Where no proof is kept, its name is empty. So
-    are root digests and sources that are still to be taken from statements.
+    What is asked is a query, and of `check-join` the second root digest. Where no proof is kept, its name is empty, and
+    so of features. So are root digests, sources and shapes that are still to be taken from statements.
     """
 
     command: str
@@ -156,9 +161,11 @@ class Words(NamedTuple):
     statements: Tuple[List[str], List[str]] = ([], [])  # the files of each map's
     publishers: Optional[str] = None
     said: Tuple[Statement, ...] = ()  # of each map, once they are read
+    features: str = ""
+    shapes: str = ""
 
 
-Done = Tuple[bytes, List[str]]  # a proof, and the lines of its answer
+Done = Tuple[bytes, List[str], bytes]  # a proof, the lines of its answer, and its features where they are kept
 
 
 def check_done(words: Words, meter: Meter) -> Done:
@@ -172,7 +179,17 @@ def check_done(words: Words, meter: Meter) -> Done:
     for said in words.said:
         statement.compare_verdict(said, answer)
         statement.compare_records(said, answer.records)
-    return proof, answer.lines()
+    features = features_of(words.shapes, answer, meter) if words.features else b""
+    return proof, answer.lines(), features
+
+
+def features_of(name: str, answer: Union[Answer, AtlasAnswer], meter: Meter) -> bytes:
+    """The features of an answer, a line each, out of shapes of which no others are fetched. Raises Refused, Failed."""
+    try:
+        found = shapes.Shapes(name, meter).fetch(answer.records)
+    except ValueError as fault:
+        raise Failed("NoFile", name, str(fault)) from None
+    return b"".join(found[record.number] + b"\n" for record in answer.records)
 
 
 def count_done(words: Words, meter: Meter) -> Done:
@@ -185,7 +202,7 @@ def count_done(words: Words, meter: Meter) -> Done:
         count = client.judge_count(words.root, words.asked, [proof])
     for said in words.said:
         statement.compare_verdict(said, count)
-    return proof, ["count %d" % count.inside]
+    return proof, ["count %d" % count.inside], b""
 
 
 def join_done(words: Words, meter: Meter) -> Done:
@@ -195,7 +212,7 @@ def join_done(words: Words, meter: Meter) -> Done:
     for said, state in zip(words.said, (join.first, join.second)):
         if state:
             statement.compare_verdict(said, state)
-    return proof, ["pair %d %d" % pair for pair in join.pairs]
+    return proof, ["pair %d %d" % pair for pair in join.pairs], b""
 
 
 COMMANDS = {  # how many sources each has, what reads its second word, and what does it
@@ -203,6 +220,7 @@ COMMANDS = {  # how many sources each has, what reads its second word, and what 
     "check-count": (1, client.read_window, count_done),
     "check-join": (2, client.read_root, join_done),
 }
+NAMED = ("--proof", "--publishers", "--features", "--shapes")  # options that name a file
 SEVERAL = ("--statement", "--statement2")  # options that may stand several times
 LIMITS = {"--most": "bytes", "--requests": "requests", "--seconds": "seconds"}  # the options that set one
 
@@ -230,13 +248,28 @@ def read_words(words: List[str]) -> Words:
     root, asked = rest[0] and client.read_root(rest[0]), rest[1] and read(rest[1])
     for source in filter(is_address, rest[2:]):
         read_address(source)
-    proof = given.pop("--proof", [""])[0]
+    proof, features, shapes_ = (given.pop(option, [""])[0] for option in ("--proof", "--features", "--shapes"))
     if command == "check-join" and any(map(is_atlas, rest[2:])):
         raise ValueError("joins are of maps, and not of atlases")
-    if proof:
-        refuse_same(proof, [*rest[2:], *statements[0], *statements[1]])
+    if shapes_ and not features or features and (command != "check" or not (shapes_ or statements[0])):
+        raise ValueError("--features goes with `check`, and with --shapes or a statement that says where shapes are")
     limits = {LIMITS[option]: read_number(option, word) for option, (word,) in given.items()}
-    return Words(command, root or b"", asked or b"", rest[2:], proof, Limits(**limits), statements, publishers)
+    found = Words(command, root or b"", asked or b"", rest[2:], proof, Limits(**limits), statements, publishers)
+    found = found._replace(features=features, shapes=shapes_)
+    refuse_read(found)
+    return found
+
+
+def refuse_read(words: Words) -> None:
+    """Raises ValueError where what is to be written is read too, or is to stand among the sheets of an atlas."""
+    beside = [words.shapes, shapes.index_name(words.shapes)] if words.shapes else []
+    stated_ = [*words.statements[0], *words.statements[1]]
+    signed = [words.publishers, *map(statement.signature_name, stated_)] if words.publishers else []
+    given = [*words.sources, *stated_, *signed, *beside]
+    if words.proof:
+        refuse_same(words.proof, given)
+    if words.features:
+        refuse_same(words.features, [*given, words.proof] if words.proof else given)
 
 
 def filled(words: List[str], command: str) -> List[str]:
@@ -258,10 +291,21 @@ def stated(words: Words) -> Words:
     digests = [words.root, words.asked if len(said) == 2 else b""]
     roots = [client.read_root(statement.root_of(*one)) for one in zip(said, [one.hex() or None for one in digests])]
     sources = [source or address_of(one) for source, one in zip(words.sources, said)]
-    if words.proof and words.proof in sources:
-        raise Failed("NoFile", words.proof, "it is the map's own file")
+    shapes_ = words.shapes or shapes_said(said[0]) if words.features else ""
     asked = roots[1] if len(said) == 2 else words.asked
-    return words._replace(root=roots[0], asked=asked, sources=sources, said=said)
+    found = words._replace(root=roots[0], asked=asked, sources=sources, said=said, shapes=shapes_)
+    try:
+        refuse_read(found)
+    except ValueError as fault:
+        raise Failed("NoFile", said[0].name, str(fault)) from None
+    return found
+
+
+def shapes_said(said: Statement) -> str:
+    """Where the shapes of a statement are. Raises Ended where it says none."""
+    if not said.shapes:
+        raise Failed("NoFile", said.name, "the statement says no shapes: name them with --shapes")
+    return said.where(said.shapes)
 
 
 def address_of(said: Statement) -> str:
@@ -286,7 +330,7 @@ def read_options(words: List[str]) -> Tuple[Dict[str, List[str]], List[str]]:
             continue
         value = next(left, "")
         is_new = word not in given or word in SEVERAL
-        if word not in ("--proof", "--publishers", *SEVERAL, *LIMITS) or not is_new or not value:
+        if word not in (*NAMED, *SEVERAL, *LIMITS) or not is_new or not value:
             raise ValueError("%s is no option, or stands there twice, or has no value" % word)
         given.setdefault(word, []).append(value)
     return given, rest
@@ -311,11 +355,11 @@ def refuse_same(proof: str, sources: List[str]) -> None:
         raise ValueError(str(unfit)) from None
 
 
-def keep(name: str, proof: bytes) -> None:
-    """Keeps a proof in a file. Raises Failed."""
+def keep(name: str, what: bytes) -> None:
+    """Keeps a proof or features in a file. Raises Failed."""
     try:
         with outputs.written(name) as file:
-            file.write(proof)
+            file.write(what)
     except (OSError, ValueError) as fault:
         raise Failed("NoFile", name, told(fault)) from None
 
@@ -342,10 +386,11 @@ def run(words: List[str]) -> Tuple[int, str]:
         with ExitStack() as stack:
             for said in asked.said:
                 stack.enter_context(statement.judged(said))
-            proof, lines = COMMANDS[asked.command][2](asked, Meter(asked.limits))
-        if asked.proof:
-            keep(asked.proof, proof)
-        return 0, "".join(line + "\n" for line in lines)
+            proof, lines, features = COMMANDS[asked.command][2](asked, Meter(asked.limits))
+        for name, kept in ((asked.proof, proof), (asked.features, features)):
+            if name:
+                keep(name, kept)
+        return 0, "".join(line + "\n" for line in lines if asked.features != "-")
     except Refused as fault:
         return 2, "%s\n" % fault
     except Ended as ended:
@@ -360,8 +405,10 @@ def explain(words: List[str], status: int, text: str) -> None:
         if status == 1:
             read_words(words)
         page = re.search(r"map page [0-9]+ ([A-Za-z]+)", text) if status == 2 else None
+        shape = re.match(r"refused (?:shape [0-9]+|index) ([A-Za-z]+)\n$", text)
         is_told = ": " in text  # what does not go with a statement says itself why
-        why = MEANINGS.get(page[1], "") if page else "" if is_told else client.meaning_of(text)
+        why = shapes.MEANINGS[shape[1]] if shape else "" if is_told else client.meaning_of(text)
+        why = MEANINGS.get(page[1], "") if page else why
         if status == 10:
             why = "the map is of version 1, which has no layers, no counts and no joins"
     except ValueError as fault:

@@ -1,7 +1,6 @@
 """Makes a wheel of these files for pip, with the standard library alone: the build backend of pyproject.toml (PEP 517).
 
 The package mrtree_check has the scripts as modules, and there are commands for those that are called.
-The package mrtree_check has the scripts as modules, and there are six commands, one for each.
 """
 from __future__ import annotations
 

@@ -9,6 +9,9 @@
  *
  * usage: node mrtree_ask.js [OPTIONS] [check | check-count] ROOT QUERY SOURCE
  *        node mrtree_ask.js [OPTIONS] check-join ROOT ROOT2 SOURCE SOURCE2
+ *        node mrtree_ask.js --statement FILE [OPTIONS] [check | check-count] QUERY [SOURCE]
+ *        node mrtree_ask.js --statement FILE --statement2 FILE [OPTIONS] check-join
+ *            [SOURCE SOURCE2]
  *
  * SOURCE is an address that begins with http:// or https://, or the name of a map file. A SOURCE
  * that ends with a slash, or is a folder, is an atlas, a map of maps; joins are not of atlases. The
@@ -18,6 +21,9 @@
  *     --most BYTES        fetches at most so many bytes in all, else 1073741824
  *     --requests NUMBER   sends at most so many requests in all, else 10000
  *     --seconds NUMBER    takes at most so long for them, else 600
+ *     --statement FILE    takes root and address from the publisher's statement, a file or an
+ *                         address, and compares what it says; who signed it is not checked
+ *     --statement2 FILE   the same of the second map of a join
  *     --help, -h          prints the usage, where it stands first
  *
  * Nodes are kept by digest, and never by page: no digest covers the numbers of pages, so that by
@@ -326,6 +332,31 @@ class OnServer {
             bytes.set(value, at);
             at += value.length;
         }
+    }
+}
+
+/** A small file on a server, which may be handed out as a whole where a range is asked for. */
+class Whole extends OnServer {
+    sizeOf(answer, start, end) {
+        const encoding = answer.headers.get("content-encoding") ?? "identity";
+        return answer.status === 200 && encoding === "identity" ? null
+            : super.sizeOf(answer, start, end);
+    }
+
+    async body(answer, size, most, clock) {
+        if (size !== null) {
+            return super.body(answer, size, most, clock);
+        }
+        const [parts, reader] = [[], answer.body.getReader()];
+        for (let left = most; left > 0; left -= parts.at(-1).length) {
+            const { value, done } = await reader.read();
+            if (done) {
+                break;
+            }
+            clock.wind();
+            parts.push(value.subarray(0, left));
+        }
+        return joined(parts);
     }
 }
 
@@ -1353,17 +1384,24 @@ const ASKED = new Map([
     ["check-count", [1, client.readWindow, ([map], word, meter) => map.askCount(word, meter)]],
     ["check-join", [2, client.readRoot, ([one, other], _, meter) => askJoin(one, other, meter)]],
 ]);
+const NAMED = ["--proof", "--statement", "--statement2"]; // the options that name a file
 const OPTIONS = { "--most": "bytes", "--requests": "requests", "--seconds": "seconds" };
 const USAGE = "usage: mrtree_ask.js [OPTIONS] [check | check-count] ROOT QUERY SOURCE";
 const USAGE_OF_JOIN = "check-join ROOT ROOT2 SOURCE SOURCE2";
+const STATED = "mrtree_ask.js --statement FILE";
 const HELP = [
-    ...[USAGE, `       mrtree_ask.js [OPTIONS] ${USAGE_OF_JOIN}`, ""],
+    ...[USAGE, `       mrtree_ask.js [OPTIONS] ${USAGE_OF_JOIN}`],
+    `       ${STATED} [OPTIONS] [check | check-count] QUERY [SOURCE]`,
+    ...[`       ${STATED} --statement2 FILE [OPTIONS] check-join [SOURCE SOURCE2]`, ""],
     "SOURCE is an address that begins with http:// or https://, or the name of a map file.",
     "A SOURCE that ends with a slash, or is a folder, is an atlas.",
     ...["", "--proof FILE        keeps the proof in a file, once it is accepted"],
     "--most BYTES        fetches at most so many bytes in all, else 1073741824",
     "--requests NUMBER   sends at most so many requests in all, else 10000",
     "--seconds NUMBER    takes at most so long for them, else 600",
+    "--statement FILE    takes root and address from the publisher's statement, a file or an",
+    "                    address, and compares what it says; who signed it is not checked",
+    "--statement2 FILE   the same of the second map of a join",
     "--help, -h          prints this, where it stands first",
 ];
 
@@ -1379,8 +1417,7 @@ function need(isSo, why) {
 
 /** The options of a command line, and its other words. Throws BadWords. */
 function readOptions(words) {
-    const [limits, rest] = [{}, []];
-    let proof = null;
+    const [limits, rest, named] = [{}, [], {}];
     for (let at = 0; at < words.length; at++) {
         if (!words[at].startsWith("--")) {
             rest.push(words[at]);
@@ -1388,16 +1425,25 @@ function readOptions(words) {
         }
         const [option, value] = [words[at], words[++at] ?? ""];
         const limit = Object.hasOwn(OPTIONS, option) ? OPTIONS[option] : undefined;
-        const isNew = option === "--proof" ? proof === null : limit && !(limit in limits);
+        const isNew = NAMED.includes(option) ? !(option in named) : limit && !(limit in limits);
         need(isNew && value !== "", `${option} is no option, or stands there twice, or has no value`);
-        if (option === "--proof") {
-            proof = value;
+        if (NAMED.includes(option)) {
+            named[option] = value;
             continue;
         }
         need(/^(0|[1-9][0-9]{0,18})$/.test(value), `${option} stands before a whole number`);
         limits[limit] = Number(value);
     }
-    return { limits, proof, rest };
+    const [proof = null, first, second] = NAMED.map((option) => named[option]);
+    const statements = second ? [first, second] : first ? [first] : [];
+    return { limits, proof, statements, rest };
+}
+
+/** The words of a command, with an empty one for each that is left out since statements say it. */
+function filled(words, isJoin) {
+    const missing = isJoin ? { 0: ["", "", "", ""], 2: ["", "", ...words] }
+        : { 1: ["", ...words, ""], 2: ["", ...words] };
+    return missing[words.length] ?? words;
 }
 
 /** Throws BadWords where a word is not what it has to be for this reader of words. */
@@ -1415,22 +1461,107 @@ function needWord(read, word) {
 
 /** What the words of a command line mean. Throws BadWords where they spell no command. */
 function readAsked(words) {
-    const { rest: given, proof, limits } = readOptions(words);
-    const [command, ...rest] = ASKED.has(given[0]) ? given : ["check", ...given];
+    const { rest: given, proof, limits, statements } = readOptions(words);
+    const [command, ...own] = ASKED.has(given[0]) ? given : ["check", ...given];
     const [count, read, ask] = ASKED.get(command);
+    const isStated = statements.length > 0;
+    need(!isStated || statements.length === count && !statements.includes(undefined),
+        "--statement is of the map, and --statement2 of the second map of a join: both are given");
+    const rest = isStated ? filled(own, count === 2) : own;
     const [root, asked, ...sources] = rest;
-    const areAll = rest.length === 2 + count && rest.every((word) => word !== "");
+    const areAll = rest.length === 2 + count && own.every((word) => word !== "");
     need(areAll, `${USAGE}, or: ${USAGE_OF_JOIN}`);
-    needWord(client.readRoot, root);
-    needWord(read, asked);
-    need(count < 2 || !sources.some(isAtlas), "joins are of maps, and not of atlases");
+    [[client.readRoot, root], [read, asked]].filter(([, word]) => word !== "").forEach(
+        (one) => needWord(...one)
+    );
+    needSources(sources.filter((source) => source !== ""), count === 2);
+    [...sources, ...statements].forEach((source) => needOther(proof, source));
+    const roots = count === 2 ? [root, asked] : [root];
+    return { roots, asked, sources, ask, proof, limits, statements };
+}
+
+/** Throws BadWords where a word is no source, or no one of a join. */
+function needSources(sources, isJoin) {
+    need(!isJoin || !sources.some(isAtlas), "joins are of maps, and not of atlases");
     need(sources.every(isSource), "an address begins with http:// or https://, has no user, and " +
         "is of visible letters of ASCII");
-    need(!sources.some((source) => isSameFile(proof, source)), `${proof} is to be written, and it ` +
-        "is read too: give the output another name");
-    need(!sources.some((source) => isAmongSheets(proof, source)), `${proof} is to be written ` +
-        "among the sheets of an atlas: give it another name");
-    return { roots: count === 2 ? [root, asked] : [root], asked, sources, ask, proof, limits };
+}
+
+/** Throws BadWords where the file of a proof is one that is read. */
+function needOther(proof, source) {
+    need(!isSameFile(proof, source), `${proof} is to be written, and it is read too: give the ` +
+        "output another name");
+    need(!isAmongSheets(proof, source), `${proof} is to be written among the sheets of an atlas: ` +
+        "give it another name");
+}
+
+/** What is asked, with what is left out of it from the statements that are named. Throws. */
+async function statedBy(given) {
+    const { whereOf, rootOfStatement, toldOfTime } = require("./mrtree_statement.js");
+    const said = [];
+    for (const name of given.statements) {
+        const one = await openStatement(name, given.limits);
+        const today = new Date().toISOString().slice(0, 10);
+        toldOfTime(one, today).forEach((line) => process.stderr.write(`mrtree_ask.js: ${line}\n`));
+        said.push(one);
+    }
+    const roots = said.map((one, at) => rootOfStatement(one, given.roots[at]));
+    const sources = given.sources.map((source, at) => source || placeOf(said[at], whereOf));
+    needSources(sources, sources.length === 2);
+    sources.forEach((source) => needOther(given.proof, source));
+    return { ...given, said, roots, sources };
+}
+
+/** The statement in a file or at an address. Throws BadStatement and Failed. */
+async function openStatement(name, limits) {
+    const { readStatement, MOST_STATEMENT } = require("./mrtree_statement.js");
+    if (!isSource(name)) {
+        throw new Failed("NoFile", name, "it is no address by http or https");
+    }
+    const file = isAddress(name) ? new Whole(name, LIMITS.patience) : new OnDisk(name);
+    const meter = new Meter({ ...LIMITS, ...limits });
+    const bytes = await file.read(0, MOST_STATEMENT + 1, meter);
+    try {
+        return readStatement(bytes, isAddress(name) ? name : require("path").dirname(name), name);
+    } catch (error) {
+        const line = `${error.line} ${name}: ${error.means}`;
+        throw Object.assign(error, { line, status: 2, told: "" });
+    }
+}
+
+/** Where the map of a statement is. Throws Failed where it says no address. */
+function placeOf(said, whereOf) {
+    if (said.address === null) {
+        const words = "the statement has no address of the map: name the SOURCE";
+        throw new Failed("NoFile", said.name, words);
+    }
+    const path = require("path");
+    const beside = () => (path.isAbsolute(said.address) ? said.address
+        : [path.join(said.place, "."), said.address].filter((part) => part !== ".").join("/"));
+    return whereOf(said, said.address) ?? beside();
+}
+
+/** Throws StatementRefused where a verdict does not go with the statements that are named. */
+async function holdTo(said, verdict) {
+    const { compareStatement, compareRecords } = require("./mrtree_statement.js");
+    const states = said.length === 2 ? [verdict.first, verdict.second] : [verdict];
+    for (const [at, one] of said.entries()) {
+        if (states[at] !== null) {
+            compareStatement(one, { version: 2, ...states[at] });
+        }
+        await compareRecords(one, verdict.records ?? [], client.digestOf);
+    }
+}
+
+/** A fault; or of a map that leads to a root which has ended, as a statement says, that. */
+function endedBy(said, fault) {
+    const { refuseEnded } = require("./mrtree_statement.js");
+    try {
+        said.forEach((one) => refuseEnded(one, fault.found ?? ""));
+        return fault;
+    } catch (refused) {
+        return refused;
+    }
 }
 
 /** Whether two names are of one file. */
@@ -1461,7 +1592,7 @@ function linesOfVerdict(verdict) {
 }
 
 /** The proof and the lines of an answer. Throws where there is none. */
-async function answerOf({ roots, asked, sources, ask, limits }) {
+async function answerOf({ roots, asked, sources, ask, limits, said = [] }) {
     const meter = new Meter({ ...LIMITS, ...limits });
     const maps = [];
     for (const [at, source] of sources.entries()) {
@@ -1473,6 +1604,7 @@ async function answerOf({ roots, asked, sources, ask, limits }) {
     if (!verdict.accepted) {
         throw new ProofRefused(verdict);
     }
+    await holdTo(said, verdict);
     return [proof, linesOfVerdict(verdict)];
 }
 
@@ -1493,14 +1625,18 @@ async function runAsk(words) {
     if (words[0] === "--version") {
         return [0, [`mrtree_ask.js ${client.VERSION}`]];
     }
+    let said = [];
     try {
         const given = readAsked(words);
-        const [proof, lines] = await answerOf(given);
+        const all = given.statements.length > 0 ? await statedBy(given) : given;
+        said = all.said ?? [];
+        const [proof, lines] = await answerOf(all);
         if (given.proof !== null) {
             keepProof(given.proof, proof);
         }
         return [0, lines];
-    } catch (error) {
+    } catch (fault) {
+        const error = endedBy(said, fault);
         if (error instanceof BadWords) {
             return [1, ["bad words"], error.message];
         }
@@ -1510,7 +1646,7 @@ async function runAsk(words) {
         if (error.line === undefined) {
             throw error;
         }
-        return [error.status, [error.line], error.means];
+        return [error.status, [error.line], error.told ?? error.means];
     }
 }
 

@@ -354,9 +354,23 @@ function refuseEnded({ ended, name }, root) {
     }
 }
 
+/**
+ * The root digest that proofs are judged by, where one may be given besides; else it is empty.
+ * Throws StatementRefused where that is another one, or has ended.
+ */
+function rootOfStatement(statement, given) {
+    const { root, name } = statement;
+    if (given !== "" && given !== root) {
+        refuseEnded(statement, given);
+        const words = `its root is ${root}, and another one was given`;
+        throw new StatementRefused("OtherRoot", name, words);
+    }
+    return root;
+}
+
 if (typeof module === "object") {
-    const refusals = { BadStatement, StatementRefused, refuseEnded };
+    const refusals = { BadStatement, StatementRefused, refuseEnded, rootOfStatement };
     const comparing = { compareStatement, compareRecords, misfitOf };
     const said = { whereOf, isInDegrees, toldOfTime, crsMember, isCrs, STATEMENT_KEYS };
-    module.exports = { readStatement, ...said, ...comparing, ...refusals };
+    module.exports = { readStatement, MOST_STATEMENT, ...said, ...comparing, ...refusals };
 }

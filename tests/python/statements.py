@@ -567,11 +567,104 @@ def week_holds(bench: Bench) -> None:
         "the same root for longer: %s" % (found,))
 
 
+def features_hold(bench: Bench) -> None:
+    """mrtree_ask.py keeps the true shapes of an answer, by a statement or by their own name, and no others."""
+    given, window = os.path.join(EXAMPLES, "places.geojson"), "window:133300000,525000000,133500000,525100000"
+    made = ["text", given, "r", "--unit", "1e-7", "--layer", "0", "--digest", "--shapes-to", "r.shapes"]
+    bench.holds(bench.call(records, made)[0] == 0, "the shapes")
+    root = bench.program(["build2", "m", "r"])[1].decode().strip()
+    put("s", root=root, version="2", payload="digest", address="m", shapes="r.shapes")
+    put("none", root=root, version="2", payload="digest", address="m")
+    meant = b"".join(line + b"\n" for line in read("r.shapes").split(b"\n") if b"Tiergarten" in line)
+    write("bent", read("r.shapes").replace(b"13.345", b"13.346"))
+    write("cut", read("r.shapes"))
+    write("bent.index", read("r.shapes.index"))
+    write("cut.index", read("r.shapes.index")[:40])
+    shown = [root, window, "m"]
+    for words, status, says in (
+        (["--statement", "s", window], 0, "104 133320000 "),
+        ([*shown, "--shapes", "r.shapes"], 0, "104 133320000 "),
+        (["--statement", "none", window, "--shapes", "./r.shapes"], 0, "104 133320000 "),
+        ([root, "window:0,0,1,1", "m", "--shapes", "r.shapes"], 0, ""),
+        ([*shown, "--shapes", "bent"], 2, "refused shape 104 Digest"),
+        ([*shown, "--shapes", "cut"], 2, "refused index Short"),
+        ([*shown, "--shapes", "nosuch"], 7, "failed NoFile nosuch.index: missing"),
+        ([*shown, "--shapes", "ftp://a/b"], 7, "failed NoFile ftp://a/b: an address begins with"),
+        (["--statement", "none", window], 7, "failed NoFile none: the statement says no shapes"),
+        ([*shown, "--shapes", "r.shapes", "--requests", "1"], 7, "failed MostRequests r.shapes.index"),
+        (shown, 1, "bad words"), (["check-count", *shown, "--shapes", "r.shapes"], 1, "bad words"),
+    ):
+        write("out", b"old")
+        found = told_by([*words, "--features", "out"])
+        is_kept = read("out") == (b"old" if found[0] else meant if says else b"")
+        bench.holds(found[0] == status and says in found[1] and is_kept, "features by %s: %s" % (words, found))
+    found = bench.script("mrtree_ask.py", [*shown, "--shapes", "r.shapes", "--features", "-"])
+    bench.holds(found == (0, meant), "features that are printed: %s" % (found,))
+    with served() as url:
+        found = told_by([root, window, "m", "--shapes", url + "r.shapes", "--features", "out"])
+        bench.holds(found[0] == 7 and "NoRanges" in found[1], "shapes at an address: %s" % (found,))
+    inputs = ["m", "r.shapes", "r.shapes.index", "s", "publishers", "s.sig"]
+    put("r", root=root)
+    write("publishers", b"")
+    write("s.sig", b"")
+    for name in inputs:
+        for option in ("--features", "--proof"):
+            old = read(name)
+            more = ["--publishers", "publishers"] if name in ("publishers", "s.sig") else []
+            more += ["--shapes", "r.shapes", "--features", "out"] if option == "--proof" else []
+            found = told_by(["--statement", "s", *more, option, "./" + name, window])
+            bench.holds(found[0] in (1, 2, 7) and read(name) == old, "%s over %s: %s" % (option, name, found))
+
+
+def told_by(words: List[str]) -> Tuple[int, str]:
+    """Status of mrtree_ask.py and what it says, also of a fault."""
+    try:
+        status, text, told = asked(words)
+        return status, text + told
+    except statement.Ended as ended:
+        return ended.status, ended.line
+
+
+def node_holds(bench: Bench) -> None:
+    """The same statements in mrtree_ask.js: status and first line are those of mrtree_ask.py."""
+    if not shutil.which("node"):
+        bench.skip("statements in mrtree_ask.js: there is no node")
+        return
+    sample(bench)
+    put("ended", root=OTHER, ended=PLACES)
+    put("batch", batch="1")
+    put("kind", atlas="yes")
+    put("bent", batch="x")
+    put("here", address="places.map")
+    put("digest", payload="digest")
+    with served() as url:
+        for words in (
+            ["--statement", "s", WINDOW, "places.map"], ["--statement", "here", WINDOW], ["--statement", "here", ""],
+            ["--statement", "./here", "check", PLACES, WINDOW, "./places.map"], ["--statement", "s", WINDOW],
+            ["--statement", "ended", WINDOW, "places.map"], ["--statement", "ended", PLACES, WINDOW, "places.map"],
+            ["--statement", "s", OTHER, WINDOW, "places.map"], ["--statement", "batch", WINDOW, "places.map"],
+            ["--statement", "kind", WINDOW, "places.map"], ["--statement", "bent", WINDOW, "places.map"],
+            ["--statement", "digest", WINDOW, "places.map"], ["--statement", "places.map", WINDOW],
+            ["--statement", "nosuch", WINDOW], ["--statement", url + "s", WINDOW, "places.map"],
+            ["--statement", url + "here", WINDOW], ["--statement", url + "nosuch", WINDOW],
+            ["--statement", url + "bent", WINDOW], ["--statement", "s"], ["--statement2", "s", WINDOW, "places.map"],
+            ["--statement", "s", "--statement2", "s", WINDOW, "places.map"], ["--statement", "s", "check-join"],
+            ["--statement", "here", "--statement2", "here", "check-join"],
+            ["--statement", "s", WINDOW, "places.map", "--proof", "./s"],
+        ):
+            script = os.path.join(os.path.dirname(EXAMPLES), "clients", "web", "mrtree_ask.js")
+            ended = subprocess.run(["node", script, *words], stdout=subprocess.PIPE, stderr=subprocess.PIPE, text=True)
+            found = ended.returncode, ended.stdout or ended.stderr.replace("mrtree_ask.js: ", "")
+            status, told = told_by(words)
+            first = told.split("\n")[0]
+            bench.holds(found[0] == status and found[1].startswith(first), "%s: %s, in Node %s" % (words, told, found))
+
+
 def statements_hold(bench: Bench) -> None:
     """All of it, each in an empty folder."""
     for part in (table_holds, large_hold, tools_hold, atlases_hold, several_hold, words_hold, signatures_hold,
         written_hold,
-        index_holds, week_holds):
+        index_holds, week_holds, features_hold, node_holds):
         for name in os.listdir("."):
             (shutil.rmtree if os.path.isdir(name) else os.remove)(name)
         part(bench)
