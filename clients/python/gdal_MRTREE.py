@@ -2,8 +2,8 @@
 
 GDAL finds it where GDAL_PYTHON_DRIVER_PATH names this folder. Names of a dataset: MRTREE:STATEMENT, or
 MRTREE:ROOT,address=ADDRESS,unit=UNIT; behind them may stand more of these: address, unit, crs, payload, shapes, number,
-name, layers, publishers, each with its value. A spatial filter is asked as a window; what is refused is an error, and
-gives no feature. docs/GATEWAY.md has all of it. Tested, and not proved.
+name, layers, publishers, each with its value, and atlas=yes. A spatial filter is asked as a window; what is refused is
+an error, and gives no feature. docs/GATEWAY.md has all of it. Tested, and not proved.
 """
 # gdal: DRIVER_NAME = "MRTREE"
 # gdal: DRIVER_SUPPORTED_API_VERSION = [1]
@@ -32,7 +32,7 @@ from gdal_python_driver import BaseDataset, BaseDriver, BaseLayer  # noqa: E402
 
 PREFIX = "MRTREE:"
 # What may stand in the name of a dataset.
-OPTIONS = ("address", "unit", "crs", "payload", "shapes", "number", "name", "layers", "publishers")
+OPTIONS = ("address", "unit", "crs", "payload", "shapes", "number", "name", "layers", "publishers", "atlas")
 PER_PAGE = 1000  # features that are asked for at once
 SAMPLE = 100  # shapes by which the names and types of properties are told
 MOST_NUMBER = 2**63 - 1  # that fits a field of GDAL
@@ -53,12 +53,12 @@ def words_of(name: str) -> Tuple[List[str], Dict[str, str]]:
     """The words of the gateway that a dataset's name means, and what is said beside them. Raises Unfit."""
     first, *rest = re.split(",(?=(?:%s)=)" % "|".join(OPTIONS), name[len(PREFIX) :])
     given = dict(part.split("=", 1) for part in rest)
-    if len(given) < len(rest) or not first or "" in given.values():
-        raise Unfit("%s names no map, or an option twice, or one without a value" % name)
+    if len(given) < len(rest) or not first or "" in given.values() or given.get("atlas", "yes") != "yes":
+        raise Unfit("%s names no map, or an option twice, or one without its value" % name)
     words = [first] + ([given["address"]] if "address" in given else [])
     for option in ("unit", "crs", "payload", "shapes", "number", "name"):
         words += ["--%s=%s" % (option, given[option])] if option in given else []
-    return words, given
+    return words + ["--atlas"] * ("atlas" in given), given
 
 
 class Driver(BaseDriver):

@@ -5,15 +5,16 @@ usage: mrtree_gateway.py MAP.. [--port PORT] [--bind HOST] [--names NAMES] [--lo
        where each MAP is   STATEMENT [ADDRESS]   or   ROOT ADDRESS --unit UNIT   and options of it behind that
 
 It speaks OGC API - Features: each map is a collection. STATEMENT is the file or address of a map's statement. ADDRESS
-is that of a map file, by http:// or https://, or a file's name; or that of a host, which ends with a slash. Each answer
-is checked against the root digest, and a feature is told once it was proved. One that is refused is status 502, with
-rule and place, and no feature.
+is that of a map file, by http:// or https://, or a file's name; or that of a host, which ends with a slash. Of an
+atlas, a map of maps, it is that of the folder. Each answer is checked against the root digest, and a feature is told
+once it was proved. One that is refused is status 502, with rule and place, and no feature.
 
 --name NAME            what the collection is called, else by the statement's or map's file
 --unit UNIT            of a ROOT: a map unit in the unit of the coordinate system, as 1e-7 or 0.01
 --crs CRS              of a ROOT: the coordinate system, as EPSG:25833; else longitude and latitude in degrees
 --payload NAME         of a ROOT: the payload is text, and the property NAME has it
 --digest               of a ROOT: the payload is the digest of a shape
+--atlas                of a ROOT: it is that of an atlas, as a statement says by itself
 --shapes SHAPES        of a ROOT: the file or address of the shapes
 --places INDEX         the file or address of an index that tells where the record of a number or a key is
 --number NAME          the property that has the number of a record, else number
@@ -82,6 +83,7 @@ PORT = 8710
 NAMES = ("127.0.0.1", "localhost", "[::1]")  # by which it may be asked
 PATIENCE = 30  # seconds that a client may be silent, or not take what is sent
 AT_ONCE = 64  # connections
+SIGNS = ("--digest", "--atlas")  # options without a value
 LIMIT, MOST_LIMIT = 1000, 10000  # features of a page, where it is not said, and at most
 EVERY, MOST_EVERY = "all", 100000  # the limit by which all features are asked for at once, and how many these may be
 MANY = "more than %d features: the box has to be smaller, or a page asked for" % MOST_EVERY
@@ -254,7 +256,7 @@ class Service:
     def described(self, asked: Asked, one: Collection) -> Dict[str, Any]:
         """What is told of a collection."""
         path, state, plan = "/collections/" + one.name, one.map.state(), one.map.plan
-        words = "%d records at batch %d, root digest %s" % (state.count, state.batch, plan.root)
+        words = "%s, root digest %s" % (one.map.said(), plan.root)
         found: Dict[str, Any] = {"id": one.name, "title": one.title, "description": words, "itemType": "feature"}
         if plan.in_degrees and state.rect:
             box = [float(plan.grid.in_file(side)) for side in state.rect]
@@ -572,6 +574,7 @@ def parser_of_map() -> Parser:
     parser.add_argument("--number", default="number")
     parser.add_argument("--unit", type=records.unit_of)
     parser.add_argument("--digest", action="store_true")
+    parser.add_argument("--atlas", action="store_true")
     return parser
 
 
@@ -603,7 +606,7 @@ def groups_of(words: Sequence[str]) -> List[List[str]]:
             raise Unfit("in front of the options of a map stands its statement, or its root digest")
         groups[-1].append(word)
         is_root = starts and re.fullmatch("[0-9a-f]{64}", word) is not None
-        is_value = not is_value and word.startswith("--") and word != "--digest" and "=" not in word
+        is_value = not is_value and word.startswith("--") and word not in SIGNS and "=" not in word
     if not groups:
         raise Unfit("no map is named (%s --help)" % SCRIPT)
     return groups
@@ -611,7 +614,8 @@ def groups_of(words: Sequence[str]) -> List[List[str]]:
 
 def is_source(word: str, groups: List[List[str]]) -> bool:
     """Whether a word behind a statement is the address of its map, and not the next statement."""
-    return bool(groups) and not word.endswith(".statement") and mrtree_ask.is_map(word)
+    is_place = mrtree_ask.is_map(word) or mrtree_ask.is_atlas(word)
+    return bool(groups) and not word.endswith(".statement") and is_place
 
 
 def plan_of(words: Sequence[str], publishers: Optional[str]) -> Plan:
@@ -621,8 +625,9 @@ def plan_of(words: Sequence[str], publishers: Optional[str]) -> Plan:
         raise Unfit("%s is neither a statement nor an address behind one" % sources.clipped(given.words[2]))
     first, address = given.words[0], given.words[1] if len(given.words) > 1 else None
     if not re.fullmatch("[0-9a-f]{64}", first):
-        if given.unit or given.crs or given.payload or given.digest:
-            raise Unfit("a statement says itself what --unit, --crs, --payload and --digest say of a root digest")
+        if given.unit or given.crs or given.payload or given.digest or given.atlas:
+            words = "a statement says itself what --unit, --crs, --payload, --digest and --atlas say of a root digest"
+            raise Unfit(words)
         said = statement.chosen([first], publishers, lambda told: outputs.tell(SCRIPT, told))
         plan = plan_of_statement(said, address)
     elif address is None or given.unit is None:
@@ -641,8 +646,6 @@ def plan_of(words: Sequence[str], publishers: Optional[str]) -> Plan:
 
 def plan_of_statement(said: statement.Statement, address: Optional[str]) -> Plan:
     """What a statement says of its map; an address that is given stands before its own. Raises Unfit."""
-    if said.atlas:
-        raise Unfit("%s is of an atlas, and no single map" % said.name)
     if address is None and said.address is None:
         raise Unfit("%s has no address: one has to stand behind it" % said.name)
     where = said.where(said.address) if address is None else address
@@ -650,7 +653,8 @@ def plan_of_statement(said: statement.Statement, address: Optional[str]) -> Plan
     shapes = said.where(said.shapes) if said.shapes else None
     grid, degrees = Grid(said.unit), said.is_in_degrees()
     plan = Plan("", said.map, said.root, where, grid, said.crs, degrees, payload=said.payload)
-    return plan._replace(payload_name=payload_name, layers=said.layers, shapes=shapes, statement=said)
+    plan = plan._replace(payload_name=payload_name, layers=said.layers, shapes=shapes, statement=said)
+    return plan._replace(is_atlas=said.atlas)
 
 
 def plan_of_root(given: argparse.Namespace, root: str, address: str) -> Plan:
@@ -662,7 +666,8 @@ def plan_of_root(given: argparse.Namespace, root: str, address: str) -> Plan:
         raise Unfit("the payload is either what --payload names or, with --digest or --shapes, a digest")
     degrees = given.crs in (None, *statement.DEGREES)
     plan = Plan("", "map %s" % root[:8], root, address, given.unit, given.crs, degrees, payload=payload)
-    return plan._replace(payload_name=given.payload or "payload")
+    is_atlas = given.atlas or not is_address(address) and os.path.isdir(address)
+    return plan._replace(payload_name=given.payload or "payload", is_atlas=is_atlas)
 
 
 def name_of(word: str) -> str:
@@ -670,8 +675,10 @@ def name_of(word: str) -> str:
 
     >>> name_of("maps/parcels.statement"), name_of("https://example.org/%s.map" % ("0" * 64)), name_of("http://a/")
     ('parcels', '00000000', 'map')
+    >>> name_of("maps/atlas/")
+    'atlas'
     """
-    last = urlsplit(word).path if is_address(word) else word
+    last = (urlsplit(word).path if is_address(word) else word).rstrip("/")
     stem = re.sub("[^A-Za-z0-9_-]", "-", os.path.basename(last).split(".")[0])[:64]
     return stem[:8] if re.fullmatch("[0-9a-f]{64}", stem) else stem or "map"
 
@@ -688,7 +695,7 @@ def opened(plan: Plan) -> Published:
             ends = "%s goes from %s %s to %s %s" % (plan.name, *map(plan.grid.in_file, state.rect))
             raise Unfit(ends + ", and so is not in degrees: --crs or --unit says what it is in")
     crs = "longitude and latitude" if plan.in_degrees else plan.crs
-    outputs.tell(SCRIPT, "%s: %d records at batch %d, in %s" % (plan.name, state.count, state.batch, crs))
+    outputs.tell(SCRIPT, "%s: %s, in %s" % (plan.name, found.said(), crs))
     return found
 
 

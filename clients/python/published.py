@@ -1,4 +1,5 @@
 """A published map as GIS programs want it: boxes in the unit of its coordinate system, and features that were proved.
+An atlas, which is a map of maps, is asked alike.
 
 The gateway and GDAL's driver stand on it. Each answer is made of pages of the map's file, or comes from a host, and is
 checked against the root digest by mrtree_check; nothing else is handed out. A large window is cut into cells of some
@@ -12,34 +13,38 @@ import re
 import threading
 from collections import OrderedDict
 from decimal import ROUND_CEILING, ROUND_FLOOR, Decimal
-from typing import Any, Callable, Dict, List, NamedTuple, Optional, Sequence, Tuple, Union
+from functools import partial
+from typing import Any, Callable, Dict, List, NamedTuple, Optional, Sequence, Tuple, TypeVar, Union
 from urllib.parse import quote, urlsplit
 
 if __package__:
     from . import mrtree_check as client
     from . import records
-    from .mrtree_check import Answer, Record, Rect, Refused
+    from .mrtree_check import Answer, AtlasAnswer, Query, Record, Rect, Refused, Sheet
     from .outputs import Unfit
     from .pagewise import Child, FarMap
-    from .ranges import Failed, Limits, Meter, is_address, read_address, source_of
+    from .ranges import AT_ONCE, Failed, Limits, Meter, is_address, read_address, source_of
     from .sources import Grid
     from .shapes import Shapes, open_shapes, places_of
-    from .statement import Statement, compare, compare_records, judged, number_of_key, read_file
+    from .sheetwise import FarAtlas, told_of
+    from .statement import Statement, compare, compare_records, compare_verdict, judged, number_of_key, read_file
 else:
     import mrtree_check as client
     import records
-    from mrtree_check import Answer, Record, Rect, Refused
+    from mrtree_check import Answer, AtlasAnswer, Query, Record, Rect, Refused, Sheet
     from outputs import Unfit
     from pagewise import Child, FarMap
-    from ranges import Failed, Limits, Meter, is_address, read_address, source_of
+    from ranges import AT_ONCE, Failed, Limits, Meter, is_address, read_address, source_of
     from sources import Grid
     from shapes import Shapes, open_shapes, places_of
-    from statement import Statement, compare, compare_records, judged, number_of_key, read_file
+    from sheetwise import FarAtlas, told_of
+    from statement import Statement, compare, compare_records, compare_verdict, judged, number_of_key, read_file
 
 ALL: Rect = (-(2**31), -(2**31), 2**31 - 1, 2**31 - 1)  # the window in which every record lies
 CORNER: Rect = (-(2**31), -(2**31), -(2**31), -(2**31))  # and one that costs little, to hear what the map is
 PER_CELL = 1000  # records of a cell, about
 MOST_PARTS = 4096  # nodes by which cells are guessed
+MOST_CUT = 64  # sheets of an atlas that are counted for one window
 KEPT = 16  # answers, counts and rows of cells that are kept
 LAYER, LAYER_NAME = "layer", "layer_name"  # the properties that have the layer of a record of version 2
 PER_LEAF, PER_NODE = 16, 64  # the most records of a leaf, and the most nodes below one
@@ -48,6 +53,7 @@ LIMITS = Limits(bytes=2**28, requests=10000, seconds=60)  # of one query
 
 Box = Tuple[Decimal, Decimal, Decimal, Decimal]  # x0, y0, x1, y1 in the unit of the coordinate system
 Start = Tuple[int, int]  # a place in a long answer: a cell, and how many features of it were told
+T = TypeVar("T")
 
 
 class Plan(NamedTuple):
@@ -67,15 +73,20 @@ class Plan(NamedTuple):
     shapes: Optional[str] = None
     places: Optional[str] = None  # the index that has the places of numbers
     statement: Optional[Statement] = None
+    is_atlas: bool = False
 
 
 class State(NamedTuple):
-    """What an accepted proof says of the map: its version, batch and count of records, and the rectangle round them."""
+    """What an accepted proof says of the map: its version, batch and count of records, and the rectangle round them.
+
+    Of an atlas the version is 2 where all its sheets are of it, since then there are masks and counts; and all sheets.
+    """
 
     version: int
     batch: int
     count: int
     rect: Optional[Rect]
+    sheets: Sequence[Sheet] = ()
 
 
 class Window(NamedTuple):
@@ -170,6 +181,45 @@ class ByPages:
             return [(child.part.rect, size_of(child)) for child in row]
 
 
+class ByAtlas:
+    """The folder of an atlas, of whose index and sheets the pages are fetched that a query opens. One query at a time.
+
+    What it raises is what ByPages raises; and Refused where a record of the index tells of no sheet.
+    """
+
+    def __init__(self, root: str, address: str, limits: Limits) -> None:
+        self.root, self.address, self.limits = client.read_root(root), address, limits
+        self.atlas: Optional[FarAtlas] = None
+        self.lock = threading.Lock()
+
+    def opened(self) -> FarAtlas:
+        """The atlas, with what may be fetched for one query more."""
+        meter = Meter(self.limits)
+        if self.atlas is None:
+            self.atlas = FarAtlas(self.root, self.address, meter)
+        self.atlas.count_by(meter)
+        return self.atlas
+
+    def proof(self, word: str) -> bytes:
+        """The proof of a window."""
+        with self.lock:
+            return self.opened().proof(client.read_query(word))
+
+    def count_proof(self, word: str) -> bytes:
+        """The proof of a count."""
+        with self.lock:
+            return self.opened().count_proof(client.read_window(word))
+
+    def count_proof_of(self, sheet: Sheet, query: Query) -> bytes:
+        """The proof of a count in one of the sheets, by the sheet's own root digest."""
+        with self.lock:
+            return self.opened().part(sheet, query, FarMap.count_proof, AT_ONCE)
+
+    def parts(self, rect: Rect) -> Parts:
+        """Nothing: where its sheets lie, and how many records they have, the index says."""
+        return []
+
+
 def size_of(child: Child) -> int:
     """About how many records are below an entry: in version 1 the most that there can be."""
     return child.part.count or min(client.MOST_RECORDS, PER_LEAF * PER_NODE**child.level)
@@ -212,13 +262,15 @@ def is_host(address: str) -> bool:
     return is_address(address) and (urlsplit(address).path or "/").endswith("/")
 
 
-def source_at(root: str, address: str, limits: Limits) -> Union[ByPages, ByHost]:
-    """Where the proofs of a map come from. Raises Unfit where an address is none."""
+def source_at(root: str, address: str, limits: Limits, is_atlas: bool = False) -> Union[ByPages, ByHost, ByAtlas]:
+    """Where the proofs of a map or an atlas come from. Raises Unfit where an address is none."""
     try:
         if is_address(address):
             read_address(address)
     except ValueError as fault:
         raise Unfit("%s: %s" % (address, fault)) from None
+    if is_atlas:
+        return ByAtlas(root, address, limits)
     if is_host(address):
         return ByHost(root, address, limits)
     return ByPages(root, address, limits)
@@ -329,7 +381,8 @@ class Published:
     """
 
     def __init__(self, plan: Plan, limits: Limits = LIMITS) -> None:
-        self.plan, self.limits, self.source = plan, limits, source_at(plan.root, plan.address, limits)
+        self.plan, self.limits = plan, limits
+        self.source = source_at(plan.root, plan.address, limits, plan.is_atlas)
         self.states, self.rows, self.answers, self.counts, self.places = Kept(), Kept(), Kept(), Kept(), Kept(100000)
         self.shapes: Optional[Shapes] = None
         self.shapes_lock = threading.Lock()
@@ -338,24 +391,54 @@ class Published:
         """What the map is, by a proof of next to nothing."""
         return self.states.get("state", self.asked_state)
 
+    def said(self) -> str:
+        """What is told of the map, once it is known what it is."""
+        state = self.state()
+        words = "%d records%s at batch %d"
+        sheets = " in %d sheets of an atlas" % len(state.sheets) if self.plan.is_atlas else ""
+        return words % (state.count, sheets, state.batch)
+
     def asked_state(self) -> State:
         """The same, asked anew."""
+        if self.plan.is_atlas:
+            return self.state_of_atlas()
         rects: List[Rect] = []
         answer = self.checked(CORNER, None, lambda tag, level, rect, shown: rects.append(rect))
         if self.plan.statement:
             compare(self.plan.statement, answer.version, answer.batch, answer.count)
         return State(answer.version, answer.batch, answer.count, rects[-1] if rects else None)
 
-    def checked(self, rect: Rect, mask: Optional[int], watch: Optional[client.Watch] = None) -> Answer:
-        """The checked answer to the query for a window."""
-        word = word_of(rect, mask)
-        with judged(self.plan.statement):
-            answer = client.check(self.plan.root, word, self.source.proof(word), watch)
-        if self.plan.statement:
-            compare_records(self.plan.statement, answer.records)
-        return answer
+    def state_of_atlas(self) -> State:
+        """What an atlas is, by a count of everything: its proof has the index alone, and that says all sheets."""
+        said, word = self.plan.statement, word_of(ALL, None)
+        found = self.judged(client.check_atlas_count, word, self.source.count_proof)
+        versions = {sheet.version for sheet in found.sheets} or {said.version if said else 1}
+        if said:
+            compare_verdict(said, found)
+            compare(said, min(versions), found.batch, found.inside)
+        sides = list(zip(*(sheet.rect for sheet in found.sheets)))
+        rect = (min(sides[0]), min(sides[1]), max(sides[2]), max(sides[3])) if sides else None
+        return State(min(versions), found.batch, found.inside, rect, found.sheets)
 
-    def answer(self, rect: Rect, mask: Optional[int]) -> Answer:
+    def judged(self, judge: Callable[[str, str, bytes], T], word: str, prove: Callable[[str], bytes]) -> T:
+        """What comes of the proof for a query word."""
+        with judged(self.plan.statement):
+            return judge(self.plan.root, word, prove(word))
+
+    def checked(
+        self, rect: Rect, mask: Optional[int], watch: Optional[client.Watch] = None
+    ) -> Union[Answer, AtlasAnswer]:
+        """The checked answer to the query for a window. Of an atlas nothing is watched."""
+        said, word = self.plan.statement, word_of(rect, mask)
+        if self.plan.is_atlas:
+            found: Union[Answer, AtlasAnswer] = self.judged(client.check_atlas, word, self.source.proof)
+        else:
+            found = self.judged(lambda *words: client.check(*words, watch), word, self.source.proof)
+        if said:
+            compare_records(said, found.records)
+        return found
+
+    def answer(self, rect: Rect, mask: Optional[int]) -> Union[Answer, AtlasAnswer]:
         """The same, or one that is kept."""
         return self.answers.get((rect, mask), lambda: self.checked(rect, mask))
 
@@ -363,9 +446,7 @@ class Published:
         """How many records lie inside a window, by a checked count; the map is of version 2. A window may be empty."""
         if rect[0] > rect[2] or rect[1] > rect[3]:
             return 0
-        word = word_of(rect, mask)
-        with judged(self.plan.statement):
-            return client.check_count(self.plan.root, word, self.source.count_proof(word)).inside
+        return self.judged(client.check_count, word_of(rect, mask), self.source.count_proof).inside
 
     # -- parts of an answer
 
@@ -374,7 +455,7 @@ class Published:
         state = self.state()
         if state.rect is None:
             return [rect]
-        even: Parts = [(state.rect, state.count)]
+        even: Parts = [(sheet.rect, sheet.count) for sheet in state.sheets] or [(state.rect, state.count)]
         return self.rows.get(rect, lambda: cells_of(rect, self.source.parts(rect) or even, state.count))
 
     def windows(self, box: Optional[Box]) -> List[Window]:
@@ -417,20 +498,38 @@ class Published:
             return state.count
         if len(windows) > 1 or state.version == 1:
             return None
-        return self.counts.get((window.inner, mask), lambda: self.counted(window.inner, mask))
+        inner, count = window.inner, self.counted_in_sheets if self.plan.is_atlas else self.counted
+        return self.counts.get((inner, mask), lambda: count(inner, mask))
 
     def counted(self, inner: Rect, mask: Optional[int]) -> int:
-        """How many records meet a window, by counts: all, less those on each side of it, and back those at each corner.
+        """How many records of a map meet a window."""
+        return counted_by(inner, lambda rect: self.inside(rect, mask))
 
-        What lies wholly to the left of the window lies inside the half of the plane there, and so on.
+    def counted_in_sheets(self, inner: Rect, mask: Optional[int]) -> Optional[int]:
+        """How many records of an atlas meet a window; None where it goes through too many sheets.
+
+        Of a sheet that lies in the window the index says how many it has; any other one is counted as a map of its own.
         """
-        x0, y0, x1, y1 = inner
-        left, low, right, high = ALL
-        columns, rows = [(left, x0 - 1), (x1 + 1, right)], [(low, y0 - 1), (y1 + 1, high)]
-        total = self.inside(ALL, mask)
-        total -= sum(self.inside((a, low, b, high), mask) for a, b in columns)
-        total -= sum(self.inside((left, a, right, b), mask) for a, b in rows)
-        return total + sum(self.inside((a, c, b, d), mask) for a, b in columns for c, d in rows)
+        layers, total, cut = client.ALL_LAYERS if mask is None else mask, 0, []
+        for sheet in self.state().sheets:
+            if holds(inner, sheet.rect) and not sheet.mask & ~layers:
+                total += sheet.count
+            elif client.meet(inner, sheet.rect) and sheet.mask & layers:
+                cut.append(sheet)
+        if len(cut) > MOST_CUT:
+            return None
+        return total + sum(counted_by(inner, partial(self.inside_sheet, sheet, mask)) for sheet in cut)
+
+    def inside_sheet(self, sheet: Sheet, mask: Optional[int], rect: Rect) -> int:
+        """How many records of a sheet lie inside a window, by a count that was checked. A window may be empty."""
+        if not client.meet(rect, sheet.rect):
+            return 0
+        if mask is None and holds(rect, sheet.rect):
+            return sheet.count
+        query = Query(rect, 0, mask)
+        with told_of("sheet %d" % sheet.number):
+            proof = self.source.count_proof_of(sheet, query)
+            return client.judge_count(sheet.root, query, [proof]).inside
 
     # -- features
 
@@ -489,6 +588,20 @@ class Published:
                 if one.number == number:
                     return one
         return None
+
+
+def counted_by(inner: Rect, inside: Callable[[Rect], int]) -> int:
+    """How many records meet a window, by counts: all, less those on each side of it, and back those at each corner.
+
+    What lies wholly to the left of the window lies inside the half of the plane there, and so on.
+    """
+    x0, y0, x1, y1 = inner
+    left, low, right, high = ALL
+    columns, rows = [(left, x0 - 1), (x1 + 1, right)], [(low, y0 - 1), (y1 + 1, high)]
+    total = inside(ALL)
+    total -= sum(inside((a, low, b, high)) for a, b in columns)
+    total -= sum(inside((left, a, right, b)) for a, b in rows)
+    return total + sum(inside((a, c, b, d)) for a, b in columns for c, d in rows)
 
 
 def is_of(rect: Rect, cell: Rect, window: Window) -> bool:

@@ -67,6 +67,12 @@ class FarAtlas:
         """The map with this root digest. Raises as FarMap."""
         return FarMap(root, source_of(self.place + "sheets/" + root.hex(), self.meter, self.free, at_once))
 
+    def count_by(self, meter: Meter) -> None:
+        """What is fetched from now on counts on this meter. No query is asked meanwhile."""
+        self.meter = meter
+        for far in (self.index, *self.kept.values()):
+            far.source.meter = meter
+
     def proof(self, query: Query) -> bytes:
         """The honest proof of the answer to a query."""
         half = self.half_side(query) if query.k else 0

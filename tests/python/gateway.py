@@ -22,6 +22,7 @@ import mrtree_check
 import mrtree_gateway
 import published
 import records
+import servers
 import sources
 
 STATEMENT = """map: %s
@@ -527,23 +528,32 @@ def pages_hold(bench: Bench) -> None:
     """Answers that are put together of small cells and pages are those of a scan, each record once; counts too."""
     chance, unit = random.Random(67), Decimal("0.1")
     for version in (1, 2):
-        lines, made = [], []
-        for number in range(1, 1500):
-            x, y = (round(chance.gauss(0, 500)) for _ in range(2)) if number % 3 else (chance.choice((-1800, 1790)), 7)
-            wide, high = (chance.choice((0, 0, 3, 10, 400)) for _ in range(2))
-            sides, layer = (x, y, min(x + wide, 1800), y + high), chance.choice((0, 3, 9))
-            made.append(mrtree_check.Record(number, sides, b"", layer))
-            lines.append(made[-1].line(version) + "\n")
-        write("m.txt", "".join(lines).encode())
+        made = made_at_random(chance, version, 1500, "m.txt")
         root = root_of(bench, "build2" if version == 2 else "build", "m")
         plan = published.Plan("m", "m", root, "m.map", sources.Grid(unit), None, True)
         kept, published.PER_CELL = published.PER_CELL, 40
         map_ = published.Published(plan)
         for number in range(400 if bench.is_long else 30):
             box = None if number == 0 else box_of(chance)
-            mask = chance.choice((None, None, 1, 0b1001, 1 << 9, 1 << 5)) if version == 2 else None
-            answer_holds(bench, chance, map_, made, box, mask)
+            answer_holds(bench, chance, map_, made, box, mask_of(chance) if version == 2 else None)
         published.PER_CELL = kept
+
+
+def made_at_random(chance: random.Random, version: int, count: int, name: str) -> List[mrtree_check.Record]:
+    """Records with numbers below a count, in a record text: points, boxes, and some beside the antimeridian."""
+    made = []
+    for number in range(1, count):
+        x, y = (round(chance.gauss(0, 500)) for _ in range(2)) if number % 3 else (chance.choice((-1800, 1790)), 7)
+        wide, high = (chance.choice((0, 0, 3, 10, 400)) for _ in range(2))
+        sides, layer = (x, y, min(x + wide, 1800), y + high), chance.choice((0, 3, 9))
+        made.append(mrtree_check.Record(number, sides, b"", layer))
+    write(name, "".join(one.line(version) + "\n" for one in made).encode())
+    return made
+
+
+def mask_of(chance: random.Random) -> Optional[int]:
+    """Layers that are asked for."""
+    return chance.choice((None, None, 1, 0b1001, 1 << 9, 1 << 5))
 
 
 def box_of(chance: random.Random) -> Tuple[Decimal, ...]:
@@ -583,6 +593,151 @@ def answer_holds(
     counts = {page.matched, map_.matched(windows, mask)} - {None}
     bench.holds(counts <= {len(meant)}, "%s: counts %s, and %d" % (where, counts, len(meant)))
     bench.holds(bool(counts) or map_.state().version == 1 or len(windows) > 1, "%s: no count" % where)
+
+
+# ---- atlases
+
+
+def atlas_of(bench: Bench, *words: str) -> str:
+    """What a command of mrtree_atlas.py prints."""
+    status, said = bench.script("mrtree_atlas.py", list(words), env={**os.environ, "MRTREE": bench.program_path})
+    bench.holds(status == 0, "mrtree_atlas.py %s: status %d" % (words, status))
+    return said.decode().strip()
+
+
+def atlases_hold(bench: Bench) -> None:
+    """Atlases are collections like maps: beside a scan, by GDAL, on a server, and what is refused."""
+    chance, kept = random.Random(68), published.PER_CELL
+    for version in (1, 2):
+        made, name = made_at_random(chance, version, 700, "r.txt"), "atlas%d" % version
+        atlas_of(bench, "split", "r.txt", name, "--sheet", "60")
+        root, published.PER_CELL = atlas_of(bench, "build", name), 40
+        plan = published.Plan("a", "a", root, name, sources.Grid(Decimal("0.1")), None, True, is_atlas=True)
+        map_ = published.Published(plan)
+        for number in range(400 if bench.is_long else 30):
+            box = None if number == 0 else box_of(chance)
+            answer_holds(bench, chance, map_, made, box, mask_of(chance) if version == 2 else None)
+        published.PER_CELL = kept
+        lines = "numbers: ours\npayload: none\natlas: yes\naddress: %s/" % name
+        degrees = "EPSG:4326", "longitude latitude"
+        write(name + ".statement", (STATEMENT % ("a land", root, version, 699, "0.04", *degrees, lines)).encode())
+    atlas_served(bench, root, made)
+    atlas_refused(bench, root)
+    atlas_words(bench, root)
+    atlas_bound(bench)
+
+
+def atlas_served(bench: Bench, root: str, made: List[mrtree_check.Record]) -> None:
+    """The collection of an atlas, over a file server too, and through GDAL; masks, counts and links to the next."""
+    with servers.Server(b"", lambda asked: servers.honest(asked._replace(file=read(asked.path)))) as files:
+        words = [root, files.address + "atlas2/", "--unit", "0.04", "--atlas", "--name", "far"]
+        with gateway([["atlas2.statement"], ["atlas1.statement"], words]) as server:
+            port, box = server.server_port, "-30,-30,30,30"
+            for name in ("atlas2", "far"):
+                told = json.loads(asked(port, "GET", "/collections/" + name)[2])
+                is_so = told["description"].startswith("699 records in 12 sheets of an atlas at batch 0, root digest ")
+                bench.holds(is_so, "the collection %s: %s" % (name, told))
+                found, path = [], "/collections/%s/items?limit=100&layers=0,3&bbox=%s" % (name, box)
+                while path:
+                    value = json.loads(asked(port, "GET", path)[2])
+                    found += [one["id"] for one in value["features"]]
+                    path = next((one["href"] for one in value["links"] if one["rel"] == "next"), "")
+                    path = path[path.find("/collections") :] if path else ""
+                meant = [one.number for one in made if one.layer in (0, 3) and is_in(one.rect, 750)]
+                is_so = sorted(found) == meant and value["numberMatched"] == len(meant)
+                bench.holds(is_so, "%s: %d records, and %d" % (name, len(found), len(meant)))
+            status, _, body = asked(port, "GET", "/collections/atlas1/items?layers=0")
+            bench.holds(status == 400 and b"of version 1" in body, "layers of an atlas of version 1: %s" % body)
+            if shutil.which("ogr2ogr"):
+                atlas_by_gdal(bench, ["OAPIF:http://127.0.0.1:%d" % port, "far"], made)
+    if shutil.which("ogr2ogr"):
+        atlas_by_gdal(bench, ["MRTREE:%s,address=atlas2,unit=0.04,atlas=yes" % root], made)
+
+
+def is_in(rect: Tuple[int, ...], side: int) -> bool:
+    """Whether a rectangle meets the square of so many map units on each side of the origin."""
+    return rect[0] <= side and -side <= rect[2] and rect[1] <= side and -side <= rect[3]
+
+
+def atlas_by_gdal(bench: Bench, source: List[str], made: List[mrtree_check.Record]) -> None:
+    """What GDAL reads of an atlas."""
+    call = ["ogr2ogr", "-f", "GeoJSON", "/vsistdout/", *source, "-spat", "-30", "-30", "30", "30"]
+    status, text = gdal(call)
+    found = sorted(map(int, re.findall(r'"number": (\d+)', text)))
+    meant = [one.number for one in made if is_in(one.rect, 750)]
+    bench.holds(status == 0 and found == meant, "%s: %d records, and %d" % (source, len(found), len(meant)))
+    bench.holds("Feature Count: 699\n" in gdal(["ogrinfo", "-so", "-al", *source])[1], "%s: the count" % source)
+
+
+def atlas_refused(bench: Bench, root: str) -> None:
+    """A bent sheet and one that is not there: an error with the sheet, and no feature; beside it all goes on."""
+    sheets = published.Published(mrtree_gateway.plan_of(["atlas2.statement"], None)).state().sheets
+    first, last = (sheets[at].root.hex() for at in (0, -1))
+    shutil.copytree("atlas2", "bent")
+    pages = read("bent/sheets/" + first)
+    rest = [pages[at : at + 4096] for at in range(4096, len(pages), 4096)]
+    write("bent/sheets/" + first, pages[:4096] + b"".join(bent(one) if one[:1] == b"L" else one for one in rest))
+    os.remove("bent/sheets/" + last)
+    with gateway([[root, "bent", "--unit", "0.04"]]) as server:
+        for sheet, code, words in (
+            (sheets[0], "MapRefused", "refused sheet %d map page " % sheets[0].number),
+            (sheets[-1], "SourceFailed", "failed NoFile bent/sheets/%s: missing" % last),
+        ):
+            box = ",".join(sources.Grid(Decimal("0.04")).in_file(side) for side in sheet.rect)
+            status, _, body = asked(server.server_port, "GET", "/collections/bent/items?bbox=" + box)
+            value = json.loads(body)
+            is_so = status == 502 and value["code"] == code and value["description"].startswith(words)
+            bench.holds(is_so and "features" not in value, "a sheet that is not as it was: %s" % body)
+            if shutil.which("ogr2ogr") and code == "MapRefused":
+                sides = box.split(",")
+                source = ["MRTREE:%s,address=bent,unit=0.04" % root, "-spat", *sides]
+                status, text = gdal(["ogr2ogr", "-f", "GeoJSON", "out.geojson", *source])
+                bench.holds(status != 0 and words in text, "by the driver: %d %s" % (status, text))
+                bench.holds(read("out.geojson").count(b'"Feature"') < 60, "by the driver, features")
+
+
+def atlas_words(bench: Bench, root: str) -> None:
+    """An atlas is told by its statement or an option, never by the bytes that come; statements are held beside it."""
+    write("plain.txt", ("7" + METRES.replace("\n2 ", "\n72 ")).encode())
+    plain = root_of(bench, "build", "plain")
+    text = read("atlas2.statement")
+    write("many.statement", text.replace(b"records: 699", b"records: 698"))
+    write("old.statement", text.replace(b"version: 2", b"version: 1"))
+    write("map.statement", text.replace(b"atlas: yes\n", b"").replace(b"atlas2/", b"atlas2/index.map"))
+    os.makedirs("near/sheets")
+    shutil.copy("plain.map", "near/sheets/" + plain)
+    write("file.statement", text.replace(b"atlas2/", b"atlas2/index.map"))
+    for words, status, part in (
+        (["many.statement"], 2, b"refused OtherCount many.statement"),
+        (["old.statement"], 2, b"refused OtherVersion old.statement"),
+        (["map.statement"], 2, b"refused OtherVersion map.statement"),
+        (["file.statement"], 7, b"failed NoFile atlas2/index.map/sheets/%s" % root.encode()),
+        (["atlas2.statement", "--atlas"], 1, b"a statement says itself"),
+        (["0" * 64, "atlas2", "--unit", "0.04"], 7, b"failed NoFile atlas2/sheets/%s: missing" % (b"0" * 64)),
+        ([plain, "near", "--unit", "0.04"], 2, b"refused entry 71 Form"),
+    ):
+        said = bench.call(mrtree_gateway, words)
+        bench.holds(said[0] == status and part in said[1], "%s: %s" % (words, said))
+
+
+def atlas_bound(bench: Bench) -> None:
+    """An atlas with sheets of both versions has no layers, and one without records no features."""
+    write("town.txt", TOWN.encode())
+    root_of(bench, "build2", "town")
+    both = atlas_of(bench, "bind", "both", "town.map", "plain.map")
+    write("none.txt", b"")
+    atlas_of(bench, "split", "none.txt", "none")
+    none = atlas_of(bench, "build", "none")
+    groups = [[both, "both", "--unit", "1e-7"], [none, "none", "--unit", "1"]]
+    with gateway(groups) as server:
+        for name, count in (("both", 7), ("none", 0)):
+            status, _, body = asked(server.server_port, "GET", "/collections/%s/items" % name)
+            value = json.loads(body)
+            is_so = status == 200 and len(value["features"]) == value["numberMatched"] == count
+            is_so = is_so and not any("layer" in one["properties"] for one in value["features"])
+            bench.holds(is_so, "the atlas %s: %s" % (name, body))
+        status, _, body = asked(server.server_port, "GET", "/collections/both/items?layers=0")
+        bench.holds(status == 400 and b"of version 1" in body, "layers of sheets of both versions: %s" % body)
 
 
 # ---- shapes
@@ -770,7 +925,7 @@ def picture_holds(bench: Bench, found: List[Tuple[int, ...]]) -> None:
 
 def gateway_holds(bench: Bench) -> None:
     """All of it, each part in a folder of its own."""
-    parts = [table_holds, pages_hold, hostile_requests, shapes_hold]
+    parts = [table_holds, pages_hold, atlases_hold, hostile_requests, shapes_hold]
     if shutil.which("ogr2ogr"):
         parts += [windows_hold, refusals_hold, driver_holds, pipe_holds]
     else:
