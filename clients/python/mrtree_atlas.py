@@ -34,12 +34,13 @@ if __name__ == "__main__":
     signal.signal(signal.SIGINT, signal.SIG_DFL)
 
 import argparse
+import contextlib
 import os
 from typing import Any, Callable, Dict, List, NoReturn, Optional
 
 if __package__:
     from . import atlas_audit, atlas_bind, atlas_build, atlas_numbers, atlas_prove, atlas_sort, atlas_update
-    from . import atlas_texts, outputs, records, sources
+    from . import atlas_texts, outputs, records, shapes, sources
     from . import mrtree_check as client
     from .atlas_sheets import PART, Failed, Folder, Mapper, front_of, take_away, workers
     from .outputs import Unfit
@@ -55,6 +56,7 @@ else:
     import mrtree_check as client
     import outputs
     import records
+    import shapes
     import sources
     from atlas_sheets import PART, Failed, Folder, Mapper, front_of, take_away, workers
     from outputs import Unfit
@@ -62,7 +64,7 @@ else:
 SCRIPT = "mrtree_atlas.py"
 SHEET = 2**14  # records of a sheet, unless --sheet says otherwise
 MOST_JOBS = 64
-READS = records.READS.replace("shapes-to places-to ", "")  # the options by which `split` reads a file
+READS = records.READS.replace("places-to ", "")  # the options by which `split` reads a file
 
 
 # ---- split
@@ -88,7 +90,8 @@ def cut_file(given: argparse.Namespace, room: str, doing: Mapper) -> str:
     """Cuts what is in a file into the texts of sheets; answers what is told of it. Raises Unfit and OSError."""
     form, told = given.form or ("text" if given.RECORDS == "-" else sources.form_of(given.RECORDS)), ""
     if form != "text":
-        names, counts = atlas_texts.texts_of(given.RECORDS, form, records.options_of(given), room, doing)
+        options, has_shapes = records.options_of(given), bool(given.shapes_to)
+        names, counts = atlas_texts.texts_of(given.RECORDS, form, options, room, doing, has_shapes)
         told += "; left out, since without geometry: %d" % counts.skipped if counts.skipped else ""
         told += "; cut at the antimeridian: %d, %s .." % (counts.cut, ", ".join(counts.some)) if counts.cut else ""
     else:
@@ -104,7 +107,17 @@ def cut_file(given: argparse.Namespace, room: str, doing: Mapper) -> str:
     for name in names:
         if name != given.RECORDS:
             take_away(name)
+    if given.shapes_to:
+        put_shapes(given, counts.runs, room)
     return "%d records in %d sheets" % sizes + told
+
+
+def put_shapes(given: argparse.Namespace, runs: List[str], room: str) -> None:
+    """Writes the shapes of the records, and the index to them. Raises Unfit and OSError."""
+    with contextlib.ExitStack() as stack:
+        names = given.shapes_to, shapes.index_name(given.shapes_to)
+        files = [stack.enter_context(outputs.written(name, [given.RECORDS])) for name in names]
+        atlas_texts.write_shapes(runs, room, *files)
 
 
 # ---- build, update, replay
@@ -302,6 +315,8 @@ def refuse_clash(given: argparse.Namespace) -> None:
         raise Unfit("the payload is either what --payload names or, with --digest, a digest")
     records.refuse_other_reads(given)
     form = given.form or ("text" if given.RECORDS == "-" else sources.form_of(given.RECORDS))
+    if form == "text" and given.shapes_to:
+        raise Unfit("a record text has no shapes, which --shapes-to would write")
     if form != "text" and given.unit is None:
         raise Unfit("--unit has to be given: how large a map unit is in the file's unit")
 

@@ -330,6 +330,34 @@ def is_from_files(bench: Bench) -> None:
     bench.holds(made(bench, ["build", "a"]) == roots[1], "the standard input gives another atlas")
 
 
+def shapes_come_beside(bench: Bench) -> None:
+    """The shapes that `split` writes, in parts and by several processes, are those of `records.py text`, and so is
+    their index. Of a split that is refused there are none."""
+    clear()
+    write("r.geojsonl", "".join(parcels.parcel(number).feature() for number in range(1, 1301)).encode())
+    write("none.geojsonl", b"")
+    options, kept = ["--unit", "1e-7", "--digest", "--shapes-to"], (atlas_texts.LEAST, atlas_texts.HELD)
+    for name, least, held, jobs in (
+        ("r.geojsonl", *kept, "1"),
+        ("r.geojsonl", 5000, 9000, "1"),
+        ("r.geojsonl", 900, 1, "2"),
+        ("none.geojsonl", *kept, "1"),
+    ):
+        atlas_texts.LEAST, atlas_texts.HELD = least, held
+        shutil.rmtree("a", ignore_errors=True)
+        made(bench, ["split", name, "a", "--sheet", "70", "--jobs", jobs, *options, "s"])
+        bench.script("records.py", ["text", name, "r.txt", *options, "t"])
+        is_so = read("s") == read("t") and read("s.index") == read("t.index") != b""
+        bench.holds(is_so, "the shapes of %s, in parts of %d bytes" % (name, least))
+        bench.holds(sorted(os.listdir("a")) == ["lock", "split"], "the shapes leave %s" % os.listdir("a"))
+        bench.holds(all(one.endswith(".txt") for one in os.listdir("a/split")), "the shapes leave files in `split`")
+    atlas_texts.LEAST, atlas_texts.HELD = kept
+    write("bad.geojsonl", read("r.geojsonl") + b"{}\n")
+    before = read("s"), read("s.index")
+    status, _ = quick(["split", "bad.geojsonl", "b", *options, "s", "--jobs", "1"])
+    bench.holds(status == 1 and (read("s"), read("s.index")) == before, "a refused split changed shapes: %s" % said())
+
+
 # ---- what is said
 
 TEXT = b"1 0 0 5 5 -\n2 9 9 9 9 61\n3 -7 0 -7 4 -\n"
@@ -368,6 +396,11 @@ CASES = [
     Case([], {"r.csv": b"number,x,y\n1,2,z\n"}, "split r.csv a --unit 1", 1, 'r.csv: line 2: "z" is no number'),
     Case([], {"r.geojsonl": b'{"type":"Feature","id":1,"geometry":{"type":"Point","coordinates":[1,2]}}\n{}\n'}, "split r.geojsonl a --unit 1", 1, "r.geojsonl: line 2: it is no feature"),
     Case([], {"r.geojson": b'{"type":"FeatureCollection","features":[{}]}'}, "split r.geojson a --unit 1", 1, "r.geojson: feature 1: it is no feature"),
+    Case([], {"r": TEXT}, "split r a --digest --shapes-to s", 1, "a record text has no shapes, which --shapes-to would write"),
+    Case([], {"r.geojsonl": b""}, "split r.geojsonl a --unit 1 --shapes-to s", 1, "--shapes-to writes the features of a map that has their digests: --digest"),
+    Case([], {"r.geojsonl": b""}, "split r.geojsonl a --unit 1 --digest --shapes-to -", 1, "--shapes-to names a file of its own"),
+    Case([], {"r.geojsonl": b""}, "split r.geojsonl a --unit 1 --digest --shapes-to r.geojsonl", 1, "r.geojsonl is to be written, and it is read too: give the output another name"),
+    Case([], {"r.geojsonl": b""}, "split r.geojsonl a --unit 1 --digest --shapes-to none/s", 7, "none/s: No such file or directory"),
     Case([], {"r.geojson": b"[]"}, "split r.geojson a --unit 1", 1, "r.geojson: it is no object of JSON, so neither a feature nor a collection of features"),
     Case([], {"r": TEXT}, "split r a --form x", 1, '--form is geojson, geojsonseq, csv or text, and not "x"'),
     Case(["split r a"], {"r": TEXT}, "split r a", 1, "a: there is a split already, which `build` makes an atlas of; take it away, or name another folder"),
@@ -646,5 +679,5 @@ def numbers_hold(bench: Bench) -> None:
 def atlases_hold(bench: Bench) -> None:
     """All of these; the program is the one that is tested."""
     os.environ["MRTREE"] = bench.program_path
-    for part in (places_hold, numbers_hold, is_cut_right, is_from_files, is_said, is_damaged, bound_holds, beside_scan):
+    for part in (places_hold, numbers_hold, is_cut_right, is_from_files, shapes_come_beside, is_said, is_damaged, bound_holds, beside_scan):
         part(bench)
