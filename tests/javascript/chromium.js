@@ -189,7 +189,9 @@ class Browser {
         const ended = new Promise((done) => this.process.on("exit", done));
         delete this.session;
         this.call("Browser.close").catch(() => {});
-        await Promise.race([ended, pause(5000)]);
+        let timer = null;
+        await Promise.race([ended, new Promise((done) => (timer = setTimeout(done, 5000)))]);
+        clearTimeout(timer);
         this.process.kill("SIGKILL");
     }
 }
