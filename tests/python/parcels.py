@@ -11,6 +11,8 @@ from typing import IO, Callable, Iterable, List, NamedTuple, Tuple
 TOWNS = 2000
 WEST, SOUTH, EAST, NORTH = 58_000_000, 472_000_000, 150_000_000, 550_000_000
 DEGREE = 10**7
+FEATURE = '{"type":"Feature","id":%d,"properties":{"use":"%s"},"geometry":{"type":"Polygon","coordinates":[['
+FEATURE += ",".join(["[%s,%s]"] * 9) + "]]}}\n"  # with eight corners, and the first one again
 
 
 class Parcel(NamedTuple):
@@ -27,14 +29,15 @@ class Parcel(NamedTuple):
 
     def feature(self) -> str:
         """It as a feature: a shape of eight corners in its rectangle, which touches all sides."""
+        corners = [in_degrees(side) for point in self.ring() for side in point]
+        return FEATURE % (self.number, "abcde"[self.drawn % 5], *corners)
+
+    def ring(self) -> List[Tuple[int, int]]:
+        """The corners of its shape, and the first one again."""
         x0, y0, x1, y1 = self.rect
         a, b = 1 + self.drawn % 97, 1 + self.drawn % 89
         ring = [(x0, y0 + b), (x0 + a, y0), (x1 - b, y0), (x1, y0 + a), (x1, y1 - b), (x1 - a, y1), (x0 + b, y1)]
-        ring += [(x0, y1 - a), ring[0]]
-        corners = ",".join("[%s,%s]" % (in_degrees(x), in_degrees(y)) for x, y in ring)
-        words = '{"type":"Feature","id":%d,"properties":{"use":"%s"},'
-        words += '"geometry":{"type":"Polygon","coordinates":[[%s]]}}\n'
-        return words % (self.number, "abcde"[self.drawn % 5], corners)
+        return [*ring, (x0, y1 - a), ring[0]]
 
 
 def in_degrees(units: int) -> str:
