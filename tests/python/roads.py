@@ -1,15 +1,16 @@
-"""From features to readers and back, by an atlas: parcels with shapes are split, built, put on nginx and asked, by Python
-and Node, by `ogr2ogr` through the gateway, and by the pages. They are updated and asked again. What readers are told is
-what a look at all parcels gives.
+"""From features to readers and back, by an atlas: parcels with shapes are split, built, put on nginx and asked.
+
+Python, Node, `ogr2ogr` through the gateway, and the pages in Chromium ask. Then the parcels are updated and asked
+again. What readers are told is what a look at all parcels gives.
 
 In the gate there are 30,000 parcels. At full size, in an empty folder: roads.py PROGRAM COUNT.
 """
 import contextlib
+import hashlib
 import heapq
 import itertools
 import json
 import os
-import hashlib
 import resource
 import shutil
 import subprocess
@@ -17,7 +18,7 @@ import sys
 import tempfile
 import time
 from decimal import Decimal
-from typing import Any, Dict, FrozenSet, Iterable, Iterator, List, NamedTuple, Tuple
+from typing import ContextManager, Dict, FrozenSet, Iterable, List, NamedTuple, Tuple
 
 from bench import TOP, CLIENTS, Bench, write
 import atlas_sheets
@@ -40,21 +41,22 @@ UNIT = "1e-7"
 
 
 class Stage:
-    """Tells how long each stage took, by the clock and of the processor."""
+    """Tells how long each stage took, by the clock and of the processor, and how large the largest process was yet."""
 
     def __init__(self, is_told: bool) -> None:
-        self.is_told, self.clock, self.cpu = is_told, time.monotonic(), self.taken()
+        self.is_told, self.clock, self.cpu = is_told, time.monotonic(), self.taken()[0]
 
-    def taken(self) -> float:
-        """Seconds of the processor, of this process and those that it has started."""
-        return sum(sum(resource.getrusage(who)[:2]) for who in (resource.RUSAGE_SELF, resource.RUSAGE_CHILDREN))
+    def taken(self) -> Tuple[float, int]:
+        """Seconds of the processor and KB of the largest process, of this one and those that it has started."""
+        both = [resource.getrusage(who) for who in (resource.RUSAGE_SELF, resource.RUSAGE_CHILDREN)]
+        return sum(one.ru_utime + one.ru_stime for one in both), max(one.ru_maxrss for one in both)
 
     def end(self, name: str) -> None:
         """A stage has ended."""
-        clock, cpu = time.monotonic(), self.taken()
+        clock, (cpu, most) = time.monotonic(), self.taken()
         if self.is_told:
-            told = name, clock - self.clock, cpu - self.cpu
-            print("roads: %-40s clock %7.1f s, processor %6.1f s" % told, flush=True)
+            told = name, clock - self.clock, cpu - self.cpu, most // 1024
+            print("roads: %-40s clock %7.1f s, processor %7.1f s, largest yet %4d MB" % told, flush=True)
         self.clock, self.cpu = clock, cpu
 
 
@@ -138,8 +140,8 @@ def look(task: Look) -> List[Found]:
     for parcel in task.new or map(parcels.parcel, range(task.start, task.end)):
         x0, y0, x1, y1 = parcel.rect
         states = [1] if task.new else [0] if parcel.number in task.gone else [0, 1]
-        near = [one for one, left, low, right, high in windows if x0 <= right and left <= x1 and y0 <= high and low <= y1]
-        for one in near + points:
+        met = [one for one, x, y, right, high in windows if x0 <= right and x <= x1 and y0 <= high and y <= y1]
+        for one in met + points:
             far = mrtree_check.distance(one.query.rect, parcel.rect) if one.query.k else 0
             for state in states:
                 one.offer((-far, -parcel.number, parcel), state)
@@ -392,11 +394,17 @@ def all_ask(readers: Readers, root: str, state: int, what: str, stage: Stage) ->
 # ---- the whole way
 
 
-def split(bench: Bench, features: str, folder: str, count: int, state: int) -> None:
-    """Splits a file of features; their shapes are put on the server."""
-    sheet = "2000" if count == IN_GATE else "16384"
+def split(bench: Bench, folder: str, count: int, state: int) -> None:
+    """Splits the features of a state, and takes their file away; their shapes are put on the server."""
+    sheet, features = "2000" if count == IN_GATE else "16384", "%d.geojsonl" % state
     words = [features, folder, "--unit", UNIT, "--digest", "--sheet", sheet]
     atlas(bench, "split", *words, "--shapes-to", "files/%d.shapes" % state)
+    os.remove(features)
+
+
+def workers(count: int) -> ContextManager[atlas_sheets.Mapper]:
+    """What writes and looks at so many parcels: in the gate this process, else one for each processor."""
+    return atlas_sheets.workers(1 if count == IN_GATE else os.cpu_count() or 1)
 
 
 def all_the_way(bench: Bench, count: int, is_told: bool = False) -> None:
@@ -406,17 +414,17 @@ def all_the_way(bench: Bench, count: int, is_told: bool = False) -> None:
     queries = [*questions.asked, *questions.windows, *map(around, questions.views)]
     os.mkdir("files")
     os.mkdir("t")
-    with atlas_sheets.workers(1 if count == IN_GATE else os.cpu_count() or 1) as doing:
-        write_features("0.geojsonl", count, doing, Update([], frozenset(), []))
-        stage.end("%d parcels, %d bytes" % (count, os.path.getsize("0.geojsonl")))
-        write_features("1.geojsonl", count, doing, update)
-        stage.end("the parcels of the next state")
+    for state, changes in enumerate((Update([], frozenset(), []), update)):
+        with workers(count) as doing:
+            write_features("%d.geojsonl" % state, count, doing, changes)
+        stage.end("%d parcels, %d bytes" % (count, os.path.getsize("%d.geojsonl" % state)))
+    with workers(count) as doing:
         found = looked_at(count, update, queries, doing)
-        stage.end("a look at all parcels, %d queries" % len(queries))
-    for kind in questions:
+    stage.end("a look at all parcels, %d queries" % len(queries))
+    for kind in (questions.asked, questions.windows, list(map(around, questions.views))):
         changed = [query for query in kind if found[query].answer(0) != found[query].answer(1)]
         bench.holds(len(changed) > 1, "the update changes no answers that are asked for")
-    split(bench, "0.geojsonl", "atlas", count, 0)
+    split(bench, "atlas", count, 0)
     stage.end("split, with shapes")
     root = atlas(bench, "build", "atlas")
     stage.end("build")
@@ -428,7 +436,8 @@ def all_the_way(bench: Bench, count: int, is_told: bool = False) -> None:
         next_ = atlas(bench, "update", "atlas", "b")
         stage.end("update, %d changes" % (len(update.lines) - 1))
         asked(readers, root, 0, "before the update is put up", 3)
-        split(bench, "1.geojsonl", "other", count, 1)
+        split(bench, "other", count, 1)
+        shutil.rmtree("other")
         stage.end("the shapes of the next state")
         put_up("atlas", "files/atlas")
         asked(readers, root, 0, "the old root on the new atlas", 3)
