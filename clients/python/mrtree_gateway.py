@@ -458,8 +458,12 @@ class Handler(BaseHTTPRequestHandler):
         """Answers a request."""
         try:
             hosts = self.headers.get_all("host", [])
-            if self.headers.get("content-length", "0") != "0" or "transfer-encoding" in self.headers:
+            is_bent = bool(self.headers.defects or self.headers.get_payload())
+            sizes = self.headers.get_all("content-length", ["0"])
+            if sizes != ["0"] or "transfer-encoding" in self.headers or is_bent:
                 self.close_connection = True  # what follows is no request
+            if is_bent or len(sizes) > 1:
+                raise Fault(400, "BadRequest", "a field of the head is none, or there is more than one Content-Length")
             if not hosts and self.request_version != "HTTP/1.1":
                 hosts = ["%s:%d" % self.server.server_address[:2]]
             asked = asked_of(self.path, hosts[0] if len(hosts) == 1 else "", self.server.names)
@@ -613,8 +617,9 @@ def groups_of(words: Sequence[str]) -> List[List[str]]:
 
 
 def is_source(word: str, groups: List[List[str]]) -> bool:
-    """Whether a word behind a statement is the address of its map, and not the next statement."""
-    is_place = mrtree_ask.is_map(word) or mrtree_ask.is_atlas(word)
+    """Whether a word behind a statement is the address of its map, or a file that is missing, and no next statement."""
+    is_missing = not os.path.lexists(word) and not re.fullmatch("[0-9a-f]{64}", word)
+    is_place = mrtree_ask.is_map(word) or mrtree_ask.is_atlas(word) or is_missing
     return bool(groups) and not word.endswith(".statement") and is_place
 
 
