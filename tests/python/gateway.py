@@ -851,6 +851,20 @@ def driver_holds(bench: Bench) -> None:
     bench.holds(all(one in text for one in wanted) and text.count("OGRFeature") == 2, "layer 3: %s" % text[:600])
 
 
+def numbers_hold(bench: Bench) -> None:
+    """Under GDAL each feature's id is the record's number, also where the property does not fit the type of the first."""
+    numbers = [*range(1, 13), 2**31 + 5, 2**53 - 1, 2**53 + 1]
+    write("n.txt", "".join("%d %d 0 %d 0 -\n" % (number, at, at) for at, number in enumerate(numbers)).encode())
+    root = root_of(bench, "build", "n")
+    with gateway([[root, "n.map", "--unit", "1"]]) as server:
+        text = gdal(["ogrinfo", "-al", "-q", "OAPIF:http://127.0.0.1:%d" % server.server_port])[1]
+    found = sorted(map(int, re.findall(r"^OGRFeature\(n\):([0-9]+)$", text, re.MULTILINE)))
+    bench.holds(found == numbers, "the ids under GDAL: %s" % text[-600:])
+    text = gdal(["ogrinfo", "-al", "-q", "MRTREE:%s,address=n.map,unit=1" % root])[1]
+    found = sorted(map(int, re.findall(r"number \(Integer64\) = ([0-9]+)$", text, re.MULTILINE)))
+    bench.holds(found == numbers, "the numbers by the driver: %s" % text[-600:])
+
+
 def pipe_holds(bench: Bench) -> None:
     """An answer goes by a pipe from records.py to ogr2ogr."""
     make_maps(bench)
@@ -953,7 +967,7 @@ def gateway_holds(bench: Bench) -> None:
     """All of it, each part in a folder of its own."""
     parts = [table_holds, pages_hold, atlases_hold, hostile_requests, shapes_hold]
     if shutil.which("ogr2ogr"):
-        parts += [windows_hold, refusals_hold, driver_holds, pipe_holds]
+        parts += [windows_hold, refusals_hold, driver_holds, numbers_hold, pipe_holds]
     else:
         bench.skip("the gateway under GDAL, and its driver: there is no ogr2ogr")
     parts.append(qgis_holds)
