@@ -13,11 +13,11 @@ from typing import Iterator, List, Tuple
 
 if __package__:
     from . import mrtree_check as client
-    from .atlas_sheets import Folder, entries_in, front_of, run
+    from .atlas_sheets import Failed, Folder, entries_in, front_of, run
     from .mrtree_check import EVERYTHING, OPEN, Query, Rect, Sheet
 else:
     import mrtree_check as client
-    from atlas_sheets import Folder, entries_in, front_of, run
+    from atlas_sheets import Failed, Folder, entries_in, front_of, run
     from mrtree_check import EVERYTHING, OPEN, Query, Rect, Sheet
 
 MOST_NEAREST = 1024  # that one query asks for
@@ -32,7 +32,7 @@ class Prover:
         self.index = folder.sheet(self.root.hex())
 
     def proof(self, query: Query, counts: bool) -> Iterator[bytes]:
-        """The proof of a query, or of a count, in pieces. Raises Ended, Refused and OSError."""
+        """The proof of a query, or of a count, in pieces. Raises Ended, Refused, Unfit and OSError."""
         kind = client.COUNTS if counts else client.kind_of(query)
         half = self.half(query) if query.k else 0
         window = Query(client.square(query.rect, half) if query.k else query.rect, 0, query.mask)
@@ -52,8 +52,11 @@ class Prover:
             return file.read()
 
     def map_of(self, sheet: Sheet) -> str:
-        """The file of a sheet."""
-        return self.folder.sheet(sheet.root.hex())
+        """The file of a sheet. Raises Failed where another map stands there, Unfit and OSError."""
+        name = self.folder.sheet(sheet.root.hex())
+        if client.digest(front_of(name)) != sheet.root:
+            raise Failed(2, "sheet %d: its file %s has another map" % (sheet.number, name))
+        return name
 
     def half(self, query: Query) -> int:
         """The least half side by which enough records are near enough, or EVERYTHING where there are too few.

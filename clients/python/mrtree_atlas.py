@@ -203,6 +203,8 @@ def prove_command(given: argparse.Namespace, counts: bool = False) -> None:
         query = client.read_window(given.QUERY) if counts else client.read_query(given.QUERY)
     except ValueError as fault:
         raise Unfit(str(fault)) from None
+    if os.path.realpath(os.path.dirname(given.PROOF)) == os.path.realpath(folder.sheets):
+        raise Unfit("%s is to be written among the sheets of an atlas: give it another name" % given.PROOF)
     size = 0
     with atlas_prove.prover(folder) as prover, outputs.written(given.PROOF, [folder.index]) as file:
         for piece in prover.proof(query, counts):
