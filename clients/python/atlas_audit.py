@@ -9,13 +9,13 @@ if __package__:
     from . import atlas_numbers
     from .atlas_build import Listed, list_numbers
     from .atlas_sheets import PART, Folder, Mapper, batch_of, entries_in, front_of, run
-    from .mrtree_check import Ended, Record, Refused, Sheet, digest, read_sheet
+    from .mrtree_check import PREIMAGE, Ended, Record, Refused, Sheet, digest, read_sheet
     from .outputs import Unfit
 else:
     import atlas_numbers
     from atlas_build import Listed, list_numbers
     from atlas_sheets import PART, Folder, Mapper, batch_of, entries_in, front_of, run
-    from mrtree_check import Ended, Record, Refused, Sheet, digest, read_sheet
+    from mrtree_check import PREIMAGE, Ended, Record, Refused, Sheet, digest, read_sheet
     from outputs import Unfit
 
 CORNER = "window:2147483647,2147483647,2147483647,2147483647"
@@ -103,9 +103,10 @@ def repeated(entries: List[Record]) -> List[str]:
     """The sheets whose map is that of an earlier one."""
     seen, found = set(), []
     for record in entries:
-        if record.payload[:75] in seen:
+        front = record.payload[: PREIMAGE.get(record.payload[1], 0)] if record.payload[1:] else b""
+        if front and front in seen:
             found.append("sheet %d: its map is a sheet already" % record.number)
-        seen.add(record.payload[:75])
+        seen.add(front)
     return found
 
 

@@ -16,7 +16,7 @@ if __package__:
     from .atlas_build import Listed, Made, list_numbers, make_index
     from .atlas_numbers import Held
     from .atlas_sheets import MOST_NAME, PART, Folder, Mapper, batch_of, count_of, entries_in, front_of
-    from .atlas_sheets import put_sheet, run, switch, sync, take_away
+    from .atlas_sheets import put_sheet, refuse_other_index, run, switch, sync, take_away
     from .atlas_update import finish, write_index_batch
     from .mrtree_check import digest, read_sheet
     from .outputs import Unfit
@@ -25,7 +25,7 @@ else:
     from atlas_build import Listed, Made, list_numbers, make_index
     from atlas_numbers import Held
     from atlas_sheets import MOST_NAME, PART, Folder, Mapper, batch_of, count_of, entries_in, front_of
-    from atlas_sheets import put_sheet, run, switch, sync, take_away
+    from atlas_sheets import put_sheet, refuse_other_index, run, switch, sync, take_away
     from atlas_update import finish, write_index_batch
     from mrtree_check import digest, read_sheet
     from outputs import Unfit
@@ -115,6 +115,7 @@ def numbers_differ(name: bytes, front: bytes, made: List[Made]) -> bool:
 
 def bound(folder: Folder) -> Tuple[Dict[bytes, Tuple[int, bytes]], int]:
     """The sheets by their names, each with its number and root preimage; and the next number. Raises Unfit."""
+    refuse_other_index(folder)
     held = {}
     for record in entries_in(folder.index):
         sheet = read_sheet(record)

@@ -213,13 +213,20 @@ def entries_in(index: str) -> List[Record]:
 
 
 def record_of(line: str) -> Record:
-    """The record of a line that the program printed, of version 1.
+    """The record of a line of either version that the program printed.
 
-    >>> record_of("7 1 2 3 4 6162")
-    Record(number=7, rect=(1, 2, 3, 4), payload=b'ab', layer=0)
+    >>> record_of("7 1 2 3 4 6162"), record_of("7 1 2 3 4 5 -").layer
+    (Record(number=7, rect=(1, 2, 3, 4), payload=b'ab', layer=0), 5)
     """
-    number, x0, y0, x1, y1, payload = line.split(" ")
-    return Record(int(number), (int(x0), int(y0), int(x1), int(y1)), bytes.fromhex(payload.strip("-")))
+    number, x0, y0, x1, y1, *layer, payload = line.split(" ")
+    rect = int(x0), int(y0), int(x1), int(y1)
+    return Record(int(number), rect, bytes.fromhex(payload.strip("-")), int(layer[0]) if layer else 0)
+
+
+def refuse_other_index(folder: Folder) -> None:
+    """Raises Unfit where the index is of version 2: what changes atlases here writes batches of version 1 for it."""
+    if front_of(folder.index)[1] != 1:
+        raise Unfit("%s: its index is of version 2, which is read here and not changed" % folder.name)
 
 
 def put_sheet(folder: Folder, part: str, root: str) -> bytes:

@@ -19,7 +19,8 @@ if __package__:
     from .atlas_build import Made, Task, make_sheet
     from .atlas_numbers import NOWHERE, Held, Numbers
     from .atlas_sheets import PART, Folder, Mapper, batch_of, entries_in, entry_line, front_of
-    from .atlas_sheets import list_to, put_sheet, record_of, run, switch, sync, take_away, write_whole
+    from .atlas_sheets import list_to, put_sheet, record_of, refuse_other_index, run, switch, sync, take_away
+    from .atlas_sheets import write_whole
     from .mrtree_check import Rect, Sheet, digest, distance, read_sheet
     from .outputs import Unfit
 else:
@@ -29,7 +30,8 @@ else:
     from atlas_build import Made, Task, make_sheet
     from atlas_numbers import NOWHERE, Held, Numbers
     from atlas_sheets import PART, Folder, Mapper, batch_of, entries_in, entry_line, front_of
-    from atlas_sheets import list_to, put_sheet, record_of, run, switch, sync, take_away, write_whole
+    from atlas_sheets import list_to, put_sheet, record_of, refuse_other_index, run, switch, sync, take_away
+    from atlas_sheets import write_whole
     from mrtree_check import Rect, Sheet, digest, distance, read_sheet
     from outputs import Unfit
 
@@ -172,6 +174,7 @@ class State(NamedTuple):
 
 def state_of(folder: Folder, version: int) -> State:
     """The state of an atlas; the version is that of one without sheets. Raises Refused, Unfit, Ended and OSError."""
+    refuse_other_index(folder)
     front = front_of(folder.index)
     root = digest(front).hex()
     sheets = [read_sheet(record) for record in entries_in(folder.index)]
@@ -409,6 +412,7 @@ def replay_sheet(one: Copied) -> None:
 
 def replay(folder: Folder, package: str, doing: Mapper) -> None:
     """Makes the next state of a mirror by a publisher's update. Raises Refused, Unfit, Ended and OSError."""
+    refuse_other_index(folder)
     name = os.path.join(package, "index.batch")
     number, batch = head_of(name)[0], batch_of(front_of(folder.index))
     if number == batch:

@@ -433,6 +433,7 @@ CASES = [
     Case(BUILT, {"r": TEXT}, "count a nearest:0,0,1 p", 1, "a count is of the records inside a window, and this query is for nearest records"),
     Case(BUILT, {"r": TEXT}, "prove a window:0,0,9,9 p", 0, "proof 299"),
     Case(BUILT, {"r": TEXT}, "prove a window:0,0,9,9 a/index.map", 1, "a/index.map is to be written, and it is read too: give the output another name"),
+    Case(BUILT, {"r": TEXT}, "prove a window:0,0,9,9 a/sheets/p", 1, "a/sheets/p is to be written among the sheets of an atlas: give it another name"),
     Case(BUILT, {"r": TEXT}, "prove a window:0,0,9,9/0000000000000001 p", 10, "mrtree prove a/sheets/SHEET: needs version 2"),
     Case(BUILT, {"r": TEXT}, "count a window:0,0,3,3 p", 10, "mrtree count a/sheets/SHEET: needs version 2"),
     Case(BUILT, {"r": TEXT2}, "count a window:0,0,3,3 p", 0, "proof 217"),
@@ -505,6 +506,11 @@ def is_damaged(bench: Bench) -> None:
         status, printed = quick(["audit", "c", "--deep", "--jobs", "1"])
         bench.holds(status == 2 and told in printed and printed.startswith("bad sheet "), "%s: %s" % (told, printed))
         bench.holds(said() == SAYS + "1 faults\n", "an audit says %s" % said())
+        if told == "its file has another map":
+            for query in ("window:-9,-9,9,9", "nearest:0,0,3"):
+                status, _ = quick(["prove", "c", query, "p"])
+                is_so = status == 2 and said().endswith(" has another map\n") and not os.path.exists("p")
+                bench.holds(is_so, "a proof of %s: %s" % (query, said()))
     package = "a/updates/1"
     for name in sorted(os.listdir(package)):
         if name.endswith((".txt", ".batch")) and name != "index.batch":
@@ -540,6 +546,47 @@ def damages(name: str):
     yield name, flips, "bad map page 1 "
     yield name, other, "its file has another map"
     yield name, lambda path: write(path, b"MRMP"), "is no map"
+
+
+def index_of(bench: Bench, command: str, lines: List[str]) -> str:
+    """Puts an index of these record lines in the place of that of the atlas; answers its root digest."""
+    write("r", "".join(line + "\n" for line in lines).encode())
+    status, root = bench.program([command, "a/index.map", "r"])
+    bench.holds(status == 0, "%s of an index" % command)
+    shutil.copy("a/index.map", "a/sheets/" + root.decode().strip())
+    return root.decode().strip()
+
+
+def is_made_by_others(bench: Bench) -> None:
+    """Atlases that another program made by FORMATS: an index of version 2 is read and not changed; a map that is a
+    sheet twice, under two names, is told by each audit."""
+    clear()
+    write("r", TEXT)
+    made(bench, ["split", "r", "a", "--sheet", "2", "--jobs", "1"])
+    made(bench, ["build", "a", "--jobs", "1"])
+    lines = bench.program(["list", "a/index.map"])[1].decode().splitlines()
+    index_of(bench, "build", lines + ["7" + lines[0][1:] + "6161"])
+    status, printed = quick(["audit", "a", "--jobs", "1"])
+    bench.holds(status == 2 and printed == "bad sheet 7: its map is a sheet already\n", "a sheet twice: %s" % printed)
+    root = index_of(bench, "build2", [line.replace(" 52", " 5 52") for line in lines])
+    for words, told in (
+        (["info", "a"], "root %s\nbatch 0\nversion 1\nrecords 3\nsheets 2\n" % root),
+        (["audit", "a", "--deep", "--jobs", "1"], "records 3 sheets 2\n"),
+        (["build", "a", "--jobs", "1"], root + "\n"),
+        (["prove", "a", "nearest:0,0,2", "p"], "proof "),
+    ):
+        status, printed = quick(words)
+        bench.holds(status == 0 and printed.startswith(told), "an index of version 2: %s: %s" % (words, said() or printed))
+    found = mrtree_check.check_atlas(root, "nearest:0,0,2", read("p")).lines()
+    bench.holds(found == ["1 0 0 5 5 -", "3 -7 0 -7 4 -"], "an index of version 2: %s" % found)
+    write("b", b"batch 1\n- 2\n")
+    os.makedirs("u")
+    write("u/index.batch", b"batch 1\n")
+    before = tree("a")
+    for words in (["update", "a", "b"], ["replay", "a", "u"], ["bind", "a", "a/index.map"]):
+        status, _ = quick([*words, "--jobs", "1"])
+        is_so = status == 1 and said() == SAYS + "a: its index is of version 2, which is read here and not changed\n"
+        bench.holds(is_so and tree("a") == before, "an index of version 2: %s: %s" % (words, said()))
 
 
 def numbers_again(bench: Bench, root: str) -> None:
@@ -679,5 +726,7 @@ def numbers_hold(bench: Bench) -> None:
 def atlases_hold(bench: Bench) -> None:
     """All of these; the program is the one that is tested."""
     os.environ["MRTREE"] = bench.program_path
-    for part in (places_hold, numbers_hold, is_cut_right, is_from_files, shapes_come_beside, is_said, is_damaged, bound_holds, beside_scan):
+    parts = [places_hold, numbers_hold, is_cut_right, is_from_files, shapes_come_beside, is_said, is_damaged]
+    parts += [is_made_by_others, bound_holds, beside_scan]
+    for part in parts:
         part(bench)
