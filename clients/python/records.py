@@ -507,7 +507,7 @@ def batch_command(given: argparse.Namespace) -> None:
     if number == 0:
         raise Unfit("no map takes batch 0: a map that was just built is at batch 0, and takes batch 1")
     is_text = (given.form or sources.form_of(given.OLD)) == "text"
-    old = sources.read_state(given.OLD, given.form, options._replace(layer=None) if is_text else options)
+    old = sources.read_state(given.OLD, given.form, options._replace(layer=None, is_digest=False) if is_text else options)
     with shelf_of(given) as shelf:
         new = sources.read_state(given.NEW, given.form, options._replace(keep=shelf and shelf.keep))
         for state in (old, new):

@@ -572,6 +572,11 @@ def features_hold(bench: Bench) -> None:
     given, window = os.path.join(EXAMPLES, "places.geojson"), "window:133300000,525000000,133500000,525100000"
     made = ["text", given, "r", "--unit", "1e-7", "--layer", "0", "--digest", "--shapes-to", "r.shapes"]
     bench.holds(bench.call(records, made)[0] == 0, "the shapes")
+    write("later.geojson", read(given).replace(b"Fernsehturm", b"Alexanderplatz"))
+    later = ["--unit", "1e-7", "--layer", "0", "--digest", "--shapes-to", "b.shapes"]
+    found = bench.call(records, ["batch", "1", "r", "later.geojson", "b", *later])
+    is_so = found[0] == 0 and [line[:5] for line in read("b").split(b"\n")[1:]] == [b"- 103", b"+ 103", b""]
+    bench.holds(is_so, "a batch of digests from a record text: %s" % (found,))
     root = bench.program(["build2", "m", "r"])[1].decode().strip()
     put("s", root=root, version="2", payload="digest", address="m", shapes="r.shapes")
     put("none", root=root, version="2", payload="digest", address="m")
