@@ -559,7 +559,7 @@ def pages_hold(bench: Bench) -> None:
         plan = published.Plan("m", "m", root, "m.map", sources.Grid(unit), None, True)
         kept, published.PER_CELL = published.PER_CELL, 40
         map_ = published.Published(plan)
-        for number in range(400 if bench.is_long else 30):
+        for number in range(400 if bench.is_long else 20):
             box = None if number == 0 else box_of(chance)
             answer_holds(bench, chance, map_, made, box, mask_of(chance) if version == 2 else None)
         published.PER_CELL = kept
@@ -636,11 +636,11 @@ def atlases_hold(bench: Bench) -> None:
     chance, kept = random.Random(68), published.PER_CELL
     for version in (1, 2):
         made, name = made_at_random(chance, version, 700, "r.txt"), "atlas%d" % version
-        atlas_of(bench, "split", "r.txt", name, "--sheet", "60")
+        atlas_of(bench, "split", "r.txt", name, "--sheet", "60" if version == 2 else "200")
         root, published.PER_CELL = atlas_of(bench, "build", name), 40
         plan = published.Plan("a", "a", root, name, sources.Grid(Decimal("0.1")), None, True, is_atlas=True)
         map_ = published.Published(plan)
-        for number in range(400 if bench.is_long else 30):
+        for number in range(400 if bench.is_long else 15):
             box = None if number == 0 else box_of(chance)
             answer_holds(bench, chance, map_, made, box, mask_of(chance) if version == 2 else None)
         published.PER_CELL = kept
