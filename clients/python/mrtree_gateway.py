@@ -51,6 +51,7 @@ from decimal import Decimal
 from http.server import BaseHTTPRequestHandler, ThreadingHTTPServer
 from typing import Any, Callable, Dict, List, NamedTuple, NoReturn, Optional, Sequence, Tuple, Union
 from urllib.parse import parse_qsl, unquote, urlencode, urlsplit
+from xml.sax.saxutils import quoteattr
 
 if __package__:
     from . import mrtree_ask, outputs, published, records, sources, statement
@@ -95,6 +96,17 @@ PARTS = {"core": 1, "geojson": 1, "oas30": 1, "crs": 2}  # the conformance class
 CONFORMS = ["http://www.opengis.net/spec/ogcapi-features-%d/1.0/conf/%s" % (part, one) for one, part in PARTS.items()]
 JSON, GEOJSON = "application/json", "application/geo+json"
 OPENAPI = "application/vnd.oai.openapi+json;version=3.0"
+XML = "application/xml"
+SCHEMA = """<?xml version="1.0" encoding="UTF-8"?>
+<xs:schema xmlns:xs="http://www.w3.org/2001/XMLSchema" xmlns:gml="http://www.opengis.net/gml/3.2" xmlns:m="urn:map"
+ targetNamespace="urn:map" elementFormDefault="qualified">
+<xs:import namespace="http://www.opengis.net/gml/3.2" schemaLocation="http://schemas.opengis.net/gml/3.2.1/gml.xsd"/>
+<xs:element name="feature" type="m:featureType" substitutionGroup="gml:AbstractFeature"/>
+<xs:complexType name="featureType"><xs:complexContent><xs:extension base="gml:AbstractFeatureType"><xs:sequence>
+<xs:element name=%s type="%s" minOccurs="0"/>
+</xs:sequence></xs:extension></xs:complexContent></xs:complexType>
+</xs:schema>
+"""
 ITEMS = ("bbox", "bbox-crs", "crs", "datetime", "limit", "layers", "start", "f")  # the parameters of items
 TIME = r"\d{4}-\d\d-\d\d([Tt]\d\d:\d\d:\d\d(\.\d{1,9})?([Zz]|[+-]\d\d:\d\d))?"
 LATER = ": it came behind features that were proved, and they are not all"
@@ -238,6 +250,8 @@ class Service:
                 return self.told(asked, self.described(asked, one))
             if parts[2] == "items":
                 return self.items(asked, one) if len(parts) == 3 else self.item(asked, one, parts[3])
+            if parts[2:] == ["schema"]:
+                return self.schema(asked, one)
         raise Fault(404, "NotFound", "there is nothing at %s" % sources.clipped(asked.path))
 
     def told(self, asked: Asked, value: Any) -> Answer:
@@ -263,7 +277,22 @@ class Service:
             found["extent"] = {"spatial": {"bbox": [box], "crs": CRS84}}
         found.update({"crs": [one.crs()], "storageCrs": one.crs()})
         found["links"] = [asked.link("self", path), asked.link("items", path + "/items", GEOJSON)]
+        found["links"].append(asked.link("describedBy", path + "/schema", XML))
         return found
+
+    def schema(self, asked: Asked, one: Collection) -> Answer:
+        """The type of a record's number, in XML: by the first features alone GDAL would take it for one of 32 bits.
+
+        It is a text where the number of a key or of one of the first features is told as one.
+        """
+        asked.only("f")
+        plan = one.map.plan
+        try:
+            first = one.map.page(one.map.windows(None), one.mask(None), (0, 0), LIMIT, True).records
+        except (Refused, Ended, Unfit) as cause:
+            raise fault_of(cause, False) from None
+        is_text = bool(plan.statement and plan.statement.keys) or any(one.number > records.MOST_EXACT for one in first)
+        return XML, SCHEMA % (quoteattr(plan.number), "xs:string" if is_text else "xs:long"), None
 
     def api(self, asked: Asked) -> Dict[str, Any]:
         """The description of the server, by OpenAPI 3.0."""
@@ -273,6 +302,7 @@ class Service:
         for one in self.collections.values():
             path = "/collections/" + one.name
             paths[path] = operation("describe-" + one.name, [], JSON)
+            paths[path + "/schema"] = operation("schema-" + one.name, [], XML)
             paths[path + "/items"] = operation("items-" + one.name, list(PARAMETERS), GEOJSON)
             number = {"name": "id", "in": "path", "required": True, "schema": {"type": "string"}}
             paths[path + "/items/{id}"] = operation("item-" + one.name, ["crs"], GEOJSON, [number])

@@ -766,6 +766,38 @@ def atlas_bound(bench: Bench) -> None:
         bench.holds(status == 400 and b"of version 1" in body, "layers of sheets of both versions: %s" % body)
 
 
+# ---- numbers
+
+LARGE = (2147483647, 2147483648, 10**12, 2**53, 2**53 + 1, 2**63 - 1)
+LARGEST = (5, 2**60, 2**63, 2**64 - 1)
+
+
+def types_hold(bench: Bench) -> None:
+    """Numbers of more than 32 bits come through GDAL as they are, also where the first ones are small."""
+    numbers = [*range(1, 3001), *LARGE]
+    write("m.txt", "".join("%d %d 0 %d 5 -\n" % (one, at * 10, at * 10 + 5) for at, one in enumerate(numbers)).encode())
+    words = [root_of(bench, "build", "m"), "m.map", "--unit", "1e-5", "--name"]
+    write("large.txt", "".join("%d 0 0 9 9 -\n" % one for one in LARGEST).encode())
+    large = [root_of(bench, "build", "large"), "large.map", "--unit", "1e-5"]
+    with gateway([[*words, "m"], [*words, "other", "--number", "<n>"], large]) as server:
+        port = server.server_port
+        status, head, body = asked(port, "GET", "/collections/m/schema")
+        is_so = status == 200 and head["content-type"] == "application/xml" and b'name="number" type="xs:long"' in body
+        bench.holds(is_so, "the schema: %s %s" % (head, body))
+        body = asked(port, "GET", "/collections/other/schema")[2]
+        bench.holds(b'name="&lt;n&gt;"' in body, "a name in the schema that has to be escaped: %s" % body)
+        bench.holds(asked(port, "GET", "/collections/m/schema?limit=1")[0] == 400, "the schema takes a parameter")
+        if shutil.which("ogr2ogr"):
+            call = ["ogr2ogr", "-f", "GeoJSON", "/vsistdout/", "OAPIF:http://127.0.0.1:%d" % server.server_port, "m"]
+            status, text = gdal([*call, "-spat", "0.29", "0", "1", "1"])
+            found = sorted(map(int, re.findall(r'"number": (\d+)', text)))
+            is_so = status == 0 and "Warning" not in text and found == numbers[2900:]
+            bench.holds(is_so, "large numbers by GDAL: %s" % found[-len(LARGE) :])
+            status, text = gdal([*call[:-1], "large"])
+            found = sorted(map(int, re.findall(r'"number": "(\d+)"', text)))
+            bench.holds(status == 0 and found == [*LARGEST], "the largest numbers by GDAL: %s" % text)
+
+
 # ---- shapes
 
 SHAPES = [  # a feature each: a triangle with a hole, two lines, a point
@@ -965,7 +997,7 @@ def picture_holds(bench: Bench, found: List[Tuple[int, ...]]) -> None:
 
 def gateway_holds(bench: Bench) -> None:
     """All of it, each part in a folder of its own."""
-    parts = [table_holds, pages_hold, atlases_hold, hostile_requests, shapes_hold]
+    parts = [table_holds, pages_hold, atlases_hold, types_hold, hostile_requests, shapes_hold]
     if shutil.which("ogr2ogr"):
         parts += [windows_hold, refusals_hold, driver_holds, numbers_hold, pipe_holds]
     else:

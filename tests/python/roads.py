@@ -37,7 +37,6 @@ NODE = os.path.join(TOP, "clients", "web", "mrtree_ask.js")
 PAGES = os.path.join(TOP, "tests", "javascript", "roads.js")
 CHROMIUM = ("chromium", "chromium-browser", "google-chrome")
 CHANGED = 300
-FIRST_NEW = 2 * 10**9  # a number behind those of all parcels, and of 32 bits: for others ogr2ogr has to be told a type
 UNIT = "1e-7"
 
 
@@ -95,8 +94,7 @@ def update_of(count: int) -> Update:
     for line in lines:
         if line.startswith("+ "):
             number, x0, y0, x1, y1, payload = line[2:].split()
-            own = FIRST_NEW + int(number) % 10**6
-            new.append(Parcel(own, (int(x0), int(y0), int(x1), int(y1)), int(payload, 16)))
+            new.append(Parcel(int(number), (int(x0), int(y0), int(x1), int(y1)), int(payload, 16)))
             told.append("+ %s\n" % record_of(new[-1]).line())
     return Update(told, frozenset(int(line[2:]) for line in told if line.startswith("- ")), new)
 
